@@ -1,0 +1,200 @@
+-- Rounds over marks reach what paths reach.
+use Prim.Native.Nat.{ℕ, zero, suc, _+_, _≤_, _<_}
+use mathlib.Core.Path.{_≡_, refl, sym, _∙_, ap, subst}
+use mathlib.Core.Bool.{Bool, true, false, _&&_, _||_}
+use mathlib.Core.List.{List, [], _∷_}
+use mathlib.Core.Logic.{_⊎_, inl, inr, _↔_}
+use native.Mathlib.Nat.{add-zero, zero-add, add-suc, suc-add, le-refl, le-trans, le-of-suc-le-suc, not-suc-le-zero, zero-lt-suc, eq-or-lt-of-le}
+use native.Mathlib.Omega.{arith}
+use lib.Dec.{T, ltb, eqb}
+use lib.ListN.{length, getD, set, replicate, length-set, length-replicate, getD-replicate}
+use Rattle.rules.specs.Reach.{Marks, marked, any-below, grow, round, rounds, closure}
+
+-- paths from a marked place
+pub data From (R : ℕ → ℕ → Bool) (ms : Marks) : ℕ → Type 0 where
+  here : {x : ℕ} → T (marked ms x) → From R ms x
+  then : {y z : ℕ} → From R ms y → T (R y z) → From R ms z
+
+-- counts of marks
+unfoldable pub count : Marks → ℕ
+count [] = 0
+count (true ∷ ms) = suc (count ms)
+count (false ∷ ms) = count ms
+
+pub count-le : (ms : Marks) → count ms ≤ length ms
+unfolding count
+count-le [] = le-refl 0
+count-le (true ∷ ms) = omega (arith, count-le ms)
+count-le (false ∷ ms) = omega (arith, count-le ms)
+
+pub grow-length : (f : ℕ → Bool) (i : ℕ) (ms : Marks) → length (grow f i ms) ≡ length ms
+unfolding grow
+grow-length f i [] = refl
+grow-length f i (m ∷ ms) = ap suc (grow-length f (suc i) ms)
+
+grow-count : (f : ℕ → Bool) (i : ℕ) (ms : Marks) → count ms ≤ count (grow f i ms)
+unfolding grow count
+grow-count f i [] = le-refl 0
+grow-count f i (true ∷ ms) = omega (arith, grow-count f (suc i) ms)
+grow-count f i (false ∷ ms) = go (f i) (grow-count f (suc i) ms)
+  where
+    go : (b : Bool) → count ms ≤ count (grow f (suc i) ms) → count ms ≤ count (b ∷ grow f (suc i) ms)
+    go true h = omega arith
+    go false h = h
+
+-- a round that changes anything adds to the count
+grow-cases : (f : ℕ → Bool) (i : ℕ) (ms : Marks) → (grow f i ms ≡ ms) ⊎ (count ms < count (grow f i ms))
+unfolding grow count
+grow-cases f i [] = inl refl
+grow-cases f i (true ∷ ms) = go (grow-cases f (suc i) ms)
+  where
+    go : (grow f (suc i) ms ≡ ms) ⊎ (count ms < count (grow f (suc i) ms)) → (grow f i (true ∷ ms) ≡ true ∷ ms) ⊎ (count (true ∷ ms) < count (grow f i (true ∷ ms)))
+    go (inl e) = inl (ap (λ l. true ∷ l) e)
+    go (inr h) = inr (omega arith)
+grow-cases f i (false ∷ ms) = go (f i) (grow-cases f (suc i) ms)
+  where
+    go : (b : Bool) → (grow f (suc i) ms ≡ ms) ⊎ (count ms < count (grow f (suc i) ms)) → (b ∷ grow f (suc i) ms ≡ false ∷ ms) ⊎ (count ms < count (b ∷ grow f (suc i) ms))
+    go true h = inr (omega (arith, grow-count f (suc i) ms))
+    go false (inl e) = inl (ap (λ l. false ∷ l) e)
+    go false (inr h) = inr h
+
+-- all marked: nothing changes
+grow-full : (f : ℕ → Bool) (i : ℕ) (ms : Marks) → length ms ≤ count ms → grow f i ms ≡ ms
+unfolding grow count
+grow-full f i [] h = refl
+grow-full f i (true ∷ ms) h = ap (λ l. true ∷ l) (grow-full f (suc i) ms (le-of-suc-le-suc h))
+grow-full f i (false ∷ ms) h = absurd (omega (arith, count-le ms))
+
+module _ (R : ℕ → ℕ → Bool) (n : ℕ) where
+  rounds-fixed : (k : ℕ) (ms : Marks) → round R n ms ≡ ms → rounds R n k ms ≡ ms
+  unfolding rounds
+  rounds-fixed zero ms e = refl
+  rounds-fixed (suc k) ms e = ap (rounds R n k) e ∙ rounds-fixed k ms e
+
+  -- enough rounds come to rest
+  rest : (k : ℕ) (ms : Marks) → length ms ≤ k + count ms → round R n (rounds R n k ms) ≡ rounds R n k ms
+  unfolding rounds round
+  rest zero ms h = grow-full _ 0 ms (rw zero-add at h)
+  rest (suc k) ms h = go (grow-cases _ 0 ms) (rest k (round R n ms))
+    where
+      go : (round R n ms ≡ ms) ⊎ (count ms < count (round R n ms)) → (length (round R n ms) ≤ k + count (round R n ms) → round R n (rounds R n k (round R n ms)) ≡ rounds R n k (round R n ms)) → round R n (rounds R n k (round R n ms)) ≡ rounds R n k (round R n ms)
+      go (inl e) ih = let p = ap (rounds R n k) e ∙ rounds-fixed k ms e in ap (round R n) p ∙ e ∙ sym p
+      go (inr l) ih = ih (omega (arith, grow-length (λ y. any-below n (λ x. elim (marked ms x) [ true ↦ R x y | false ↦ false ])) 0 ms, suc-add k (count ms)))
+
+-- a mark after a round: it was there, or something led to it
+or-cases : (a b : Bool) → T (a || b) → T a ⊎ T b
+or-cases true b h = inl tt
+or-cases false b h = inr h
+
+or-left : (a b : Bool) → T a → T (a || b)
+or-left true b h = tt
+or-left false b h = absurd h
+
+or-right : (a b : Bool) → T b → T (a || b)
+or-right true b h = tt
+or-right false b h = h
+
+pub grow-from : (f : ℕ → Bool) (i : ℕ) (ms : Marks) (k : ℕ) → T (marked (grow f i ms) k) → T (marked ms k) ⊎ T (f (i + k))
+unfolding grow
+grow-from f i [] k h = inl h
+grow-from f i (m ∷ ms) zero h = rw add-zero (or-cases m (f i) h)
+grow-from f i (m ∷ ms) (suc k) h = rw (add-suc i k, ← suc-add i k) (grow-from f (suc i) ms k h)
+
+grow-keeps : (f : ℕ → Bool) (i : ℕ) (ms : Marks) (k : ℕ) → T (marked ms k) → T (marked (grow f i ms) k)
+unfolding grow
+grow-keeps f i [] k h = h
+grow-keeps f i (m ∷ ms) zero h = or-left m (f i) h
+grow-keeps f i (m ∷ ms) (suc k) h = grow-keeps f (suc i) ms k h
+
+pub grow-new : (f : ℕ → Bool) (i : ℕ) (ms : Marks) (k : ℕ) → k < length ms → T (f (i + k)) → T (marked (grow f i ms) k)
+unfolding grow
+grow-new f i [] k l h = absurd (not-suc-le-zero l)
+grow-new f i (m ∷ ms) zero l h = or-right m (f i) (rw add-zero at h)
+grow-new f i (m ∷ ms) (suc k) l h = grow-new f (suc i) ms k (le-of-suc-le-suc l) (rw (add-suc i k, ← suc-add i k) at h)
+
+any-intro : (n : ℕ) (f : ℕ → Bool) (x : ℕ) → x < n → T (f x) → T (any-below n f)
+unfolding any-below
+any-intro zero f x l h = absurd (not-suc-le-zero l)
+any-intro (suc n) f x l h = go (eq-or-lt-of-le (le-of-suc-le-suc l)) (λ k. any-intro n f x k h)
+  where
+    go : (x ≡ n) ⊎ (x < n) → (x < n → T (any-below n f)) → T (f n || any-below n f)
+    go (inl e) ih = or-left (f n) (any-below n f) (subst (λ y. T (f y)) e h)
+    go (inr k) ih = or-right (f n) (any-below n f) (ih k)
+
+any-elim : (n : ℕ) (f : ℕ → Bool) → T (any-below n f) → (x : ℕ) × (x < n) × T (f x)
+unfolding any-below
+any-elim zero f h = absurd h
+any-elim (suc n) f h = go (or-cases (f n) (any-below n f) h) (any-elim n f)
+  where
+    go : T (f n) ⊎ T (any-below n f) → (T (any-below n f) → (x : ℕ) × (x < n) × T (f x)) → (x : ℕ) × (x < suc n) × T (f x)
+    go (inl a) ih = (n, le-refl (suc n), a)
+    go (inr b) ih = let r = ih b in (r .0, omega (arith, r .1), r .2)
+
+-- what stands marked after a round leads from what stood marked
+led-cases : (m r : Bool) → T (elim m as (λ b. Bool) [ true ↦ r | false ↦ false ]) → T m × T r
+led-cases true r h = (tt, h)
+led-cases false r h = absurd h
+
+led : (m r : Bool) → T m → T r → T (elim m as (λ b. Bool) [ true ↦ r | false ↦ false ])
+led true r a b = b
+led false r a b = absurd a
+
+pub marked-below : (ms : Marks) (y : ℕ) → T (marked ms y) → y < length ms
+marked-below [] y t = absurd t
+marked-below (m ∷ ms) zero t = zero-lt-suc (length ms)
+marked-below (m ∷ ms) (suc y) t = omega (arith, marked-below ms y t)
+
+module _ (R : ℕ → ℕ → Bool) (n : ℕ) (m₀ : Marks) where
+  abbrev Led : Marks → Type 0
+  Led ms = (y : ℕ) → T (marked ms y) → From R m₀ y
+
+  round-led : (ms : Marks) → Led ms → Led (round R n ms)
+  unfolding round
+  round-led ms h y t = go (grow-from _ 0 ms y t)
+    where
+      go : T (marked ms y) ⊎ T (any-below n (λ z. elim (marked ms z) [ true ↦ R z (0 + y) | false ↦ false ])) → From R m₀ y
+      go (inl a) = h y a
+      go (inr b) =
+          let e = any-elim n _ b in
+          let l = led-cases (marked ms (e .0)) (R (e .0) (0 + y)) (e .2) in
+          then (h (e .0) (l .0)) (subst (λ k. T (R (e .0) k)) (zero-add y) (l .1))
+
+  rounds-led : (k : ℕ) (ms : Marks) → Led ms → Led (rounds R n k ms)
+  unfolding rounds
+  rounds-led zero ms h = h
+  rounds-led (suc k) ms h = rounds-led k (round R n ms) (round-led ms h)
+
+  rounds-keep : (k : ℕ) (ms : Marks) (y : ℕ) → T (marked ms y) → T (marked (rounds R n k ms) y)
+  unfolding rounds round
+  rounds-keep zero ms y h = h
+  rounds-keep (suc k) ms y h = rounds-keep k (round R n ms) y (grow-keeps _ 0 ms y h)
+
+  pub rounds-length : (k : ℕ) (ms : Marks) → length (rounds R n k ms) ≡ length ms
+  unfolding rounds round
+  rounds-length zero ms = refl
+  rounds-length (suc k) ms = rounds-length k (round R n ms) ∙ grow-length _ 0 ms
+
+  -- marks at rest hold what they lead to
+  closed : (ms : Marks) → round R n ms ≡ ms → (y z : ℕ) → y < n → z < length ms → T (marked ms y) → T (R y z) → T (marked ms z)
+  unfolding round
+  closed ms e y z ly lz t r = subst (λ us. T (marked us z)) e (grow-new _ 0 ms z lz (any-intro n _ y ly (led (marked ms y) (R y (0 + z)) t (subst (λ k. T (R y k)) (sym (zero-add z)) r))))
+
+  -- what is reached is what paths reach
+  pub closure-paths : length m₀ ≡ n → ((y z : ℕ) → T (R y z) → z < n) → (y : ℕ) → T (marked (closure n R m₀) y) ↔ From R m₀ y
+  unfolding closure
+  closure-paths ln bound y = (rounds-led n m₀ (λ z t. here t) y, λ p. (on y p) .1)
+    where
+      end : Marks
+      end = rounds R n n m₀
+
+      still : round R n end ≡ end
+      still = rest R n n m₀ (omega (arith, ln))
+
+      inside : (z : ℕ) → T (marked m₀ z) → z < n
+      inside z t = rw (← ln) (marked-below m₀ z t)
+
+      on : (z : ℕ) → From R m₀ z → (z < n) × T (marked end z)
+      on z (here t) = (inside z t, rounds-keep n m₀ z t)
+      on z (then {y} p r) =
+          let q = on y p in
+          (bound y z r, closed end still y z (q .0) (rw (rounds-length n m₀, ln) (bound y z r)) (q .1) r)

@@ -1,0 +1,75 @@
+-- A table has a rank that falls if and only if it can be read as terms over its unknowns.
+use Prim.Native.Nat.{ℕ, zero, suc, _≤_, _<_}
+use mathlib.Core.Path.{_≡_, refl, sym, _∙_, ap, subst}
+use mathlib.Core.Bool.{Bool, false}
+use mathlib.Core.List.{List}
+use native.Mathlib.Nat.{not-suc-le-zero, le-refl}
+use native.Mathlib.Omega.{arith}
+use lib.ListN.{length, getD}
+use Rattle.rules.specs.Types.{Ty, TypeState, unknown, known, Types, state-at}
+use Rattle.rules.specs.Robinson.{var, con, Sol, terms, rep, Fits, ChildrenIn, WellFormed, Readable}
+use Rattle.rules.specs.Acyclic.{children, above, heights}
+use Rattle.rules.specs.AcyclicLaws.{children-at, flat-rank, height-step, flat-rank-most, terms-same}
+use Rattle.rules.specs.RootRank.{rooted, rank, rank-falls, child-in, rooted-children, rooted-length, solved-acyclic}
+
+pub record Ranked (ts : Types) (δ : ℕ → ℕ) : Type 0 where
+  pub falls : (n : ℕ) → n < length ts → (i : Bool) (kd d : ℕ) (cs : List Ty) → state-at ts (rep ts n) ≡ known i kd d cs → (j : ℕ) → j < length cs → δ ((getD cs j (false, 0)) .1) < δ n
+
+module _ (ts : Types) (formed : WellFormed ts) where
+  pub readable-ranked : Readable ts → Ranked ts (rank ts)
+  readable-ranked k = record { falls = rank-falls ts formed (k .0) (k .1 .solves) }
+
+  pub readable-most : Readable ts → (n : ℕ) → rank ts n ≤ length ts
+  unfolding rank
+  readable-most k n = subst (λ m. flat-rank (rooted ts) n ≤ m) (rooted-length ts) (flat-rank-most (rooted ts) (solved-acyclic ts formed (k .0) (k .1 .solves)) n)
+
+  -- a node has the flat-rank of its root
+  pub rank-root : (n : ℕ) → n < length ts → rank ts n ≡ rank ts (rep ts n)
+  unfolding rank flat-rank
+  rank-root n h = go (length (rooted ts)) (subst (λ m. 0 < m) (sym (rooted-length ts)) (omega arith))
+    where
+      same : children-at (rooted ts) n ≡ children-at (rooted ts) (rep ts n)
+      same = rooted-children ts n h ∙ ap (λ r. children (state-at ts r)) (sym (formed n h .1)) ∙ sym (rooted-children ts (rep ts n) (formed n h .0))
+
+      go : (k : ℕ) → 0 < k → getD (heights k (rooted ts)) n 0 ≡ getD (heights k (rooted ts)) (rep ts n) 0
+      go zero l = absurd (not-suc-le-zero l)
+      go (suc k) l = height-step k (rooted ts) n ∙ ap (above (heights k (rooted ts))) same ∙ sym (height-step k (rooted ts) (rep ts n))
+
+unfoldable pub term-of : ℕ → Types → Sol
+term-of zero ts n = var n
+term-of (suc k) ts n = elim (state-at ts (rep ts n)) [ unknown ↦ var (rep ts n) | known i kd d cs ↦ con kd d (terms (term-of k ts) cs) ]
+
+module _ (ts : Types) (formed : WellFormed ts) (δ : ℕ → ℕ) (r : Ranked ts δ) where
+  same : (k m n n′ : ℕ) → n < length ts → n′ < length ts → rep ts n ≡ rep ts n′ → δ n < k → δ n′ < m → term-of k ts n ≡ term-of m ts n′
+  unfolding term-of
+  same zero m n n′ h h′ e l l′ = absurd (not-suc-le-zero l)
+  same (suc k) zero n n′ h h′ e l l′ = absurd (not-suc-le-zero l′)
+  same (suc k) (suc m) n n′ h h′ e l l′ = go (state-at ts (rep ts n)) refl (ap (state-at ts) (sym e)) (same k m)
+    where
+      go : (st : TypeState) → state-at ts (rep ts n) ≡ st → state-at ts (rep ts n′) ≡ state-at ts (rep ts n) → ((c c′ : ℕ) → c < length ts → c′ < length ts → rep ts c ≡ rep ts c′ → δ c < k → δ c′ < m → term-of k ts c ≡ term-of m ts c′) → term-of (suc k) ts n ≡ term-of (suc m) ts n′
+      go unknown q q′ ih = rw (q, q′ ∙ q, term-of) (ap var e)
+      go (known i kd d cs) q q′ ih = rw (q, q′ ∙ q, term-of) (ap (con kd d) (terms-same (term-of k ts) (term-of m ts) cs λ j b.
+          let c = child-in (length ts) cs j (subst (ChildrenIn (length ts)) q (formed n h .2)) b in
+          ih _ _ c c refl (omega (arith, r .falls n h i kd d cs q j b)) (omega (arith, r .falls n′ h′ i kd d cs (q′ ∙ q) j b))))
+
+  pub ranked-readable : Readable ts
+  unfolding term-of
+  ranked-readable = (σ, record { solves = λ n h. (same (suc (δ n)) (suc (δ (rep ts n))) n (rep ts n) h (formed n h .0) (sym (formed n h .1)) (le-refl _) (le-refl _), check-nodes n h (state-at ts (rep ts n)) refl); vars = λ n h e u. free n e u })
+    where
+      σ : Sol
+      σ n = term-of (suc (δ n)) ts n
+
+      free : (n : ℕ) → rep ts n ≡ n → state-at ts n ≡ unknown → σ n ≡ var n
+      free n e u = rw (ap (state-at ts) e ∙ u, term-of) (ap var e)
+
+      check-nodes : (n : ℕ) → n < length ts → (st : TypeState) → state-at ts (rep ts n) ≡ st → Fits σ (rep ts n) (state-at ts (rep ts n))
+      check-nodes n h st q = subst (Fits σ (rep ts n)) (sym q) (go st q)
+        where
+          go : (st : TypeState) → state-at ts (rep ts n) ≡ st → Fits σ (rep ts n) st
+          go unknown q = tt
+          go (known i kd d cs) q =
+              let g = formed n h in
+              let q′ : state-at ts (rep ts (rep ts n)) ≡ known i kd d cs = ap (state-at ts) (g .1) ∙ q in
+              rw (q′, term-of) (ap (con kd d) (terms-same (term-of (δ (rep ts n)) ts) σ cs λ j b.
+              let c = child-in (length ts) cs j (subst (ChildrenIn (length ts)) q (g .2)) b in
+              same _ _ _ _ c c refl (r .falls (rep ts n) (g .0) i kd d cs q′ j b) (le-refl _)))
