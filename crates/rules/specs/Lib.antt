@@ -30,3 +30,7 @@ pub mod Readings
 pub mod TransferKeeps
 pub mod FreshKeeps
 pub mod Limit
+pub mod Rules
+pub mod Pinned
+pub mod Charts
+pub mod Witnesses
