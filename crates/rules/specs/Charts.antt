@@ -4,7 +4,7 @@ use mathlib.Core.Bool.{Bool, true, false}
 use mathlib.Core.List.{List, [], _∷_, _++_, map}
 use lib.ListN.{length}
 use Rattle.rules.specs.Lists.{Words}
-use Rattle.rules.specs.Layout.{header·length, definition·length, trait·length, struct·length, generics·length, impl·length, binding·length, impl-param·length, question·length, kind·unknown, kind·param, kind·tuple, kind·struct, kind·default, kind·error}
+use Rattle.rules.specs.Layout.{header·length, definition·length, trait·length, struct·length, closure·length, generics·length, impl·length, binding·length, impl-param·length, question·length, kind·param, kind·tuple, kind·struct}
 use Rattle.rules.specs.Types.{Ty, TypeState, unknown, known, ImplType}
 use Rattle.rules.specs.Transfer.{new-nodes}
 use Rattle.rules.specs.Answer.{head-or-zero, word-of-type, pack-cells, pack-nodes}
@@ -52,20 +52,23 @@ pack-impls p i (m ∷ ms) =
     ++ needs
     ++ pack-impls next (suc i) ms
 
--- A sheet: traits by arity and inherent count, structs by self-dual, impls; prelude?, fork?, drop?, duplicate?, erase?. Generics 0 are plain.
-unfoldable pub sheet-of : List (ℕ × ℕ) → Words → List Impl → Words → Words
-sheet-of traits structs impls builtins =
+-- A sheet: traits by arity and inherent count, structs by self-dual, closures by flex, impls; prelude?, fork?, drop?, duplicate?, erase?. Generics 0 are plain.
+unfoldable pub sheet-of : List (ℕ × ℕ) → Words → Words → List Impl → Words → Words
+sheet-of traits structs closures impls builtins =
     let traits-at = header·length + definition·length in
     let ts = rows traits-at trait·length (map (λ t. 0 ∷ t .0 ∷ t .1 ∷ []) traits) in
     let structs-at = traits-at + length ts in
     let ss = rows structs-at struct·length (map (λ d. 0 ∷ d ∷ []) structs) in
-    let generics-at = structs-at + length ss in
+    let closures-at = structs-at + length ss in
+    let cs = rows closures-at closure·length (map (λ f. f ∷ []) closures) in
+    let generics-at = closures-at + length cs in
     let impls-at = generics-at + generics·length in
-    (1 ∷ header·length ∷ generics-at ∷ head-or-zero traits-at ts ∷ head-or-zero (impls-at + generics·length) impls ∷ 0 ∷ head-or-zero structs-at ss ∷ 0 ∷ 0 ∷ 0 ∷ 0 ∷ [])
+    (1 ∷ header·length ∷ generics-at ∷ head-or-zero traits-at ts ∷ head-or-zero (impls-at + generics·length) impls ∷ 0 ∷ head-or-zero structs-at ss ∷ 0 ∷ 0 ∷ head-or-zero closures-at cs ∷ 0 ∷ [])
     ++ builtins
     ++ (0 ∷ 0 ∷ 0 ∷ 0 ∷ head-or-zero (impls-at + generics·length + impl·length) impls ∷ 0 ∷ 0 ∷ [])
     ++ ts
     ++ ss
+    ++ cs
     ++ (head-or-zero impls-at impls ∷ 0 ∷ 0 ∷ 0 ∷ [])
     ++ pack-impls impls-at 0 impls
 

@@ -41,8 +41,7 @@ entry s q answer work c =
 unfoldable pub of-sheet : Words → Checks
 of-sheet s =
     (6, not (eqb (at s header·edition) edition·1))
-    ∷ (7, not (sheet-keeps s))
-    ∷ (8, not (sheet-values s))
+    ∷ (7, not (sheet-keeps s)) ∷ (8, not (sheet-values s))
     ∷ (9, not (sheet-acyclic s))
     ∷ []
 

@@ -97,20 +97,20 @@ impl-args s i = field s header·impls i impl·args
 -- Struct and Union have the last two flags only where the record says self-dual.
 unfoldable pub kinds : Words
 kinds =
-    0 ∷ 0 ∷ 0 ∷ 0 ∷
-    0 ∷ 0 ∷ 0 ∷ 0 ∷
-    0 ∷ 8 ∷ 1 ∷ 1 ∷
-    0 ∷ 8 ∷ 0 ∷ 0 ∷
-    0 ∷ 8 ∷ 1 ∷ 1 ∷
-    0 ∷ 8 ∷ 0 ∷ 0 ∷
-    0 ∷ 8 ∷ 1 ∷ 1 ∷
-    0 ∷ 0 ∷ 0 ∷ 0 ∷
-    1 ∷ 8 ∷ 0 ∷ 0 ∷
-    1 ∷ 1 ∷ 0 ∷ 0 ∷
-    0 ∷ 0 ∷ 0 ∷ 0 ∷
-    0 ∷ 0 ∷ 0 ∷ 0 ∷
-    0 ∷ 0 ∷ 1 ∷ 0 ∷
-    0 ∷ 0 ∷ 1 ∷ 0 ∷ []
+    0 ∷ 0 ∷ 0 ∷ 0 ∷  -- 0 unknown
+    0 ∷ 0 ∷ 0 ∷ 0 ∷  -- 1 Param
+    0 ∷ 8 ∷ 1 ∷ 1 ∷  -- 2 Tuple
+    0 ∷ 8 ∷ 0 ∷ 0 ∷  -- 3 Opaque
+    0 ∷ 8 ∷ 1 ∷ 1 ∷  -- 4 Struct
+    0 ∷ 8 ∷ 0 ∷ 0 ∷  -- 5 Enum
+    0 ∷ 8 ∷ 1 ∷ 1 ∷  -- 6 Union
+    0 ∷ 0 ∷ 0 ∷ 0 ∷  -- 7 Fn
+    1 ∷ 8 ∷ 0 ∷ 0 ∷  -- 8 Closure
+    1 ∷ 1 ∷ 0 ∷ 0 ∷  -- 9 Ref
+    0 ∷ 0 ∷ 0 ∷ 0 ∷  -- 10 Key
+    0 ∷ 0 ∷ 0 ∷ 0 ∷  -- 11 Never
+    0 ∷ 0 ∷ 1 ∷ 0 ∷  -- 12 Default
+    0 ∷ 0 ∷ 1 ∷ 0 ∷ []  -- 13 Error
 
 -- The columns of a row, and its length.
 abbrev pub row·least : ℕ

@@ -7,7 +7,7 @@ use lib.ListN.{replicate}
 use Rattle.rules.specs.Rules.{rules}
 use Rattle.rules.specs.Lists.{Words}
 use Rattle.rules.specs.Limits.{limit·answer, limit·workspace, limit·steps}
-use Rattle.rules.specs.Layout.{header·edition, header·fork, header·drop, node·kind, kind·default, kind·error, kind·fn}
+use Rattle.rules.specs.Layout.{header·edition, header·fork, header·drop, node·kind, kind·fn, kind·closure, kind·default, kind·error}
 use Rattle.rules.specs.Types.{Ty, TypeState, unknown, known}
 use Rattle.rules.specs.Run.{Out, got, refused}
 use Rattle.rules.specs.Search.{Finder}
@@ -25,7 +25,7 @@ fact t needs = record { trait = t; params = 0; types = []; args = []; needs = ma
 
 -- A sheet of n such traits, and the question whether trait t holds.
 unfoldable pub facts : ℕ → List Impl → Words
-facts n impls = sheet-of (replicate n (0, 0)) [] impls no-builtins
+facts n impls = sheet-of (replicate n (0, 0)) [] [] impls no-builtins
 
 unfoldable pub holds? : ℕ → Words
 holds? t = impl-question t [] []
@@ -36,12 +36,12 @@ impl-for t types = record { trait = t; params = 0; types = types; args = node 0 
 
 -- Fork is trait 0 and Drop is trait 1; structs 0, 1 and 2 are not self-dual.
 unfoldable pub flex-sheet : List Impl → Words
-flex-sheet impls = sheet-of ((1, 0) ∷ (1, 0) ∷ []) (0 ∷ 0 ∷ 0 ∷ []) impls (0 ∷ 1 ∷ 2 ∷ 0 ∷ 0 ∷ [])
+flex-sheet impls = sheet-of ((1, 0) ∷ (1, 0) ∷ []) (0 ∷ 0 ∷ 0 ∷ []) [] impls (0 ∷ 1 ∷ 2 ∷ 0 ∷ 0 ∷ [])
 
 -- 14: each level pushes eight unknowns and nine nodes, and asks again for an unknown.
 unfoldable pub wide : Words
 wide =
-    sheet-of ((1, 0) ∷ []) []
+    sheet-of ((1, 0) ∷ []) [] []
     (record {
       trait = 0;
       params = 8;
@@ -58,7 +58,7 @@ bushy = facts 5 (fact 0 (1 ∷ 1 ∷ 1 ∷ 1 ∷ []) ∷ fact 1 (2 ∷ 2 ∷ 2 �
 -- The pinned case beside them: an impl for S[A] (struct 1) that needs A, one for Leaf (struct 0); and k S round Leaf.
 unfoldable pub nested : Words
 nested =
-    sheet-of ((1, 0) ∷ []) (0 ∷ 0 ∷ [])
+    sheet-of ((1, 0) ∷ []) (0 ∷ 0 ∷ []) []
     (impl-for 0 (struct 0 [] ∷ [])
     ∷ record { trait = 0; params = 1; types = struct 1 (node 1 ∷ []) ∷ param 0 ∷ []; args = node 0 ∷ []; needs = (0, node 1 ∷ []) ∷ [] }
     ∷ [])
@@ -91,6 +91,22 @@ ring first =
     0 ∷ 3 ∷ 0 ∷ 2 ∷
     0 ∷ 3 ∷ 0 ∷ 0 ∷ []
 
+-- Trait 2 needs Fork (trait 0) of a closure of an unknown type, then trait 1, with an inherent argument, of that type. The closure gives its own fork, and leaves the type unknown; an impl of Fork for the closure of Error makes it Error.
+unfoldable pub own-first : Words
+own-first =
+    sheet-of ((1, 0) ∷ (1, 1) ∷ (0, 0) ∷ []) [] (1 ∷ [])
+    (record { trait = 2; params = 1; types = known false kind·closure 0 (node 1 ∷ []) ∷ param 0 ∷ []; args = []; needs = (0, node 0 ∷ []) ∷ (1, node 1 ∷ []) ∷ [] }
+    ∷ impl-for 0 (known false kind·closure 0 (node 1 ∷ []) ∷ known false kind·error 0 [] ∷ [])
+    ∷ [])
+    (0 ∷ 1 ∷ 0 ∷ 0 ∷ 0 ∷ [])
+
+-- An impl of trait 0 for A, B and A, whatever they are.
+unfoldable pub any-three : Words
+any-three =
+    sheet-of ((3, 0) ∷ []) [] []
+    (record { trait = 0; params = 2; types = param 0 ∷ param 1 ∷ []; args = node 0 ∷ node 1 ∷ node 0 ∷ []; needs = [] } ∷ [])
+    no-builtins
+
 -- A whole impl call on Pin with other lengths or counts.
 unfoldable pub entered : Words → Words → ℕ → ℕ → ℕ → End
 entered s q answer work c = try-find-impl limit·steps (record { sheet = s; source = 1; generics = 0 }) 0 q answer work c
@@ -102,7 +118,7 @@ pub record Witness : Type 0 where
   pub count : ℕ
 
 unfoldable pub witnesses : List Witness
-unfolding pin Q put flex-pin flex-of ask-impl ask-flex entered fact facts holds? impl-for flex-sheet wide bushy nested s-round ring
+unfolding pin Q put flex-pin flex-of ask-impl ask-flex entered fact facts holds? impl-for flex-sheet wide bushy nested s-round ring own-first any-three
 witnesses =
     -- 1 to 5: the entry. A sheet of 15 words and one of 4,097; a question of 2 words and one of 1,025; an answer buffer of 10,239; a workspace one word short; a count of 1,000,001.
     record { call = entered (replicate 15 0) Q limit·answer limit·workspace 0; number = 1; count = 0 }
@@ -156,12 +172,26 @@ witnesses =
     ∷ record { call = ask-flex (flex-pin 0) 0 (flex-of kind·fn) 1996; number = 0; count = 2000 }
     -- Wrong turn: result by result instead of list by list. Trait 0 needs 1, then 2. Trait 1 holds, and holds if 3 does, which needs itself (15); trait 2 holds five times over (16).
     ∷ record { call = ask-impl (facts 4 (fact 0 (1 ∷ 2 ∷ []) ∷ fact 1 [] ∷ fact 1 (3 ∷ []) ∷ fact 3 (3 ∷ []) ∷ fact 2 [] ∷ fact 2 [] ∷ fact 2 [] ∷ fact 2 [] ∷ fact 2 [] ∷ [])) 0 (holds? 0) 0; number = 15; count = 17 }
+    -- Built-ins come before candidates: the unknown argument (18) is met first, and not the Error (19).
+    ∷ record { call = ask-impl own-first 0 (holds? 2) 0; number = 18; count = 3 }
     -- Wrong turn: vis applied inside a component. The ring is one, and its edges' vis is not applied; without the edge from 0 to 1 it is none, and the way from 1 by 2 to 0 is shut.
     ∷ record { call = ask-impl (ring 71) 1 Q 0; number = 0; count = 1 }
     ∷ record { call = ask-impl (ring 0) 1 Q 0; number = 20; count = 1 }
     ∷ []
 
+-- Which root wins is seen in the answer. Two unknowns, asked for as 0, 1 and the inverse of 1, become inverses of each other in a join of two classes of two: on a tie the first goes under the second, so node 0 is the odd one.
+unfoldable pub tied : Case
+unfolding ask-impl any-three
+tied = record {
+  call = ask-impl any-three 0 (impl-question 0 (unknown ∷ unknown ∷ []) (node 0 ∷ node 1 ∷ (true, 1) ∷ [])) 0;
+  comes-to = (got (6 ∷ 0 ∷ 10 ∷ 17 ∷ 0 ∷ 0 ∷ 0 ∷ 2 ∷ 0 ∷ 0 ∷ 0 ∷ 0 ∷ 0 ∷ 0 ∷ 0 ∷ 1 ∷ 0 ∷ []), 1);
+}
+
+pub tied-holds : tied .call ≡ tied .comes-to
+unfolding rules rows pack-needs pack-impls sheet-of no-builtins impl-question any-three ask-impl tied
+tied-holds = refl
+
 -- Each call comes to its number and count.
 pub witnesses-hold : map (λ w. number-of (w .call)) witnesses ≡ map (λ w. (w .number, w .count)) witnesses
-unfolding rules rows pack-needs pack-impls sheet-of no-builtins impl-question flex-question number-of fact facts holds? impl-for flex-sheet wide bushy nested s-round ring entered pin Q put flex-pin flex-of ask-impl ask-flex found witnesses
+unfolding rules rows pack-needs pack-impls sheet-of no-builtins impl-question flex-question number-of fact facts holds? impl-for flex-sheet wide bushy nested s-round ring own-first any-three entered pin Q put flex-pin flex-of ask-impl ask-flex found witnesses
 witnesses-hold = refl
