@@ -34,3 +34,4 @@ pub mod Rules
 pub mod Pinned
 pub mod Charts
 pub mod Witnesses
+pub mod WordLaws

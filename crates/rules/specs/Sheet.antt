@@ -3,14 +3,18 @@
 use Prim.Native.Nat.{ℕ, zero, suc, _+_, _*_, _/_, _%_}
 use mathlib.Core.Bool.{Bool, true, false}
 use mathlib.Core.List.{[], _∷_}
-use lib.Dec.{eqb}
-use lib.ListN.{length, getD}
+use lib.Dec.{eqb, leb}
+use lib.ListN.{length, getD, take, drop}
 use Rattle.rules.specs.Lists.{Words}
 use Rattle.rules.specs.Layout.{header·definitions, header·generics, header·traits, header·impls, header·structs, header·unions, header·imports, definition·parent, definition·trait-vis, definition·trait, definition·bindings, definition·named, definition·implicit, import·definition, generics·type-params, generics·table, generics·impl-params, trait·definition, trait·arity, trait·inherent, impl·generics, impl·flags, impl·trait, impl·table, impl·args, owner·self-dual, kind·struct, kind·union}
 
 -- The word at a place; 0 past the end.
 abbrev pub at : Words → ℕ → ℕ
 at s i = getD s i 0
+
+-- The words of a record: from its index for its length; none where it passes the end.
+unfoldable pub record-words : Words → ℕ → ℕ → Words
+record-words s p len = elim (leb (p + len) (length s)) [ true ↦ take len (drop p s) | false ↦ [] ]
 
 -- The places of the records on the chain from a head, at most k of them.
 unfoldable pub chain-of : ℕ → Words → ℕ → Words
