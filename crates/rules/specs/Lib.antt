@@ -29,4 +29,6 @@ pub mod UnifyKeeps
 pub mod Readings
 pub mod TransferKeeps
 pub mod FreshKeeps
+pub mod RunLaws
+pub mod FlexLaws
 pub mod Limit

@@ -1,0 +1,97 @@
+-- Laws of `Run`: one thing after another under a step limit, a count never falls, and a step limit that is not passed changes nothing.
+use Prim.Native.Nat.{ℕ, zero, suc, _+_, _≤_, _<_}
+use mathlib.Core.Path.{_≡_, refl, sym, _∙_, ap, subst}
+use mathlib.Core.Bool.{Bool, true, false, not, true≢false}
+use native.Mathlib.Nat.{add-zero, add-suc, suc-add, le-refl}
+use native.Mathlib.Omega.{arith}
+use lib.Dec.{T, ltb, ltb→lt, nltb→le}
+use Rattle.rules.specs.Run.{Run, done, stop, asks, _>>=_, Out, got, refused, free, asked, within}
+
+-- What follows a reading that came to a value; a refusal ends it.
+abbrev pub after : {A B : Type 0} → (A → ℕ → Out B × ℕ) → Out A × ℕ → Out B × ℕ
+after f o = elim (o .0) [ got a ↦ f a (o .1) | refused n ↦ (refused n, o .1) ]
+
+-- One thing after another, read under a step limit: the second is read from the count at which the first ends.
+pub within-bind : {A B : Type 0} (over : ℕ → Bool) (m : Run A) (f : A → Run B) (c : ℕ) → within over (m >>= f) c ≡ after (λ a d. within over (f a) d) (within over m c)
+unfolding within _>>=_
+within-bind over (done a) f c = refl
+within-bind over (stop n) f c = refl
+within-bind over (asks r) f c = go (over (suc c)) refl (within-bind over r f (suc c))
+  where
+    go : (b : Bool) → over (suc c) ≡ b → within over (r >>= f) (suc c) ≡ after (λ a d. within over (f a) d) (within over r (suc c)) →
+        within over (asks r >>= f) c ≡ after (λ a d. within over (f a) d) (within over (asks r) c)
+    go true e ih = rw (e, within)
+    go false e ih = rw (e, within) ih
+
+-- A run read without a step limit, from a count: what it comes to, and the count after the questions that it asks.
+abbrev pub freely : {A : Type 0} → Run A → ℕ → Out A × ℕ
+freely r c = (free r, c + asked r)
+
+module _ {A : Type 0} (over : ℕ → Bool) where
+  -- A count never falls.
+  pub rises : (r : Run A) (c : ℕ) → c ≤ (within over r c) .1
+  unfolding within
+  rises (done a) c = le-refl c
+  rises (stop n) c = le-refl c
+  rises (asks r) c = go (over (suc c)) refl (rises r (suc c))
+    where
+      go : (b : Bool) → over (suc c) ≡ b → suc c ≤ (within over r (suc c)) .1 → c ≤ (within over (asks r) c) .1
+      go true e ih = rw (e, within) (omega arith)
+      go false e ih = rw (e, within) (omega arith)
+
+  step : (r : Run A) (c : ℕ) → freely r (suc c) ≡ freely (asks r) c
+  unfolding free asked
+  step r c = λ i. (free r, (suc-add c (asked r) ∙ sym (add-suc c (asked r))) i)
+
+  -- A run that ends at a count that is not over is the run without a step limit.
+  pub agrees : (r : Run A) (c : ℕ) → over ((within over r c) .1) ≡ false → within over r c ≡ freely r c
+  unfolding within free asked
+  agrees (done a) c h = λ i. (got a, sym (add-zero c) i)
+  agrees (stop n) c h = λ i. (refused n, sym (add-zero c) i)
+  agrees (asks r) c h = go (over (suc c)) refl (agrees r (suc c)) h
+    where
+      go : (b : Bool) → over (suc c) ≡ b → (over ((within over r (suc c)) .1) ≡ false → within over r (suc c) ≡ freely r (suc c)) → over ((within over (asks r) c) .1) ≡ false → within over (asks r) c ≡ freely (asks r) c
+      go true e ih h = absurd (true≢false (sym e ∙ rw (e, within) at h))
+      go false e ih h = rw (e, within) (ih (rw (e, within) at h) ∙ step r c)
+
+  -- So is one all of whose questions find a count that is not over.
+  pub enough : (r : Run A) (c : ℕ) → ((n : ℕ) → c < n → n ≤ c + asked r → over n ≡ false) → within over r c ≡ freely r c
+  unfolding within free asked
+  enough (done a) c h = λ i. (got a, sym (add-zero c) i)
+  enough (stop n) c h = λ i. (refused n, sym (add-zero c) i)
+  enough (asks r) c h =
+      rw (h (suc c) (omega arith) (omega (arith, add-suc c (asked r))), within)
+      (enough r (suc c) (λ n lo hi. h n (omega arith) (omega (arith, suc-add c (asked r), add-suc c (asked r)))) ∙ step r c)
+
+-- A count at the limit or below is not above it, and one that is not above it is at the limit or below.
+pub not-above : (L n : ℕ) → n ≤ L → ltb L n ≡ false
+not-above L n h = go (ltb L n) refl
+  where
+    go : (b : Bool) → ltb L n ≡ b → ltb L n ≡ false
+    go true e = absurd (omega (arith, ltb→lt L n (subst T (sym e) tt)))
+    go false e = e
+
+pub at-most : (L n : ℕ) → ltb L n ≡ false → n ≤ L
+at-most L n e = nltb→le L n (subst (λ b. T (not b)) (sym e) tt)
+
+-- A reading under the step limit L and one without: where either ends at L or below, they are the same.
+pub record Alike {A : Type 0} (L : ℕ) (run free : Out A × ℕ) : Type 0 where
+  pub run-low : run .1 ≤ L → run ≡ free
+  pub free-low : free .1 ≤ L → run ≡ free
+
+-- Every run is so read.
+pub run-alike : {A : Type 0} (L : ℕ) (r : Run A) (c : ℕ) → Alike L (within (ltb L) r c) (freely r c)
+run-alike L r c = record {
+  run-low = λ h. agrees (ltb L) r c (not-above L _ h);
+  free-low = λ h. enough (ltb L) r c (λ n lo hi. not-above L n (omega arith));
+}
+
+-- Equal readings are so, and what is made of a reading alone stays so.
+pub equal-alike : {A : Type 0} (L : ℕ) {run free : Out A × ℕ} → run ≡ free → Alike L run free
+equal-alike L e = record { run-low = λ h. e; free-low = λ h. e }
+
+pub made-alike : {A B : Type 0} (L : ℕ) (f : Out A → Out B) {run free : Out A × ℕ} → Alike L run free → Alike L (f (run .0), run .1) (f (free .0), free .1)
+made-alike L f h = record {
+  run-low = λ l. ap (λ o. (f (o .0), o .1)) (h .run-low l);
+  free-low = λ l. ap (λ o. (f (o .0), o .1)) (h .free-low l);
+}
