@@ -1,13 +1,16 @@
--- Laws of the flex call's four questions in turn: the count runs on from one to the next, and a step limit that is not passed changes nothing.
-use Prim.Native.Nat.{ℕ, zero, suc, _+_, _≤_, _<_}
-use mathlib.Core.Path.{_≡_, refl, sym, _∙_, ap}
-use mathlib.Core.Bool.{Bool, true, false}
+-- Laws of the flex call's four questions in turn: the count runs on from one to the next, a step limit that is not passed changes nothing,
+-- one that is passed ends no question with a number, and 18 and 19 don't come out.
+use Prim.Native.Nat.{ℕ, zero, suc, _+_, _≤_, _<_, max}
+use mathlib.Core.Path.{_≡_, refl, sym, _∙_, ap, subst}
+use mathlib.Core.Bool.{Bool, true, false, _||_}
 use mathlib.Core.List.{List, [], _∷_}
-use native.Mathlib.Nat.{add-zero, le-refl, le-trans, add-assoc}
+use native.Mathlib.Nat.{add-zero, le-refl, le-trans, add-assoc, lt-of-not-le}
 use native.Mathlib.Omega.{arith}
-use lib.Dec.{ltb}
+use lib.Dec.{T, eqb, ltb, eqb-refl}
+use lib.ListN.{length}
 use Rattle.rules.specs.Run.{Run, Out, got, refused, free, asked, within}
-use Rattle.rules.specs.RunLaws.{freely, rises, Alike, run-alike, equal-alike, made-alike}
+use Rattle.rules.specs.RunLaws.{got-not-refused, freely, rises, rises-asking, rises-to, runs-out, above, at-most, Alike, run-alike, equal-alike, made-alike, Stops, Refuses}
+use Rattle.rules.specs.Stops.{Between, In-search}
 use Rattle.rules.specs.Search.{Result}
 use Rattle.rules.specs.Calls.{or-nothing, with-first, onward, in-turn, plainly}
 
@@ -70,3 +73,82 @@ turn-alike L (r ∷ rs) c = go (turn-alike L rs (c + asked r))
           e ∙ after-first L r rs c h .run-low (rw e at l);
       free-low = λ l. ap (onward (rest L r rs)) (first .free-low (le-trans (first-low L r rs c) l)) ∙ after-first L r rs c h .free-low l;
     }
+
+-- Each of some searches asks a question.
+abbrev pub All-ask : List (Run (List Result)) → Type 0
+All-ask [] = Unit {0}
+All-ask (r ∷ rs) = (1 ≤ asked r) × All-ask rs
+
+-- The count rises where the first asks a question,
+pub turn-asking : (over : ℕ → Bool) (r : Run (List Result)) (rs : List (Run (List Result))) (c : ℕ) → 1 ≤ asked r → c < (in-turn (within over) (r ∷ rs) c) .1
+unfolding in-turn
+turn-asking over r rs c h = le-trans (rises-asking over r c h) (onward-rises (in-turn (within over) rs) (turn-rises over rs) (within over r c))
+
+-- at most by 1 above the limit, or above the start where that is higher, for each search.
+pub turn-to : (L : ℕ) (rs : List (Run (List Result))) (c : ℕ) → (in-turn (within (ltb L)) rs c) .1 ≤ max L c + length rs
+unfolding in-turn onward
+turn-to L [] c = omega arith
+turn-to L (r ∷ rs) c = go (or-nothing ((within (ltb L) r c) .0)) refl (turn-to L rs ((within (ltb L) r c) .1))
+  where
+    d : ℕ
+    d = (within (ltb L) r c) .1
+
+    go : (w : Out (List Result)) → or-nothing ((within (ltb L) r c) .0) ≡ w → (in-turn (within (ltb L)) rs d) .1 ≤ max L d + length rs → (onward (λ d. in-turn (within (ltb L)) rs d) (within (ltb L) r c)) .1 ≤ max L c + suc (length rs)
+    go (got fs) e ih = rw (e, onward) (omega (arith, rises-to L r c))
+    go (refused n) e ih = rw (e, onward) (omega (arith, rises-to L r c))
+
+with-first-refused : (fs : List Result) (o : Out (List (List Result))) (n : ℕ) → with-first fs o ≡ refused n → o ≡ refused n
+with-first-refused fs (got gs) n e = absurd (got-not-refused (fs ∷ gs) n e)
+with-first-refused fs (refused m) n e = e
+
+-- A number comes out of them only with the count at the limit or below: one whose count passes it is 18, and so "nothing found".
+pub turn-refused : (L : ℕ) (rs : List (Run (List Result))) (c : ℕ) → All-ask rs → (n : ℕ) → (in-turn (within (ltb L)) rs c) .0 ≡ refused n → (in-turn (within (ltb L)) rs c) .1 ≤ L
+unfolding in-turn onward or-nothing
+turn-refused L [] c h n e = absurd (got-not-refused [] n e)
+turn-refused L (r ∷ rs) c h n e = go (ltb L ((within (ltb L) r c) .1)) refl (or-nothing ((within (ltb L) r c) .0)) refl (λ d. turn-refused L rs d (h .1) n) e
+  where
+    rest′ : ℕ → Reading
+    rest′ d = in-turn (within (ltb L)) rs d
+
+    spent : L < (within (ltb L) r c) .1 → L < c + asked r
+    spent l = lt-of-not-le (λ k. omega (arith, ap (λ o. o .1) (run-alike L r c .free-low k)))
+
+    nothing : L < (within (ltb L) r c) .1 → or-nothing ((within (ltb L) r c) .0) ≡ got []
+    nothing l = ap (λ o. or-nothing (o .0)) (runs-out L r c (h .0) (spent l))
+
+    go : (b : Bool) → ltb L ((within (ltb L) r c) .1) ≡ b → (w : Out (List Result)) → or-nothing ((within (ltb L) r c) .0) ≡ w → ((d : ℕ) → (rest′ d) .0 ≡ refused n → (rest′ d) .1 ≤ L) → (onward rest′ (within (ltb L) r c)) .0 ≡ refused n → (onward rest′ (within (ltb L) r c)) .1 ≤ L
+    go b u (got fs) f ih k = rw (f, onward) (ih ((within (ltb L) r c) .1) (with-first-refused fs _ n (rw (f, onward) at k)))
+    go true u (refused m) f ih k = absurd (got-not-refused [] m (sym (nothing (above L _ u)) ∙ f))
+    go false u (refused m) f ih k = rw (f, onward) (at-most L _ u)
+
+-- "There 18 and 19 count as nothing found; 14 to 17 don't."
+or-nothing-stops : (o : Out (List Result)) → Refuses In-search o → Refuses (Between 14 17) (or-nothing o)
+unfolding or-nothing
+or-nothing-stops (got fs) h = tt
+or-nothing-stops (refused n) h = go (eqb n 18) refl (eqb n 19) refl
+  where
+    other : (k : ℕ) → eqb n k ≡ false → n ≡ k → ⊥
+    other k e p = subst T e (subst (λ m. T (eqb n m)) p (eqb-refl n))
+
+    go : (b : Bool) → eqb n 18 ≡ b → (c : Bool) → eqb n 19 ≡ c → Refuses (Between 14 17) (or-nothing (refused n))
+    go true e c f = rw (e, or-nothing) tt
+    go false e true f = rw (e, f, or-nothing) tt
+    go false e false f = rw (e, f, or-nothing) (omega (arith, other 18 e, other 19 f))
+
+with-first-stops : (P : ℕ → Type 0) (fs : List Result) (o : Out (List (List Result))) → Refuses P o → Refuses P (with-first fs o)
+with-first-stops P fs (got gs) h = tt
+with-first-stops P fs (refused n) h = h
+
+abbrev pub All-stop : List (Run (List Result)) → Type 0
+All-stop [] = Unit {0}
+All-stop (r ∷ rs) = Stops In-search r × All-stop rs
+
+-- However they are read, searches in turn that stop with 14 to 19 come to 14 to 17.
+pub turn-stops : {C : Type 0} (read : Run (List Result) → C → Out (List Result) × C) → ((r : Run (List Result)) (c : C) → Stops In-search r → Refuses In-search ((read r c) .0)) → (rs : List (Run (List Result))) (c : C) → All-stop rs → Refuses (Between 14 17) ((in-turn read rs c) .0)
+unfolding in-turn onward
+turn-stops read k [] c h = tt
+turn-stops {C} read k (r ∷ rs) c h = go (or-nothing ((read r c) .0)) refl (or-nothing-stops _ (k r c (h .0))) (λ d. turn-stops read k rs d (h .1))
+  where
+    go : (w : Out (List Result)) → or-nothing ((read r c) .0) ≡ w → Refuses (Between 14 17) (or-nothing ((read r c) .0)) → ((d : C) → Refuses (Between 14 17) ((in-turn read rs d) .0)) → Refuses (Between 14 17) ((onward (λ d. in-turn read rs d) (read r c)) .0)
+    go (got fs) e l ih = rw (e, onward) (with-first-stops (Between 14 17) fs ((in-turn read rs ((read r c) .1)) .0) (ih ((read r c) .1)))
+    go (refused n) e l ih = rw (e, onward) (rw e at l)

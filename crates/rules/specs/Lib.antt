@@ -30,5 +30,7 @@ pub mod Readings
 pub mod TransferKeeps
 pub mod FreshKeeps
 pub mod RunLaws
+pub mod Stops
 pub mod FlexLaws
 pub mod Limit
+pub mod Refusals
