@@ -4,12 +4,12 @@ use Prim.Native.Nat.{ℕ, zero, suc, _+_, _≤_, _<_, max}
 use mathlib.Core.Path.{_≡_, refl, sym, _∙_, ap, subst}
 use mathlib.Core.Bool.{Bool, true, false, _||_}
 use mathlib.Core.List.{List, [], _∷_}
-use native.Mathlib.Nat.{add-zero, le-refl, le-trans, add-assoc, lt-of-not-le}
+use native.Mathlib.Nat.{add-zero, le-refl, le-trans, add-assoc}
 use native.Mathlib.Omega.{arith}
 use lib.Dec.{T, eqb, ltb, eqb-refl}
 use lib.ListN.{length}
 use Rattle.rules.specs.Run.{Run, Out, got, refused, free, asked, within}
-use Rattle.rules.specs.RunLaws.{got-not-refused, freely, rises, rises-asking, rises-to, runs-out, above, at-most, Alike, run-alike, equal-alike, made-alike, Stops, Refuses}
+use Rattle.rules.specs.RunLaws.{got-not-refused, freely, rises, rises-asking, rises-to, passes, above, at-most, Alike, run-alike, equal-alike, made-alike, Stops, Refuses}
 use Rattle.rules.specs.Stops.{Between, In-search}
 use Rattle.rules.specs.Search.{Result}
 use Rattle.rules.specs.Calls.{or-nothing, with-first, onward, in-turn, plainly}
@@ -110,11 +110,8 @@ turn-refused L (r ∷ rs) c h n e = go (ltb L ((within (ltb L) r c) .1)) refl (o
     rest′ : ℕ → Reading
     rest′ d = in-turn (within (ltb L)) rs d
 
-    spent : L < (within (ltb L) r c) .1 → L < c + asked r
-    spent l = lt-of-not-le (λ k. omega (arith, ap (λ o. o .1) (run-alike L r c .free-low k)))
-
     nothing : L < (within (ltb L) r c) .1 → or-nothing ((within (ltb L) r c) .0) ≡ got []
-    nothing l = ap (λ o. or-nothing (o .0)) (runs-out L r c (h .0) (spent l))
+    nothing l = ap (λ o. or-nothing (o .0)) (passes L r c (h .0) l)
 
     go : (b : Bool) → ltb L ((within (ltb L) r c) .1) ≡ b → (w : Out (List Result)) → or-nothing ((within (ltb L) r c) .0) ≡ w → ((d : ℕ) → (rest′ d) .0 ≡ refused n → (rest′ d) .1 ≤ L) → (onward rest′ (within (ltb L) r c)) .0 ≡ refused n → (onward rest′ (within (ltb L) r c)) .1 ≤ L
     go b u (got fs) f ih k = rw (f, onward) (ih ((within (ltb L) r c) .1) (with-first-refused fs _ n (rw (f, onward) at k)))

@@ -16,7 +16,7 @@ use Rattle.rules.specs.Sheet.{at}
 use Rattle.rules.specs.Types.{Types, UnifyResult, success, failure, indeterminate, ImplType, self-inverse}
 use Rattle.rules.specs.Transfer.{import-impl-type, export-impl-type, export-types, type-of-word}
 use Rattle.rules.specs.Run.{Run, Out, got, refused, free, asked, within}
-use Rattle.rules.specs.RunLaws.{got-not-refused, same-number, not-above, rises-asking, rises-to, runs-out, Says, Refuses, free-stops, within-stops, Stops}
+use Rattle.rules.specs.RunLaws.{got-not-refused, same-number, above, at-most, rises-asking, rises-to, passes, Says, Refuses, free-stops, within-stops, Stops}
 use Rattle.rules.specs.Search.{Trees, Result, Finder, question}
 use Rattle.rules.specs.Stops.{Between, In-search, question-stops}
 use Rattle.rules.specs.Answer.{answer}
@@ -85,3 +85,112 @@ impl-outcome-says s q (got (r ∷ [])) h = go (ltb limit·nodes (length (w .1)))
     go : (b : Bool) → ltb limit·nodes (length (w .1)) ≡ b → Says (Between 14 21) Counted (impl-outcome s q (got (r ∷ [])))
     go true e = rw (e, impl-outcome) (omega arith)
     go false e = rw (e, impl-outcome) (answer-counted _ _ _ _ _ _)
+
+-- The flex call's outcome after its searches: 14 to 17, 21, 24 to 26. 24 is said with the count above the limit and only then.
+abbrev Outcomes : ℕ → Type 0
+Outcomes n = Between 14 17 n ⊎ Between 21 21 n ⊎ Between 25 26 n
+
+flex-results-say : (s q : Words) (rs : List (List Result)) → Says Outcomes Counted (flex-results s q rs)
+unfolding flex-results
+flex-results-say s q rs =
+    let ts = question-types q in
+    let ty = type-of-word (at q question·type) in
+    let e = export-types ts (ty ∷ []) in
+    let r : ℕ → List Result = λ k. getD rs k [] in
+    let pos = is-found (r 0) || is-found (r 1) in
+    let neg = is-found (r 2) || is-found (r 3) in
+    let self = self-inverse s ts ty in
+    let inv = not pos && neg in
+    let fork = elim inv as (λ b. List Result) [ true ↦ r 2 | false ↦ r 0 ] in
+    let drop = elim inv as (λ b. List Result) [ true ↦ r 3 | false ↦ r 1 ] in
+    let w = import-result fork (e .0) ts in
+    let v = import-result drop (e .0) (w .1) in
+    let m = unify-first s (v .1) (w .0) (v .0) in
+    let us = (unify-first s (m .1) (ty ∷ []) (w .0 ++ v .0)) .1 in
+    go (any (λ fs. ltb 1 (length fs)) rs) (pos && neg && not self) (ltb limit·nodes (length (v .1))) (m .0)
+    (answer (first-tree fork) (first-tree drop) inv self (length ts) us) (answer-counted (first-tree fork) (first-tree drop) inv self (length ts) us)
+  where
+    go : (a b c : Bool) (v : UnifyResult) (ws : Words) → Counted ws → Says {A = Words} Outcomes Counted (elim a as (λ x. Out Words) [
+      | true ↦ refused 21
+      | false ↦ elim b as (λ x. Out Words) [
+        | true ↦ refused 25
+        | false ↦ elim c as (λ x. Out Words) [ true ↦ refused 14 | false ↦ elim v as (λ x. Out Words) [ failure ↦ refused 26 | success ↦ got ws | indeterminate ↦ got ws ] ]
+      ]
+    ])
+    go true b c v ws h = inr (inl (omega arith))
+    go false true c v ws h = inr (inr (omega arith))
+    go false false true v ws h = inl (omega arith)
+    go false false false failure ws h = inr (inr (omega arith))
+    go false false false success ws h = h
+    go false false false indeterminate ws h = h
+
+-- From its search on the impl call refuses with 14 to 21,
+abbrev pub Impl-late : ℕ → Type 0
+Impl-late = Between 14 21
+
+-- the flex call with 14 to 17 or 21 to 26: 18 and 19 never come out of it.
+abbrev pub Flex-late : ℕ → Type 0
+Flex-late n = Between 14 17 n ⊎ Between 21 26 n
+
+-- The part of a call from the search on, which 22 and 23 precede: k is how many searches it makes.
+record Searched (Late : ℕ → Type 0) (L k c : ℕ) (r : Out Words × ℕ) : Type 0 where
+  says : Says Late Counted (r .0)
+  leaves : (n : ℕ) → r .0 ≡ refused n → Between 22 23 n → r .1 ≡ c
+  reached : ((n : ℕ) → r .0 ≡ refused n → ¬ Between 22 23 n) → c < r .1
+  most : r .1 ≤ max L c + k
+
+-- A question asks itself at least.
+asks-one : (d : ℕ) (a : Finder) (basic : Bool) (ts : Types) (q : ImplType) → 1 ≤ asked (question d a basic ts q)
+unfolding question asked
+asks-one zero a basic ts q = le-refl 1
+asks-one (suc d) a basic ts q = omega arith
+
+said : {A : Type 0} (P : ℕ → Type 0) (Q : A → Type 0) (o : Out A) → Says P Q o → (n : ℕ) → o ≡ refused n → P n
+said P Q o h n e = subst (Says P Q) e h
+
+module _ (L : ℕ) (a : Finder) (c : ℕ) where
+  impl-searched : (basic : Bool) (q : Words) → Searched Impl-late L 1 c (impl-within (ltb L) a basic q c)
+  unfolding impl-within impl-search
+  impl-searched basic q = record {
+    says = says;
+    leaves = λ n e b. absurd (omega (arith, said Impl-late Counted _ says n e));
+    reached = λ h. rises-asking (ltb L) (impl-search a basic q) c (asks-one limit·depth a basic _ _);
+    most = rises-to L (impl-search a basic q) c
+  }
+    where
+      says : Says Impl-late Counted ((impl-within (ltb L) a basic q c) .0)
+      says = impl-outcome-says (a .sheet) q _ (within-stops In-search (omega arith) (ltb L) (impl-search a basic q) c (question-stops limit·depth a basic _ _))
+
+  -- 18 by count: a search that passes the limit.
+  impl-passed : (basic : Bool) (q : Words) → L < (impl-within (ltb L) a basic q c) .1 → impl-within (ltb L) a basic q c ≡ (refused 18, max L c + 1)
+  unfolding impl-within impl-search impl-outcome
+  impl-passed basic q l = ap (λ r. (impl-outcome (a .sheet) q (r .0), r .1)) (passes L (impl-search a basic q) c (asks-one limit·depth a basic _ _) l)
+
+  module _ (q : Words) where
+    all-ask : All-ask (flex-searches a q)
+    unfolding flex-searches
+    all-ask = (asks-one limit·depth a false _ _, (asks-one limit·depth a false _ _, (asks-one limit·depth a false _ _, (asks-one limit·depth a false _ _, tt))))
+
+    all-stop : All-stop (flex-searches a q)
+    unfolding flex-searches
+    all-stop = (question-stops limit·depth a false _ _, (question-stops limit·depth a false _ _, (question-stops limit·depth a false _ _, (question-stops limit·depth a false _ _, tt))))
+
+    -- the four in turn, and their outcome
+    four : Out (List (List Result)) × ℕ
+    four = in-turn (within (ltb L)) (flex-searches a q) c
+
+    ended : Out Words × ℕ
+    ended = (flex-outcome (a .sheet) q (ltb L (four .1)) (four .0), four .1)
+
+    -- 24 with the count above the limit, 14 to 17, 21, 25 or 26 with the count at the limit or below.
+    four-say : ((ended .0 ≡ refused 24) × (L < four .1)) ⊎ (Says Outcomes Counted (ended .0) × (four .1 ≤ L))
+    unfolding ended four flex-outcome
+    four-say = go (ltb L (four .1)) refl (four .0) refl
+      where
+        numbers : Refuses (Between 14 17) (four .0)
+        numbers = turn-stops (within (ltb L)) (λ r d h. within-stops In-search (omega arith) (ltb L) r d h) (flex-searches a q) c all-stop
+
+        go : (b : Bool) → ltb L (four .1) ≡ b → (o : Out (List (List Result))) → four .0 ≡ o → ((ended .0 ≡ refused 24) × (L < four .1)) ⊎ (Says Outcomes Counted (ended .0) × (four .1 ≤ L))
+        go b u (refused n) e = inr (rw e (inl (rw e at numbers)), turn-refused L (flex-searches a q) c all-ask n e)
+        go true u (got rs) e = inl (rw (e, u), above L (four .1) u)
+        go false u (got rs) e = inr (rw (e, u) (flex-results-say (a .sheet) q rs), at-most L (four .1) u)

@@ -3,9 +3,8 @@
 use Prim.Native.Nat.{ℕ, zero, suc, _+_, _≤_, _<_, max}
 use mathlib.Core.Path.{_≡_, refl, sym, _∙_, ap, subst}
 use mathlib.Core.Bool.{Bool, true, false, not, true≢false}
-use native.Mathlib.Nat.{add-zero, add-suc, suc-add, le-refl}
+use native.Mathlib.Nat.{add-zero, add-suc, suc-add, le-refl, not-suc-le-zero, lt-of-not-le}
 use native.Mathlib.Omega.{arith}
-use native.Mathlib.Nat.{not-suc-le-zero}
 use lib.Dec.{T, ltb, ltb→lt, nltb→le}
 use Rattle.rules.specs.Run.{Run, done, stop, asks, _>>=_, Out, got, refused, free, asked, within}
 
@@ -147,6 +146,10 @@ module _ {A : Type 0} (L : ℕ) where
       go : (b : Bool) → ltb L (suc c) ≡ b → (1 ≤ asked r → L < suc c + asked r → within (ltb L) r (suc c) ≡ (refused 18, max L (suc c) + 1)) → within (ltb L) (asks r) c ≡ (refused 18, max L c + 1)
       go true e ih = rw (e, within) (ends (suc c) (max L c + 1) (omega (arith, above L (suc c) e)))
       go false e ih = rw (e, within) (ih (omega (arith, at-most L (suc c) e)) (omega arith) ∙ ends (max L (suc c) + 1) (max L c + 1) (omega (arith, at-most L (suc c) e)))
+
+  -- So does one that asks something and ends above the limit.
+  pub passes : (r : Run A) (c : ℕ) → 1 ≤ asked r → L < (within (ltb L) r c) .1 → within (ltb L) r c ≡ (refused 18, max L c + 1)
+  passes r c h l = runs-out r c h (lt-of-not-le (λ k. omega (arith, ap (λ o. o .1) (run-alike L r c .free-low k))))
 
 -- P holds of the number of every stop of a run.
 abbrev pub Stops : {A : Type 0} → (ℕ → Type 0) → Run A → Type 0
