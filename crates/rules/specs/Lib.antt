@@ -33,4 +33,5 @@ pub mod RunLaws
 pub mod Stops
 pub mod FlexLaws
 pub mod Limit
+pub mod Outcomes
 pub mod Refusals

@@ -1,196 +1,190 @@
 -- From where each number comes, and what a whole call leaves behind it: document 01, "Turning a call away".
-use Prim.Native.Nat.{ℕ, zero, suc, _+_, _≤_, _<_, max}
+use Prim.Native.Nat.{ℕ, _+_, _≤_, _<_, max}
 use mathlib.Core.Path.{_≡_, refl, sym, _∙_, ap, subst}
-use mathlib.Core.Bool.{Bool, true, false, not, _&&_, _||_}
-use mathlib.Core.List.{List, [], _∷_, _++_}
-use mathlib.Core.Logic.{_↔_, _⊎_, inl, inr}
+use mathlib.Core.Bool.{Bool, true, false}
+use mathlib.Core.List.{_++_}
+use mathlib.Core.Logic.{_↔_, _⊎_, inl, inr, ⊎-elim}
 use mathlib.Core.Option.{Option, none, some, Option·some-injective, Option·some-ne-none, Option·none-ne-some}
-use native.Mathlib.Nat.{le-refl, add-zero}
 use native.Mathlib.Omega.{arith}
 use lib.Dec.{T, eqb, ltb, leb, leb→le, le→leb}
-use lib.ListN.{length, getD, drop, replicate}
-use Rattle.rules.specs.Lists.{Words, any}
-use Rattle.rules.specs.Limits.{limit·workspace, limit·nodes, limit·depth}
-use Rattle.rules.specs.Layout.{question·type, header·fork, header·drop}
+use lib.ListN.{length, take, drop, replicate}
+use Rattle.rules.specs.Lists.{Words}
+use Rattle.rules.specs.Limits.{limit·workspace}
 use Rattle.rules.specs.Sheet.{at}
-use Rattle.rules.specs.Types.{Types, UnifyResult, success, failure, indeterminate, ImplType, self-inverse}
-use Rattle.rules.specs.Transfer.{import-impl-type, export-impl-type, export-types, type-of-word}
-use Rattle.rules.specs.Run.{Run, Out, got, refused, free, asked, within}
-use Rattle.rules.specs.RunLaws.{got-not-refused, same-number, above, at-most, rises-asking, rises-to, passes, Says, Refuses, free-stops, within-stops, Stops}
-use Rattle.rules.specs.Search.{Trees, Result, Finder, question}
-use Rattle.rules.specs.Stops.{Between, In-search, question-stops}
-use Rattle.rules.specs.Answer.{answer}
-use Rattle.rules.specs.Calls.{question-types, impl-query, impl-search, impl-outcome, impl-within, in-turn, flex-searches, first-tree, is-found, import-result, unify-first, flex-results, flex-outcome, unset, flex-within, try-find-impl, find-flex, answer-after, work-after}
-use Rattle.rules.specs.FlexLaws.{All-ask, turn-asking, turn-to, turn-refused, All-stop, turn-stops}
-use Rattle.rules.specs.Check.{Checks, refusal, of-length, entry, of-sheet, of-ids, of-impl-question, of-flex-question, impl-checks, flex-checks}
+use Rattle.rules.specs.Run.{Out, got, refused}
+use Rattle.rules.specs.RunLaws.{got-not-refused, same-number, Says, said, Refuses}
+use Rattle.rules.specs.Search.{Finder}
+use Rattle.rules.specs.Stops.{Between}
+use Rattle.rules.specs.Check.{Checks, refusal, entry, impl-checks, flex-checks}
+use Rattle.rules.specs.Calls.{impl-within, flex-within, unset, free-find-impl, try-find-impl, find-flex, answer-after, work-after}
 use Rattle.rules.specs.Limit.{refusal-after}
+use Rattle.rules.specs.Outcomes.{refusal-front, entry-numbers, impl-check-numbers, flex-check-numbers, Counted, Impl-late, Flex-late, Searched, impl-searched, impl-passed, flex-searched, flex-passed, flex-before}
 
--- The checks: a refusal has the number of one of them.
-abbrev Numbers : (ℕ → Type 0) → Checks → Type 0
-Numbers P [] = Unit {0}
-Numbers P (c ∷ cs) = P (c .0) × Numbers P cs
+-- The refusals that leave the count: 1 to 13, 22 and 23.
+abbrev pub Leaves-count : ℕ → Type 0
+Leaves-count n = Between 1 13 n ⊎ Between 22 23 n
 
-numbered : (P : ℕ → Type 0) (cs : Checks) → Numbers P cs → (n : ℕ) → refusal cs ≡ some n → P n
-unfolding refusal
-numbered P [] h n e = absurd (Option·none-ne-some n e)
-numbered P (c ∷ cs) h n e = go (c .1) e (numbered P cs (h .1) n)
+-- How a whole call ends, in document 01's words: `entry` and `checks` are what the two lists of checks say, Late the numbers from the search on,
+-- L the step limit, k how many searches the call makes, c the start count, answer and work the buffers before, r the outcome with the count after.
+pub record Ends (Late : ℕ → Type 0) (entry checks : Option ℕ) (L k c : ℕ) (answer work : Words) (r : Out Words × ℕ) : Type 0 where
+  -- A refusal is one of 1 to 13 or of those from the search on; an answer is as many words as its word 3 says.
+  pub numbers : (n : ℕ) → r .0 ≡ refused n → Between 1 13 n ⊎ Late n
+  pub words : (ws : Words) → r .0 ≡ got ws → at ws 3 ≡ length ws
+  -- Where the entry refuses, the call comes to that number, one of 1 to 5; count, answer buffer and workspace stay as they are.
+  pub turned-away : (n : ℕ) → entry ≡ some n → Between 1 5 n × (r ≡ (refused n, c)) × (answer-after (r .0) answer ≡ answer) × (work-after (r .0) work ≡ work)
+  -- After every other end the workspace's first words, up to the constant, are zero and the rest untouched.
+  pub cleared : entry ≡ none → work-after (r .0) work ≡ replicate limit·workspace 0 ++ drop limit·workspace work
+  -- 1 to 5 come from the entry alone, 6 to 13 from the checks between entry and search alone.
+  pub from-entry : (n : ℕ) → ((r .0 ≡ refused n) × (n ≤ 5)) ↔ (entry ≡ some n)
+  pub from-checks : (n : ℕ) → ((r .0 ≡ refused n) × Between 6 13 n) ↔ ((entry ≡ none) × (checks ≡ some n))
+  -- "1 to 13, 22 and 23 leave the count; the others return the count reached": a question was asked,
+  pub leaves : (n : ℕ) → r .0 ≡ refused n → Leaves-count n → r .1 ≡ c
+  pub reached : ((n : ℕ) → r .0 ≡ refused n → ¬ Leaves-count n) → c < r .1
+  -- and each search ends at most 1 above the limit, or above its start where that is higher.
+  pub most : r .1 ≤ max L c + k
+  -- "No refusal writes the answer."
+  pub unwritten : (n : ℕ) → r .0 ≡ refused n → answer-after (r .0) answer ≡ answer
+
+pub no-refusal-writes : (o : Out Words) (n : ℕ) (buf : Words) → o ≡ refused n → answer-after o buf ≡ buf
+unfolding answer-after
+no-refusal-writes o n buf e = rw (e, answer-after)
+
+untouched : (n : ℕ) (work : Words) → n ≤ 5 → work-after (refused n) work ≡ work
+unfolding work-after
+untouched n work h = go (leb n 5) refl
   where
-    go : (b : Bool) → refusal ((c .0, b) ∷ cs) ≡ some n → (refusal cs ≡ some n → P n) → P n
-    go true k ih = subst P (Option·some-injective _ _ k) (h .0)
-    go false k ih = ih k
+    go : (b : Bool) → leb n 5 ≡ b → work-after (refused n) work ≡ work
+    go true e = rw (e, work-after)
+    go false e = absurd (subst T e (le→leb n 5 h))
 
--- The entry refuses with 1 to 5,
-pub entry-numbers : (s q : Words) (answer work c n : ℕ) → refusal (entry s q answer work c) ≡ some n → Between 1 5 n
-unfolding entry of-length
-entry-numbers s q answer work c n e = numbered (Between 1 5) (entry s q answer work c) (omega arith) n e
-
--- the checks between entry and search with 6 to 13.
-pub impl-check-numbers : (a : Finder) (basic : ℕ) (q : Words) (n : ℕ) → refusal (impl-checks a basic q) ≡ some n → Between 6 13 n
-unfolding impl-checks of-sheet of-ids of-impl-question
-impl-check-numbers a basic q n e = numbered (Between 6 13) (impl-checks a basic q) (omega arith) n e
-
-pub flex-check-numbers : (a : Finder) (q : Words) (n : ℕ) → refusal (flex-checks a q) ≡ some n → Between 6 13 n
-unfolding flex-checks of-sheet of-ids of-flex-question
-flex-check-numbers a q n e = numbered (Between 6 13) (flex-checks a q) (omega arith) n e
-
--- Checks that refuse leave nothing to those after them.
-refusal-front : (xs ys : Checks) (n : ℕ) → refusal xs ≡ some n → refusal (xs ++ ys) ≡ some n
-unfolding refusal
-refusal-front [] ys n e = absurd (Option·none-ne-some n e)
-refusal-front (x ∷ xs) ys n e = go (x .1) e (refusal-front xs ys n)
+clears : (o : Out Words) (work : Words) → Refuses (λ n. 6 ≤ n) o → work-after o work ≡ replicate limit·workspace 0 ++ drop limit·workspace work
+unfolding work-after
+clears (got ws) work h = refl
+clears (refused n) work h = go (leb n 5) refl
   where
-    go : (b : Bool) → refusal ((x .0, b) ∷ xs) ≡ some n → (refusal xs ≡ some n → refusal (xs ++ ys) ≡ some n) → refusal ((x .0, b) ∷ (xs ++ ys)) ≡ some n
-    go true k ih = k
-    go false k ih = ih k
+    go : (b : Bool) → leb n 5 ≡ b → work-after (refused n) work ≡ replicate limit·workspace 0 ++ drop limit·workspace work
+    go true e = absurd (omega (arith, leb→le n 5 (subst T (sym e) tt)))
+    go false e = rw (e, work-after)
 
--- An answer is as many words as its word 3 says.
-abbrev pub Counted : Words → Type 0
-Counted ws = at ws 3 ≡ length ws
+module _ (Late : ℕ → Type 0) (late : (n : ℕ) → Late n → 14 ≤ n) (L k c : ℕ) (answer work : Words) where
+  -- The entry refuses.
+  entry-ends : (checks : Option ℕ) (n : ℕ) → Between 1 5 n → Ends Late (some n) checks L k c answer work (refused n, c)
+  entry-ends checks n b = record {
+    numbers = λ m e. inl (omega (arith, same-number n m e));
+    words = λ ws e. absurd (got-not-refused ws n (sym e));
+    turned-away = λ m e. let p = Option·some-injective n m e in (omega arith, ap (λ j. (refused j, c)) p, no-refusal-writes (refused n) n answer refl, untouched n work (b .most));
+    cleared = λ e. absurd (Option·some-ne-none n e);
+    from-entry = λ m. (λ e. ap some (same-number n m (e .0)), λ e. let p = Option·some-injective n m e in (ap refused p, omega arith));
+    from-checks = λ m. (λ e. absurd (omega (arith, same-number n m (e .0))), λ e. absurd (Option·some-ne-none n (e .0)));
+    leaves = λ m e u. refl;
+    reached = λ h. absurd (h n refl (inl (omega arith)));
+    most = omega arith;
+    unwritten = λ m e. no-refusal-writes (refused n) n answer refl;
+  }
 
-answer-counted : (t u : Trees) (inv self : Bool) (n : ℕ) (ts : Types) → Counted (answer t u inv self n ts)
-unfolding answer
-answer-counted t u inv self n ts = omega arith
+  -- A check between entry and search refuses.
+  check-ends : (n : ℕ) → Between 6 13 n → Ends Late none (some n) L k c answer work (refused n, c)
+  check-ends n b = record {
+    numbers = λ m e. inl (omega (arith, same-number n m e));
+    words = λ ws e. absurd (got-not-refused ws n (sym e));
+    turned-away = λ m e. absurd (Option·none-ne-some m e);
+    cleared = λ e. clears (refused n) work (b .least);
+    from-entry = λ m. (λ e. absurd (omega (arith, same-number n m (e .0))), λ e. absurd (Option·none-ne-some m e));
+    from-checks = λ m. (λ e. (refl, ap some (same-number n m (e .0))), λ e. let p = Option·some-injective n m (e .1) in (ap refused p, omega arith));
+    leaves = λ m e u. refl;
+    reached = λ h. absurd (h n refl (inl (omega arith)));
+    most = omega arith;
+    unwritten = λ m e. no-refusal-writes (refused n) n answer refl;
+  }
 
--- The impl call's search and outcome: 14 to 21, 18 by count included.
-impl-outcome-says : (s q : Words) (o : Out (List Result)) → Refuses In-search o → Says (Between 14 21) Counted (impl-outcome s q o)
-unfolding impl-outcome
-impl-outcome-says s q (refused n) h = omega arith
-impl-outcome-says s q (got []) h = omega arith
-impl-outcome-says s q (got (r ∷ (r′ ∷ rs))) h = omega arith
-impl-outcome-says s q (got (r ∷ [])) h = go (ltb limit·nodes (length (w .1))) refl
-  where
-    w : ImplType × Types
-    w = import-impl-type (r .0) none ((export-impl-type (question-types q) (impl-query q)) .0) (question-types q)
-
-    go : (b : Bool) → ltb limit·nodes (length (w .1)) ≡ b → Says (Between 14 21) Counted (impl-outcome s q (got (r ∷ [])))
-    go true e = rw (e, impl-outcome) (omega arith)
-    go false e = rw (e, impl-outcome) (answer-counted _ _ _ _ _ _)
-
--- The flex call's outcome after its searches: 14 to 17, 21, 24 to 26. 24 is said with the count above the limit and only then.
-abbrev Outcomes : ℕ → Type 0
-Outcomes n = Between 14 17 n ⊎ Between 21 21 n ⊎ Between 25 26 n
-
-flex-results-say : (s q : Words) (rs : List (List Result)) → Says Outcomes Counted (flex-results s q rs)
-unfolding flex-results
-flex-results-say s q rs =
-    let ts = question-types q in
-    let ty = type-of-word (at q question·type) in
-    let e = export-types ts (ty ∷ []) in
-    let r : ℕ → List Result = λ k. getD rs k [] in
-    let pos = is-found (r 0) || is-found (r 1) in
-    let neg = is-found (r 2) || is-found (r 3) in
-    let self = self-inverse s ts ty in
-    let inv = not pos && neg in
-    let fork = elim inv as (λ b. List Result) [ true ↦ r 2 | false ↦ r 0 ] in
-    let drop = elim inv as (λ b. List Result) [ true ↦ r 3 | false ↦ r 1 ] in
-    let w = import-result fork (e .0) ts in
-    let v = import-result drop (e .0) (w .1) in
-    let m = unify-first s (v .1) (w .0) (v .0) in
-    let us = (unify-first s (m .1) (ty ∷ []) (w .0 ++ v .0)) .1 in
-    go (any (λ fs. ltb 1 (length fs)) rs) (pos && neg && not self) (ltb limit·nodes (length (v .1))) (m .0)
-    (answer (first-tree fork) (first-tree drop) inv self (length ts) us) (answer-counted (first-tree fork) (first-tree drop) inv self (length ts) us)
-  where
-    go : (a b c : Bool) (v : UnifyResult) (ws : Words) → Counted ws → Says {A = Words} Outcomes Counted (elim a as (λ x. Out Words) [
-      | true ↦ refused 21
-      | false ↦ elim b as (λ x. Out Words) [
-        | true ↦ refused 25
-        | false ↦ elim c as (λ x. Out Words) [ true ↦ refused 14 | false ↦ elim v as (λ x. Out Words) [ failure ↦ refused 26 | success ↦ got ws | indeterminate ↦ got ws ] ]
-      ]
-    ])
-    go true b c v ws h = inr (inl (omega arith))
-    go false true c v ws h = inr (inr (omega arith))
-    go false false true v ws h = inl (omega arith)
-    go false false false failure ws h = inr (inr (omega arith))
-    go false false false success ws h = h
-    go false false false indeterminate ws h = h
-
--- From its search on the impl call refuses with 14 to 21,
-abbrev pub Impl-late : ℕ → Type 0
-Impl-late = Between 14 21
-
--- the flex call with 14 to 17 or 21 to 26: 18 and 19 never come out of it.
-abbrev pub Flex-late : ℕ → Type 0
-Flex-late n = Between 14 17 n ⊎ Between 21 26 n
-
--- The part of a call from the search on, which 22 and 23 precede: k is how many searches it makes.
-record Searched (Late : ℕ → Type 0) (L k c : ℕ) (r : Out Words × ℕ) : Type 0 where
-  says : Says Late Counted (r .0)
-  leaves : (n : ℕ) → r .0 ≡ refused n → Between 22 23 n → r .1 ≡ c
-  reached : ((n : ℕ) → r .0 ≡ refused n → ¬ Between 22 23 n) → c < r .1
-  most : r .1 ≤ max L c + k
-
--- A question asks itself at least.
-asks-one : (d : ℕ) (a : Finder) (basic : Bool) (ts : Types) (q : ImplType) → 1 ≤ asked (question d a basic ts q)
-unfolding question asked
-asks-one zero a basic ts q = le-refl 1
-asks-one (suc d) a basic ts q = omega arith
-
-said : {A : Type 0} (P : ℕ → Type 0) (Q : A → Type 0) (o : Out A) → Says P Q o → (n : ℕ) → o ≡ refused n → P n
-said P Q o h n e = subst (Says P Q) e h
-
-module _ (L : ℕ) (a : Finder) (c : ℕ) where
-  impl-searched : (basic : Bool) (q : Words) → Searched Impl-late L 1 c (impl-within (ltb L) a basic q c)
-  unfolding impl-within impl-search
-  impl-searched basic q = record {
-    says = says;
-    leaves = λ n e b. absurd (omega (arith, said Impl-late Counted _ says n e));
-    reached = λ h. rises-asking (ltb L) (impl-search a basic q) c (asks-one limit·depth a basic _ _);
-    most = rises-to L (impl-search a basic q) c
+  -- Neither does.
+  search-ends : (r : Out Words × ℕ) → Searched Late L k c r → Ends Late none none L k c answer work r
+  search-ends r h = record {
+    numbers = λ n e. inr (number n e);
+    words = λ ws e. subst (Says Late Counted) e (h .says);
+    turned-away = λ n e. absurd (Option·none-ne-some n e);
+    cleared = λ e. clears (r .0) work (later (r .0) (h .says));
+    from-entry = λ n. (λ e. absurd (omega (arith, late n (number n (e .0)))), λ e. absurd (Option·none-ne-some n e));
+    from-checks = λ n. (λ e. absurd (omega (arith, late n (number n (e .0)))), λ e. absurd (Option·none-ne-some n (e .1)));
+    leaves = λ n e u. ⊎-elim (λ b. absurd (omega (arith, late n (number n e)))) (h .leaves n e) u;
+    reached = λ f. h .reached (λ n e b. f n e (inr b));
+    most = h .most;
+    unwritten = λ n e. no-refusal-writes (r .0) n answer e;
   }
     where
-      says : Says Impl-late Counted ((impl-within (ltb L) a basic q c) .0)
-      says = impl-outcome-says (a .sheet) q _ (within-stops In-search (omega arith) (ltb L) (impl-search a basic q) c (question-stops limit·depth a basic _ _))
+      number : (n : ℕ) → r .0 ≡ refused n → Late n
+      number n e = said Late Counted (r .0) (h .says) n e
 
-  -- 18 by count: a search that passes the limit.
-  impl-passed : (basic : Bool) (q : Words) → L < (impl-within (ltb L) a basic q c) .1 → impl-within (ltb L) a basic q c ≡ (refused 18, max L c + 1)
-  unfolding impl-within impl-search impl-outcome
-  impl-passed basic q l = ap (λ r. (impl-outcome (a .sheet) q (r .0), r .1)) (passes L (impl-search a basic q) c (asks-one limit·depth a basic _ _) l)
+      later : (o : Out Words) → Says Late Counted o → Refuses (λ n. 6 ≤ n) o
+      later (got ws) u = tt
+      later (refused n) u = omega (arith, late n u)
 
-  module _ (q : Words) where
-    all-ask : All-ask (flex-searches a q)
-    unfolding flex-searches
-    all-ask = (asks-one limit·depth a false _ _, (asks-one limit·depth a false _ _, (asks-one limit·depth a false _ _, (asks-one limit·depth a false _ _, tt))))
+flex-late : (n : ℕ) → Flex-late n → 14 ≤ n
+flex-late n (inl b) = b .least
+flex-late n (inr b) = omega (arith, b .least)
 
-    all-stop : All-stop (flex-searches a q)
-    unfolding flex-searches
-    all-stop = (question-stops limit·depth a false _ _, (question-stops limit·depth a false _ _, (question-stops limit·depth a false _ _, (question-stops limit·depth a false _ _, tt))))
+-- The whole calls, under any step limit, with any buffers and start count.
+module _ (L : ℕ) (a : Finder) (q answer work : Words) (c : ℕ) where
+  of-entry : Checks
+  of-entry = entry (a .sheet) q (length answer) (length work) c
 
-    -- the four in turn, and their outcome
-    four : Out (List (List Result)) × ℕ
-    four = in-turn (within (ltb L)) (flex-searches a q) c
+  -- place by place: what holds of each end holds of the call
+  impl-places : (basic : ℕ) (P : Out Words × ℕ → Type 0) → ((n : ℕ) → refusal of-entry ≡ some n → P (refused n, c)) → ((n : ℕ) → refusal of-entry ≡ none → refusal (impl-checks a basic q) ≡ some n → P (refused n, c)) →
+      (refusal of-entry ≡ none → refusal (impl-checks a basic q) ≡ none → P (impl-within (ltb L) a (eqb basic 1) q c)) → P (try-find-impl L a basic q (length answer) (length work) c)
+  unfolding try-find-impl of-entry
+  impl-places basic P f g h = go (refusal of-entry) refl (refusal (impl-checks a basic q)) refl
+    where
+      go : (o : Option ℕ) → refusal of-entry ≡ o → (u : Option ℕ) → refusal (impl-checks a basic q) ≡ u → P (try-find-impl L a basic q (length answer) (length work) c)
+      go (some n) e u k = rw (refusal-front of-entry (impl-checks a basic q) n e, try-find-impl) (f n e)
+      go none e (some n) k = rw (refusal-after of-entry (impl-checks a basic q) e ∙ k, try-find-impl) (g n e k)
+      go none e none k = rw (refusal-after of-entry (impl-checks a basic q) e ∙ k, try-find-impl) (h e k)
 
-    ended : Out Words × ℕ
-    ended = (flex-outcome (a .sheet) q (ltb L (four .1)) (four .0), four .1)
+  flex-places : (P : Out Words × ℕ → Type 0) → ((n : ℕ) → refusal of-entry ≡ some n → P (refused n, c)) → ((n : ℕ) → refusal of-entry ≡ none → refusal (flex-checks a q) ≡ some n → P (refused n, c)) →
+      (refusal of-entry ≡ none → refusal (flex-checks a q) ≡ none → P (flex-within (ltb L) a q c)) → P (find-flex L a q (length answer) (length work) c)
+  unfolding find-flex of-entry
+  flex-places P f g h = go (refusal of-entry) refl (refusal (flex-checks a q)) refl
+    where
+      go : (o : Option ℕ) → refusal of-entry ≡ o → (u : Option ℕ) → refusal (flex-checks a q) ≡ u → P (find-flex L a q (length answer) (length work) c)
+      go (some n) e u k = rw (refusal-front of-entry (flex-checks a q) n e, find-flex) (f n e)
+      go none e (some n) k = rw (refusal-after of-entry (flex-checks a q) e ∙ k, find-flex) (g n e k)
+      go none e none k = rw (refusal-after of-entry (flex-checks a q) e ∙ k, find-flex) (h e k)
 
-    -- 24 with the count above the limit, 14 to 17, 21, 25 or 26 with the count at the limit or below.
-    four-say : ((ended .0 ≡ refused 24) × (L < four .1)) ⊎ (Says Outcomes Counted (ended .0) × (four .1 ≤ L))
-    unfolding ended four flex-outcome
-    four-say = go (ltb L (four .1)) refl (four .0) refl
-      where
-        numbers : Refuses (Between 14 17) (four .0)
-        numbers = turn-stops (within (ltb L)) (λ r d h. within-stops In-search (omega arith) (ltb L) r d h) (flex-searches a q) c all-stop
+  number-of-entry : (n : ℕ) → refusal of-entry ≡ some n → Between 1 5 n
+  unfolding of-entry
+  number-of-entry n e = entry-numbers (a .sheet) q (length answer) (length work) c n e
 
-        go : (b : Bool) → ltb L (four .1) ≡ b → (o : Out (List (List Result))) → four .0 ≡ o → ((ended .0 ≡ refused 24) × (L < four .1)) ⊎ (Says Outcomes Counted (ended .0) × (four .1 ≤ L))
-        go b u (refused n) e = inr (rw e (inl (rw e at numbers)), turn-refused L (flex-searches a q) c all-ask n e)
-        go true u (got rs) e = inl (rw (e, u), above L (four .1) u)
-        go false u (got rs) e = inr (rw (e, u) (flex-results-say (a .sheet) q rs), at-most L (four .1) u)
+  -- How the impl call ends: it makes one search.
+  pub impl-ends : (basic : ℕ) → Ends Impl-late (refusal (entry (a .sheet) q (length answer) (length work) c)) (refusal (impl-checks a basic q)) L 1 c answer work (try-find-impl L a basic q (length answer) (length work) c)
+  unfolding of-entry
+  impl-ends basic = impl-places basic (λ r. Ends Impl-late (refusal of-entry) (refusal (impl-checks a basic q)) L 1 c answer work r)
+      (λ n e. rw e (entry-ends Impl-late (λ m b. b .least) L 1 c answer work _ n (number-of-entry n e)))
+      (λ n e k. rw (e, k) (check-ends Impl-late (λ m b. b .least) L 1 c answer work n (impl-check-numbers a basic q n k)))
+      (λ e k. rw (e, k) (search-ends Impl-late (λ m b. b .least) L 1 c answer work _ (impl-searched L a c (eqb basic 1) q)))
+
+  -- How the flex call ends: it makes four searches.
+  pub flex-ends : Ends Flex-late (refusal (entry (a .sheet) q (length answer) (length work) c)) (refusal (flex-checks a q)) L 4 c answer work (find-flex L a q (length answer) (length work) c)
+  unfolding of-entry
+  flex-ends = flex-places (λ r. Ends Flex-late (refusal of-entry) (refusal (flex-checks a q)) L 4 c answer work r)
+      (λ n e. rw e (entry-ends Flex-late flex-late L 4 c answer work _ n (number-of-entry n e)))
+      (λ n e k. rw (e, k) (check-ends Flex-late flex-late L 4 c answer work n (flex-check-numbers a q n k)))
+      (λ e k. rw (e, k) (search-ends Flex-late flex-late L 4 c answer work _ (flex-searched L a c q)))
+
+  -- 18 by count: an impl call that asks a question and ends above the limit refuses with 18, at just 1 above the limit or its start, whichever is higher.
+  pub impl-by-count : (basic : ℕ) → L < (try-find-impl L a basic q (length answer) (length work) c) .1 → c < (try-find-impl L a basic q (length answer) (length work) c) .1 →
+      try-find-impl L a basic q (length answer) (length work) c ≡ (refused 18, max L c + 1)
+  impl-by-count basic = impl-places basic (λ r. L < r .1 → c < r .1 → r ≡ (refused 18, max L c + 1)) (λ n e l k. absurd (omega arith)) (λ n e f l k. absurd (omega arith)) (λ e f l k. impl-passed L a c (eqb basic 1) q l)
+
+  -- "24 FlexSearchLimit (only with the count above the step limit)": exactly if the flex call asks a question and ends above the limit.
+  pub flex-by-count : ((find-flex L a q (length answer) (length work) c) .0 ≡ refused 24) ↔ ((L < (find-flex L a q (length answer) (length work) c) .1) × (c < (find-flex L a q (length answer) (length work) c) .1))
+  flex-by-count = flex-places (λ r. (r .0 ≡ refused 24) ↔ ((L < r .1) × (c < r .1)))
+      (λ n e. (λ k. absurd (omega (arith, same-number n 24 k, number-of-entry n e)), λ k. absurd (omega arith)))
+      (λ n e f. (λ k. absurd (omega (arith, same-number n 24 k, flex-check-numbers a q n f)), λ k. absurd (omega arith)))
+      (λ e f. flex-passed L a c q)
+
+  -- 22 and 23 come out exactly if no check refuses and Fork or Drop is unset.
+  pub flex-by-unset : (n : ℕ) → (((find-flex L a q (length answer) (length work) c) .0 ≡ refused n) × Between 22 23 n) ↔ ((refusal (entry (a .sheet) q (length answer) (length work) c) ≡ none) × (refusal (flex-checks a q) ≡ none) × (unset (a .sheet) ≡ some n))
+  unfolding of-entry
+  flex-by-unset n = flex-places (λ r. ((r .0 ≡ refused n) × Between 22 23 n) ↔ ((refusal of-entry ≡ none) × (refusal (flex-checks a q) ≡ none) × (unset (a .sheet) ≡ some n)))
+      (λ m e. (λ k. absurd (omega (arith, same-number m n (k .0), number-of-entry m e)), λ k. absurd (Option·some-ne-none m (sym e ∙ k .0))))
+      (λ m e f. (λ k. absurd (omega (arith, same-number m n (k .0), flex-check-numbers a q m f)), λ k. absurd (Option·some-ne-none m (sym f ∙ k .1))))
+      (λ e f. (λ k. (e, f, flex-before L a c q n .0 k), λ k. flex-before L a c q n .1 (k .2)))

@@ -168,6 +168,9 @@ abbrev pub Says : {A : Type 0} → (ℕ → Type 0) → (A → Type 0) → Out A
 Says P Q (got a) = Q a
 Says P Q (refused n) = P n
 
+pub said : {A : Type 0} (P : ℕ → Type 0) (Q : A → Type 0) (o : Out A) → Says P Q o → (n : ℕ) → o ≡ refused n → P n
+said P Q o h n e = subst (Says P Q) e h
+
 abbrev pub Refuses : {A : Type 0} → (ℕ → Type 0) → Out A → Type 0
 Refuses P o = Says P (λ a. Unit {0}) o
 
