@@ -1,16 +1,16 @@
 -- Laws of the flex call's four questions in turn: the count runs on from one to the next, a step limit that is not passed changes nothing,
 -- one that is passed ends no question with a number, and 18 and 19 don't come out.
-use Prim.Native.Nat.{ℕ, zero, suc, _+_, _≤_, _<_, max}
+use Prim.Native.Nat.{ℕ, suc, _+_, _≤_, _<_, max}
 use mathlib.Core.Path.{_≡_, refl, sym, _∙_, ap, subst}
-use mathlib.Core.Bool.{Bool, true, false, _||_}
+use mathlib.Core.Bool.{Bool, true, false}
 use mathlib.Core.List.{List, [], _∷_}
 use native.Mathlib.Nat.{add-zero, le-refl, le-trans, add-assoc}
 use native.Mathlib.Omega.{arith}
 use lib.Dec.{T, eqb, ltb, eqb-refl}
 use lib.ListN.{length}
 use Rattle.rules.specs.Run.{Run, Out, got, refused, free, asked, within}
-use Rattle.rules.specs.RunLaws.{got-not-refused, freely, rises, rises-asking, rises-to, passes, above, at-most, Alike, run-alike, equal-alike, made-alike, Stops, Refuses}
-use Rattle.rules.specs.Stops.{Between, In-search}
+use Rattle.rules.specs.RunLaws.{got-not-refused, freely, rises, rises-asking, rises-to, passes, above, at-most, Alike, run-alike, equal-alike, made-alike, Between, Stops, Refuses}
+use Rattle.rules.specs.Stops.{In-search}
 use Rattle.rules.specs.Search.{Result}
 use Rattle.rules.specs.Calls.{or-nothing, with-first, onward, in-turn, plainly}
 

@@ -30,6 +30,7 @@ pub mod Readings
 pub mod TransferKeeps
 pub mod FreshKeeps
 pub mod RunLaws
+pub mod CheckNumbers
 pub mod Stops
 pub mod FlexLaws
 pub mod Limit

@@ -2,10 +2,10 @@
 -- exactly where there is room for those questions. Nothing is assumed of sheet, question, source, generics or basic flag.
 use Prim.Native.Nat.{ℕ, _+_, _≤_, _<_}
 use mathlib.Core.Path.{_≡_, refl, sym, _∙_, ap}
-use mathlib.Core.Bool.{Bool, true, false}
-use mathlib.Core.List.{List, [], _∷_, _++_}
+use mathlib.Core.Bool.{Bool, false}
+use mathlib.Core.List.{List, _++_}
 use mathlib.Core.Logic.{_↔_}
-use mathlib.Core.Option.{Option, none, some, Option·some-ne-none}
+use mathlib.Core.Option.{Option, none, some}
 use native.Mathlib.Nat.{add-zero, lt-of-not-le}
 use native.Mathlib.Omega.{arith}
 use lib.Dec.{eqb, ltb}
@@ -15,9 +15,10 @@ use Rattle.rules.specs.Lists.{Words}
 use Rattle.rules.specs.Limits.{limit·steps}
 use Rattle.rules.specs.Run.{Out, got, refused, asked}
 use Rattle.rules.specs.RunLaws.{not-above, Alike, run-alike, equal-alike, made-alike}
-use Rattle.rules.specs.FlexLaws.{asked-in-turn, freely-in-turn, turn-alike}
+use Rattle.rules.specs.FlexLaws.{asked-in-turn, turn-alike}
 use Rattle.rules.specs.Search.{Result, Finder}
-use Rattle.rules.specs.Check.{Checks, refusal, entry, impl-checks, flex-checks}
+use Rattle.rules.specs.Check.{refusal, entry, impl-checks, flex-checks}
+use Rattle.rules.specs.CheckNumbers.{refusal-after}
 use Rattle.rules.specs.Calls.{impl-search, impl-outcome, impl-free, impl-within, flex-searches, flex-outcome, unset, flex-free, flex-within, free-find-impl, free-find-flex, try-find-impl, find-flex, answer-after}
 
 -- How many questions the search without a step limit asks: none where a check between entry and search refuses;
@@ -71,16 +72,6 @@ two-runs L L′ free asked c c′ short long room s h = record {
     same : short .1 ≤ L → long ≡ (free, c′ + asked)
     same l = h .free-low (omega (arith, s .end l))
 
--- Checks that refuse nothing leave the word to those after them.
-pub refusal-after : (xs ys : Checks) → refusal xs ≡ none → refusal (xs ++ ys) ≡ refusal ys
-unfolding refusal
-refusal-after [] ys e = refl
-refusal-after (x ∷ xs) ys e = go (x .1) e (refusal-after xs ys)
-  where
-    go : (b : Bool) → refusal ((x .0, b) ∷ xs) ≡ none → (refusal xs ≡ none → refusal (xs ++ ys) ≡ refusal ys) → refusal ((x .0, b) ∷ (xs ++ ys)) ≡ refusal ys
-    go true k ih = absurd (Option·some-ne-none (x .0) k)
-    go false k ih = ih k
-
 nothing-asked : (L n c : ℕ) → Alike {A = Words} L (refused n, c) (refused n, c + 0)
 nothing-asked L n c = equal-alike L (λ i. (refused n, sym (add-zero c) i))
 
@@ -132,7 +123,7 @@ module _ (L : ℕ) (a : Finder) (q answer work : Words) (c : ℕ) (past : Enters
   demand-3-flex-one = one-run L _ _ c _ whole-flex-alike
 
 -- Demand 3 of two runs alike in all but start count, what the buffers hold, and here the step limit too:
--- both past the entry checks, and Long with at least as many steps left, L - c ≤ L′ - c′. With one step limit that is c′ ≤ c.
+-- both past the entry checks, and Long with at least as many steps left, L - c ≤ L′ - c′ (written without subtraction). With one step limit that is c′ ≤ c.
 module _ (L L′ : ℕ) (a : Finder) (q answer work answer′ work′ : Words) (c c′ : ℕ) (past : Enters a q answer work c) (past′ : Enters a q answer′ work′ c′) (room : L + c′ ≤ L′ + c) where
   pub demand-3-impl : (basic : ℕ) →
       Demand3 L (free-find-impl a basic q) (asked-find-impl a basic q) c c′
@@ -146,7 +137,16 @@ module _ (L L′ : ℕ) (a : Finder) (q answer work answer′ work′ : Words) (
       (find-flex L′ a q (length answer′) (length work′) c′)
   demand-3-flex = two-runs L L′ _ _ c c′ _ _ room (demand-3-flex-one L a q answer work c past) (whole-flex-alike L′ a q answer′ work′ c′ past′)
 
--- Demand 3 in its own words, with the step limit 2,000: Short starts with at least as many steps spent.
+-- Demand 3 in its own words, with the step limit 2,000. One run: if it ends at 2,000 or below, it gives exactly the answer of the search with no step limit
+-- and ends at start + the number of questions that search asks; it ends above 2,000 exactly when that sum is above 2,000.
+module _ (a : Finder) (q answer work : Words) (c : ℕ) (past : Enters a q answer work c) where
+  pub one-try-find-impl : (basic : ℕ) → Demand3-one 2000 (free-find-impl a basic q) (asked-find-impl a basic q) c (try-find-impl limit·steps a basic q (length answer) (length work) c)
+  one-try-find-impl basic = demand-3-impl-one limit·steps a q answer work c past basic
+
+  pub one-find-flex : Demand3-one 2000 (free-find-flex a q) (asked-find-flex a q) c (find-flex limit·steps a q (length answer) (length work) c)
+  one-find-flex = demand-3-flex-one limit·steps a q answer work c past
+
+-- Two runs alike in all but start count and what the buffers hold, past the entry checks: Short starts with at least as many steps spent.
 module _ (a : Finder) (q answer work answer′ work′ : Words) (c c′ : ℕ) (past : Enters a q answer work c) (past′ : Enters a q answer′ work′ c′) (spent : c′ ≤ c) where
   pub demand-3-try-find-impl : (basic : ℕ) →
       Demand3 2000 (free-find-impl a basic q) (asked-find-impl a basic q) c c′

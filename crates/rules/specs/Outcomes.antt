@@ -1,71 +1,31 @@
--- Numbers and counts of each part of a call: the entry, the checks between entry and search, and the search with its outcome (document 01, "Turning a call away").
+-- Numbers and counts of a call after its checks: the search with its outcome (document 01, "Turning a call away", 14 to 26).
 use Prim.Native.Nat.{ℕ, zero, suc, _+_, _≤_, _<_, max}
-use mathlib.Core.Path.{_≡_, refl, sym, _∙_, ap, subst}
+use mathlib.Core.Path.{_≡_, refl, sym, _∙_, ap}
 use mathlib.Core.Bool.{Bool, true, false, not, _&&_, _||_}
 use mathlib.Core.List.{List, [], _∷_, _++_}
 use mathlib.Core.Logic.{_↔_, _⊎_, inl, inr}
-use mathlib.Core.Option.{Option, none, some, Option·some-injective, Option·some-ne-none, Option·none-ne-some}
-use native.Mathlib.Nat.{le-refl, add-zero}
+use mathlib.Core.Option.{Option, none, some, Option·some-injective, Option·none-ne-some}
+use native.Mathlib.Nat.{le-refl}
 use native.Mathlib.Omega.{arith}
-use lib.Dec.{T, eqb, ltb, leb, leb→le, le→leb}
-use lib.ListN.{length, getD, drop, replicate}
+use lib.Dec.{eqb, ltb}
+use lib.ListN.{length, getD, drop}
 use Rattle.rules.specs.Lists.{Words, any}
-use Rattle.rules.specs.Limits.{limit·workspace, limit·nodes, limit·depth}
-use Rattle.rules.specs.Layout.{question·type, header·fork, header·drop}
+use Rattle.rules.specs.Limits.{limit·nodes, limit·depth}
+use Rattle.rules.specs.Layout.{answer·length, question·type, header·fork, header·drop}
 use Rattle.rules.specs.Sheet.{at}
 use Rattle.rules.specs.Types.{Types, UnifyResult, success, failure, indeterminate, ImplType, self-inverse}
 use Rattle.rules.specs.Transfer.{import-impl-type, export-impl-type, export-types, type-of-word}
-use Rattle.rules.specs.Run.{Run, Out, got, refused, free, asked, within}
-use Rattle.rules.specs.RunLaws.{got-not-refused, same-number, above, at-most, rises-asking, rises-to, passes, Says, said, Refuses, free-stops, within-stops, Stops}
+use Rattle.rules.specs.Run.{Out, got, refused, asked, within}
+use Rattle.rules.specs.RunLaws.{same-number, above, at-most, rises-asking, rises-to, passes, Says, said, Refuses, free-stops, within-stops, Between}
 use Rattle.rules.specs.Search.{Trees, Result, Finder, question}
-use Rattle.rules.specs.Stops.{Between, In-search, question-stops}
+use Rattle.rules.specs.Stops.{In-search, question-stops}
 use Rattle.rules.specs.Answer.{answer}
-use Rattle.rules.specs.Calls.{question-types, impl-query, impl-search, impl-outcome, impl-within, in-turn, flex-searches, first-tree, is-found, import-result, unify-first, flex-results, flex-outcome, unset, flex-within, try-find-impl, find-flex, answer-after, work-after}
+use Rattle.rules.specs.Calls.{question-types, impl-query, impl-search, impl-outcome, impl-free, impl-within, in-turn, flex-searches, first-tree, is-found, import-result, unify-first, flex-results, flex-outcome, unset, plainly, flex-free, flex-within}
 use Rattle.rules.specs.FlexLaws.{All-ask, turn-asking, turn-to, turn-refused, All-stop, turn-stops}
-use Rattle.rules.specs.Check.{Checks, refusal, of-length, entry, of-sheet, of-ids, of-impl-question, of-flex-question, impl-checks, flex-checks}
-use Rattle.rules.specs.Limit.{refusal-after}
 
--- The checks: a refusal has the number of one of them.
-abbrev Numbers : (ℕ → Type 0) → Checks → Type 0
-Numbers P [] = Unit {0}
-Numbers P (c ∷ cs) = P (c .0) × Numbers P cs
-
-numbered : (P : ℕ → Type 0) (cs : Checks) → Numbers P cs → (n : ℕ) → refusal cs ≡ some n → P n
-unfolding refusal
-numbered P [] h n e = absurd (Option·none-ne-some n e)
-numbered P (c ∷ cs) h n e = go (c .1) e (numbered P cs (h .1) n)
-  where
-    go : (b : Bool) → refusal ((c .0, b) ∷ cs) ≡ some n → (refusal cs ≡ some n → P n) → P n
-    go true k ih = subst P (Option·some-injective _ _ k) (h .0)
-    go false k ih = ih k
-
--- The entry refuses with 1 to 5,
-pub entry-numbers : (s q : Words) (answer work c n : ℕ) → refusal (entry s q answer work c) ≡ some n → Between 1 5 n
-unfolding entry of-length
-entry-numbers s q answer work c n e = numbered (Between 1 5) (entry s q answer work c) (omega arith) n e
-
--- the checks between entry and search with 6 to 13.
-pub impl-check-numbers : (a : Finder) (basic : ℕ) (q : Words) (n : ℕ) → refusal (impl-checks a basic q) ≡ some n → Between 6 13 n
-unfolding impl-checks of-sheet of-ids of-impl-question
-impl-check-numbers a basic q n e = numbered (Between 6 13) (impl-checks a basic q) (omega arith) n e
-
-pub flex-check-numbers : (a : Finder) (q : Words) (n : ℕ) → refusal (flex-checks a q) ≡ some n → Between 6 13 n
-unfolding flex-checks of-sheet of-ids of-flex-question
-flex-check-numbers a q n e = numbered (Between 6 13) (flex-checks a q) (omega arith) n e
-
--- Checks that refuse leave nothing to those after them.
-pub refusal-front : (xs ys : Checks) (n : ℕ) → refusal xs ≡ some n → refusal (xs ++ ys) ≡ some n
-unfolding refusal
-refusal-front [] ys n e = absurd (Option·none-ne-some n e)
-refusal-front (x ∷ xs) ys n e = go (x .1) e (refusal-front xs ys n)
-  where
-    go : (b : Bool) → refusal ((x .0, b) ∷ xs) ≡ some n → (refusal xs ≡ some n → refusal (xs ++ ys) ≡ some n) → refusal ((x .0, b) ∷ (xs ++ ys)) ≡ some n
-    go true k ih = k
-    go false k ih = ih k
-
--- An answer is as many words as its word 3 says.
+-- An answer has its first words, 0 to 5, and is as many words as its word 3 says.
 abbrev pub Counted : Words → Type 0
-Counted ws = at ws 3 ≡ length ws
+Counted ws = (answer·length ≤ length ws) × (at ws 3 ≡ length ws)
 
 answer-counted : (t u : Trees) (inv self : Bool) (n : ℕ) (ts : Types) → Counted (answer t u inv self n ts)
 unfolding answer
@@ -87,7 +47,7 @@ impl-outcome-says s q (got (r ∷ [])) h = go (ltb limit·nodes (length (w .1)))
     go false e = rw (e, impl-outcome) (answer-counted _ _ _ _ _ _)
 
 -- The flex call's outcome after its searches: 14 to 17, 21, 24 to 26. 24 is said with the count above the limit and only then.
-abbrev Outcomes : ℕ → Type 0
+abbrev pub Outcomes : ℕ → Type 0
 Outcomes n = Between 14 17 n ⊎ Between 21 21 n ⊎ Between 25 26 n
 
 flex-results-say : (s q : Words) (rs : List (List Result)) → Says Outcomes Counted (flex-results s q rs)
@@ -171,6 +131,15 @@ unfolding question asked
 asks-one zero a basic ts q = le-refl 1
 asks-one (suc d) a basic ts q = omega arith
 
+-- Each of the flex call's four searches asks a question and stops with 14 to 19.
+all-ask : (a : Finder) (q : Words) → All-ask (flex-searches a q)
+unfolding flex-searches
+all-ask a q = (asks-one limit·depth a false _ _, (asks-one limit·depth a false _ _, (asks-one limit·depth a false _ _, (asks-one limit·depth a false _ _, tt))))
+
+all-stop : (a : Finder) (q : Words) → All-stop (flex-searches a q)
+unfolding flex-searches
+all-stop a q = (question-stops limit·depth a false _ _, (question-stops limit·depth a false _ _, (question-stops limit·depth a false _ _, (question-stops limit·depth a false _ _, tt))))
+
 module _ (L : ℕ) (a : Finder) (c : ℕ) where
   pub impl-searched : (basic : Bool) (q : Words) → Searched Impl-late L 1 c (impl-within (ltb L) a basic q c)
   unfolding impl-within impl-search
@@ -190,14 +159,6 @@ module _ (L : ℕ) (a : Finder) (c : ℕ) where
   impl-passed basic q l = ap (λ r. (impl-outcome (a .sheet) q (r .0), r .1)) (passes L (impl-search a basic q) c (asks-one limit·depth a basic _ _) l)
 
   module _ (q : Words) where
-    all-ask : All-ask (flex-searches a q)
-    unfolding flex-searches
-    all-ask = (asks-one limit·depth a false _ _, (asks-one limit·depth a false _ _, (asks-one limit·depth a false _ _, (asks-one limit·depth a false _ _, tt))))
-
-    all-stop : All-stop (flex-searches a q)
-    unfolding flex-searches
-    all-stop = (question-stops limit·depth a false _ _, (question-stops limit·depth a false _ _, (question-stops limit·depth a false _ _, (question-stops limit·depth a false _ _, tt))))
-
     -- the four in turn, and their outcome
     four : Out (List (List Result)) × ℕ
     four = in-turn (within (ltb L)) (flex-searches a q) c
@@ -214,10 +175,10 @@ module _ (L : ℕ) (a : Finder) (c : ℕ) where
     four-say = go (ltb L (four .1)) refl (four .0) refl
       where
         numbers : Refuses (Between 14 17) (four .0)
-        numbers = turn-stops (within (ltb L)) (λ r d h. within-stops In-search (omega arith) (ltb L) r d h) (flex-searches a q) c all-stop
+        numbers = turn-stops (within (ltb L)) (λ r d h. within-stops In-search (omega arith) (ltb L) r d h) (flex-searches a q) c (all-stop a q)
 
         go : (b : Bool) → ltb L (four .1) ≡ b → (o : Out (List (List Result))) → four .0 ≡ o → Four-say
-        go b u (refused n) e = inr (rw e (inl (rw e at numbers)), turn-refused L (flex-searches a q) c all-ask n e)
+        go b u (refused n) e = inr (rw e (inl (rw e at numbers)), turn-refused L (flex-searches a q) c (all-ask a q) n e)
         go true u (got rs) e = inl (rw (e, u), above L (four .1) u)
         go false u (got rs) e = inr (rw (e, u) (flex-results-say (a .sheet) q rs), at-most L (four .1) u)
 
@@ -283,3 +244,27 @@ module _ (L : ℕ) (a : Finder) (c : ℕ) where
         go : (o : Option ℕ) → unset (a .sheet) ≡ o → (((flex-within (ltb L) a q c) .0 ≡ refused n) × Between 22 23 n) ↔ (o ≡ some n)
         go (some m) e = rw (e, flex-within) (λ k. ap some (same-number m n (k .0)), λ k. (ap refused (Option·some-injective _ _ k), unset-numbers (a .sheet) n (e ∙ k)))
         go none e = rw (e, flex-within) (λ k. absurd (omega (arith, four-searched .leaves n (k .0) (k .1), four-rise)), λ k. absurd (Option·none-ne-some n k))
+
+-- Without a step limit: the impl call's search and outcome refuse with 14 to 21, the flex call's with 14 to 17, 21 to 23, 25 and 26.
+pub impl-free-says : (a : Finder) (basic : Bool) (q : Words) → Says Impl-late Counted (impl-free a basic q)
+unfolding impl-free impl-search
+impl-free-says a basic q = impl-outcome-says (a .sheet) q _ (free-stops In-search (impl-search a basic q) (question-stops limit·depth a basic _ _))
+
+abbrev pub Flex-free-late : ℕ → Type 0
+Flex-free-late n = Between 22 23 n ⊎ Outcomes n
+
+pub flex-free-says : (a : Finder) (q : Words) → Says Flex-free-late Counted (flex-free a q)
+unfolding flex-free flex-outcome
+flex-free-says a q = go (unset (a .sheet)) refl
+  where
+    outcome : (o : Out (List (List Result))) → Refuses (Between 14 17) o → Says Flex-free-late Counted (flex-outcome (a .sheet) q false o)
+    outcome (refused n) h = inr (inl h)
+    outcome (got rs) h = widen (flex-results (a .sheet) q rs) (flex-results-say (a .sheet) q rs)
+      where
+        widen : (o : Out Words) → Says Outcomes Counted o → Says Flex-free-late Counted o
+        widen (got ws) h = h
+        widen (refused n) h = inr h
+
+    go : (o : Option ℕ) → unset (a .sheet) ≡ o → Says Flex-free-late Counted (flex-free a q)
+    go (some n) e = rw (e, flex-free) (inl (unset-numbers (a .sheet) n e))
+    go none e = rw (e, flex-free) (outcome ((in-turn plainly (flex-searches a q) tt) .0) (turn-stops plainly (λ r u h. free-stops In-search r h) (flex-searches a q) tt (all-stop a q)))

@@ -1,6 +1,6 @@
 -- Laws of `Run`: one thing after another under a step limit, how far a count rises, a step limit that is not passed changes nothing, one that is passed is 18,
 -- and the numbers with which a run stops.
-use Prim.Native.Nat.{ℕ, zero, suc, _+_, _≤_, _<_, max}
+use Prim.Native.Nat.{ℕ, suc, _+_, _≤_, _<_, max}
 use mathlib.Core.Path.{_≡_, refl, sym, _∙_, ap, subst}
 use mathlib.Core.Bool.{Bool, true, false, not, true≢false}
 use native.Mathlib.Nat.{add-zero, add-suc, suc-add, le-refl, not-suc-le-zero, lt-of-not-le}
@@ -150,6 +150,11 @@ module _ {A : Type 0} (L : ℕ) where
   -- So does one that asks something and ends above the limit.
   pub passes : (r : Run A) (c : ℕ) → 1 ≤ asked r → L < (within (ltb L) r c) .1 → within (ltb L) r c ≡ (refused 18, max L c + 1)
   passes r c h l = runs-out r c h (lt-of-not-le (λ k. omega (arith, ap (λ o. o .1) (run-alike L r c .free-low k))))
+
+-- The number n is one of lo to hi.
+pub record Between (lo hi n : ℕ) : Type 0 where
+  pub least : lo ≤ n
+  pub most : n ≤ hi
 
 -- P holds of the number of every stop of a run.
 abbrev pub Stops : {A : Type 0} → (ℕ → Type 0) → Run A → Type 0

@@ -1,5 +1,5 @@
 -- A search stops with 14 to 19 and nothing else: each function of "One question" in turn.
-use Prim.Native.Nat.{ℕ, zero, suc, _≤_}
+use Prim.Native.Nat.{ℕ, zero, suc}
 use mathlib.Core.Path.{_≡_, refl}
 use mathlib.Core.Bool.{Bool, true, false}
 use mathlib.Core.List.{List, [], _∷_, _++_, map}
@@ -13,14 +13,9 @@ use Rattle.rules.specs.Layout.{tree·param, tree·def, kind·error, kind
 use Rattle.rules.specs.Sheet.{type-params, impl-generics}
 use Rattle.rules.specs.Types.{Ty, TypeState, unknown, known, Types, UnifyResult, success, failure, indeterminate, Unified, ImplType, kind, unify-impl-type, approx-eq}
 use Rattle.rules.specs.Transfer.{import-impl-type, import-impl-types}
-use Rattle.rules.specs.Run.{Run, done, stop, asks, _>>=_}
-use Rattle.rules.specs.RunLaws.{Stops, bind-stops}
+use Rattle.rules.specs.Run.{Run, done, _>>=_}
+use Rattle.rules.specs.RunLaws.{Between, Stops, bind-stops}
 use Rattle.rules.specs.Search.{end, tree, leaf, tree-size, Result, Finder, add-results, collect, check-nodes, impl-signature, impl-params, find-auto-impls, from-impl-params, get-mod-in, get-mod, inherent-mods, find-impl-candidates, find-subimpls, fresh-params, with-fresh, try-candidate, before-candidates, question}
-
--- The number n is one of lo to hi.
-pub record Between (lo hi n : ℕ) : Type 0 where
-  pub least : lo ≤ n
-  pub most : n ≤ hi
 
 -- The numbers of a search.
 abbrev pub In-search : ℕ → Type 0
