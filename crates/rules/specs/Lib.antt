@@ -29,9 +29,15 @@ pub mod UnifyKeeps
 pub mod Readings
 pub mod TransferKeeps
 pub mod FreshKeeps
+pub mod RunLaws
+pub mod CheckNumbers
+pub mod Stops
+pub mod FlexLaws
 pub mod Limit
 pub mod Rules
 pub mod Pinned
 pub mod Charts
 pub mod Witnesses
 pub mod WordLaws
+pub mod Outcomes
+pub mod Refusals

@@ -1,236 +1,171 @@
--- Demand 3: a search under a step limit that ends at or under it is the search without one.
-use Prim.Native.Nat.{ℕ, zero, suc, _+_, _-_, _≤_, _<_}
-use mathlib.Core.Path.{_≡_, refl, sym, _∙_, ap, subst}
-use mathlib.Core.Bool.{Bool, true, false, not, true≢false}
-use mathlib.Core.List.{List, [], _∷_}
-use native.Mathlib.Nat.{add-zero, add-suc, suc-add, le-refl, le-trans, add-assoc, zero-add}
-use native.Mathlib.Omega.{arith}
-use lib.Dec.{T, eqb, ltb, ltb→lt, nltb→le}
+-- Demand 3, whole, for both calls: under a step limit they give the answer of the search without one, at the cost of its questions,
+-- exactly where there is room for those questions. Nothing is assumed of sheet, question, source, generics or basic flag.
+use Prim.Native.Nat.{ℕ, _+_, _≤_, _<_}
+use mathlib.Core.Path.{_≡_, refl, sym, _∙_, ap}
+use mathlib.Core.Bool.{Bool, false}
+use mathlib.Core.List.{List, _++_}
+use mathlib.Core.Logic.{_↔_}
 use mathlib.Core.Option.{Option, none, some}
+use native.Mathlib.Nat.{add-zero, lt-of-not-le}
+use native.Mathlib.Omega.{arith}
+use lib.Dec.{eqb, ltb}
+use lib.ListN.{length, take}
+use lib.Seq.{take-append-seam}
 use Rattle.rules.specs.Lists.{Words}
-use Rattle.rules.specs.Sheet.{at}
-use Rattle.rules.specs.Search.{Result, Finder, question}
-use Rattle.rules.specs.Types.{Types, ImplType}
-use Rattle.rules.specs.Calls.{impl-search, impl-outcome, impl-free, impl-within, or-nothing, with-first, onward, in-turn, flex-searches, flex-outcome, plainly, unset, flex-free, flex-within}
-use Rattle.rules.specs.Run.{Run, done, stop, asks, Out, got, refused, free, asked, within}
+use Rattle.rules.specs.Limits.{limit·steps}
+use Rattle.rules.specs.Run.{Out, got, refused, asked}
+use Rattle.rules.specs.RunLaws.{not-above, Alike, run-alike, equal-alike, made-alike}
+use Rattle.rules.specs.FlexLaws.{asked-in-turn, turn-alike}
+use Rattle.rules.specs.Search.{Result, Finder}
+use Rattle.rules.specs.Check.{refusal, entry, impl-checks, flex-checks}
+use Rattle.rules.specs.CheckNumbers.{refusal-after}
+use Rattle.rules.specs.Calls.{impl-search, impl-outcome, impl-free, impl-within, flex-searches, flex-outcome, unset, flex-free, flex-within, free-find-impl, free-find-flex, try-find-impl, find-flex, answer-after}
 
--- the same run, read with no limit
-abbrev pub freely : {A : Type 0} → Run A → ℕ → Out A × ℕ
-freely r c = (free r, c + asked r)
+-- How many questions the search without a step limit asks: none where a check between entry and search refuses;
+unfoldable pub asked-find-impl : Finder → ℕ → Words → ℕ
+asked-find-impl a basic q = elim (refusal (impl-checks a basic q)) [ some n ↦ 0 | none ↦ asked (impl-search a (eqb basic 1) q) ]
 
-module _ {A : Type 0} (over : ℕ → Bool) where
-  -- a count never falls
-  pub rises : (r : Run A) (c : ℕ) → c ≤ (within over r c) .1
-  unfolding within
-  rises (done a) c = le-refl c
-  rises (stop n) c = le-refl c
-  rises (asks r) c = go (over (suc c)) refl (rises r (suc c))
-    where
-      go : (b : Bool) → over (suc c) ≡ b → suc c ≤ (within over r (suc c)) .1 → c ≤ (within over (asks r) c) .1
-      go true e ih = rw (e, within) (omega arith)
-      go false e ih = rw (e, within) (omega arith)
+-- in the flex call none either where Fork or Drop is unset (22, 23), else those of the four searches in turn.
+unfoldable pub asked-flex : Finder → Words → ℕ
+asked-flex a q = elim (unset (a .sheet)) [ some n ↦ 0 | none ↦ asked-in-turn (flex-searches a q) ]
 
-  pub agrees : (r : Run A) (c : ℕ) → over ((within over r c) .1) ≡ false → within over r c ≡ freely r c
-  unfolding within free asked
-  agrees (done a) c h = λ i. (got a, sym (add-zero c) i)
-  agrees (stop n) c h = λ i. (refused n, sym (add-zero c) i)
-  agrees (asks r) c h = go (over (suc c)) refl (agrees r (suc c)) h
-    where
-      go : (b : Bool) → over (suc c) ≡ b → (over ((within over r (suc c)) .1) ≡ false → within over r (suc c) ≡ freely r (suc c)) → over ((within over (asks r) c) .1) ≡ false → within over (asks r) c ≡ freely (asks r) c
-      go true e ih h = absurd (true≢false (sym e ∙ rw (e, within) at h))
-      go false e ih h = rw (e, within) (ih (rw (e, within) at h) ∙ λ i. (free r, (suc-add c (asked r) ∙ sym (add-suc c (asked r))) i))
+unfoldable pub asked-find-flex : Finder → Words → ℕ
+asked-find-flex a q = elim (refusal (flex-checks a q)) [ some n ↦ 0 | none ↦ asked-flex a q ]
 
-  -- and where the limit leaves room for all that is asked, it acyclic under it
-  pub enough : (r : Run A) (c : ℕ) → ((n : ℕ) → c < n → n ≤ c + asked r → over n ≡ false) → within over r c ≡ freely r c
-  unfolding within free asked
-  enough (done a) c h = λ i. (got a, sym (add-zero c) i)
-  enough (stop n) c h = λ i. (refused n, sym (add-zero c) i)
-  enough (asks r) c h =
-      rw (h (suc c) (omega arith) (omega (arith, add-suc c (asked r))), within)
-      (enough r (suc c) (λ n lo hi. h n (omega arith) (omega (arith, suc-add c (asked r), add-suc c (asked r)))) ∙ λ i. (free r, (suc-add c (asked r) ∙ sym (add-suc c (asked r))) i))
+-- A call past the entry checks: sheet, question, the buffers as they are before, and the start count.
+abbrev pub Enters : Finder → Words → Words → Words → ℕ → Type 0
+Enters a q answer work c = refusal (entry (a .sheet) q (length answer) (length work) c) ≡ none
 
--- the impl call
-pub impl-agrees : (over : ℕ → Bool) (a : Finder) (basic : Bool) (q : Words) (c : ℕ) → over ((impl-within over a basic q c) .1) ≡ false → impl-within over a basic q c ≡ (impl-free a basic q, c + asked (impl-search a basic q))
+-- One run, from the count c under the step limit L, where the search without one comes to `free` after `asked` questions:
+pub record Demand3-one (L : ℕ) (free : Out Words) (asked c : ℕ) (run : Out Words × ℕ) : Type 0 where
+  -- if it ends at the limit or below, its answer is exactly that of the search with no step limit, a refusal included,
+  pub answer : run .1 ≤ L → run .0 ≡ free
+  -- and it ends at its start + the number of questions that search asks;
+  pub end : run .1 ≤ L → run .1 ≡ c + asked
+  -- it ends above the limit exactly when that sum is above it.
+  pub above : (L < run .1) ↔ (L < c + asked)
+
+-- Two runs, Short from c under the step limit L and Long from c′:
+pub record Demand3 (L : ℕ) (free : Out Words) (asked c c′ : ℕ) (short long : Out Words × ℕ) : Type 0 where
+  -- if Short ends at the limit or below, both answers are exactly that of the search with no step limit, a refusal included,
+  pub answers : short .1 ≤ L → (short .0 ≡ free) × (long .0 ≡ free)
+  -- and each ends at its start + the number of questions that search asks;
+  pub ends : short .1 ≤ L → (short .1 ≡ c + asked) × (long .1 ≡ c′ + asked)
+  -- Short ends above the limit exactly when its start + that number is above it.
+  pub above : (L < short .1) ↔ (L < c + asked)
+
+one-run : (L : ℕ) (free : Out Words) (asked c : ℕ) (run : Out Words × ℕ) → Alike L run (free, c + asked) → Demand3-one L free asked c run
+one-run L free asked c run h = record {
+  answer = λ l. ap (λ o. o .0) (h .run-low l);
+  end = λ l. ap (λ o. o .1) (h .run-low l);
+  above = (λ l. lt-of-not-le (λ k. omega (arith, ap (λ o. o .1) (h .free-low k))), λ l. lt-of-not-le (λ k. omega (arith, ap (λ o. o .1) (h .run-low k))));
+}
+
+-- Long has at least as many steps left as Short.
+two-runs : (L L′ : ℕ) (free : Out Words) (asked c c′ : ℕ) (short long : Out Words × ℕ) → L + c′ ≤ L′ + c → Demand3-one L free asked c short → Alike L′ long (free, c′ + asked) → Demand3 L free asked c c′ short long
+two-runs L L′ free asked c c′ short long room s h = record {
+  answers = λ l. (s .answer l, ap (λ o. o .0) (same l));
+  ends = λ l. (s .end l, ap (λ o. o .1) (same l));
+  above = s .above;
+}
+  where
+    same : short .1 ≤ L → long ≡ (free, c′ + asked)
+    same l = h .free-low (omega (arith, s .end l))
+
+nothing-asked : (L n c : ℕ) → Alike {A = Words} L (refused n, c) (refused n, c + 0)
+nothing-asked L n c = equal-alike L (λ i. (refused n, sym (add-zero c) i))
+
+-- The searches with their outcomes, under the step limit L and without one.
+impl-alike : (L : ℕ) (a : Finder) (basic : Bool) (q : Words) (c : ℕ) → Alike L (impl-within (ltb L) a basic q c) (impl-free a basic q, c + asked (impl-search a basic q))
 unfolding impl-within impl-free
-impl-agrees over a basic q c h = ap (λ r. (impl-outcome (a .sheet) q (r .0), r .1)) (agrees over (impl-search a basic q) c h)
+impl-alike L a basic q c = made-alike L (impl-outcome (a .sheet) q) (run-alike L (impl-search a basic q) c)
 
-pub impl-enough : (over : ℕ → Bool) (a : Finder) (basic : Bool) (q : Words) (c : ℕ) → ((n : ℕ) → c < n → n ≤ c + asked (impl-search a basic q) → over n ≡ false) → impl-within over a basic q c ≡ (impl-free a basic q, c + asked (impl-search a basic q))
-unfolding impl-within impl-free
-impl-enough over a basic q c h = ap (λ r. (impl-outcome (a .sheet) q (r .0), r .1)) (enough over (impl-search a basic q) c h)
-
-abbrev Carry : Type 0
-Carry = Out (List (List Result)) × ℕ
-
-onward-rises : (rest : ℕ → Carry) → ((d : ℕ) → d ≤ (rest d) .1) → (o : Out (List Result) × ℕ) → o .1 ≤ (onward rest o) .1
-unfolding onward
-onward-rises rest h o = go (or-nothing (o .0)) refl
+flex-alike : (L : ℕ) (a : Finder) (q : Words) (c : ℕ) → Alike L (flex-within (ltb L) a q c) (flex-free a q, c + asked-flex a q)
+unfolding flex-within flex-free asked-flex
+flex-alike L a q c = go (unset (a .sheet)) refl
   where
-    go : (w : Out (List Result)) → or-nothing (o .0) ≡ w → o .1 ≤ (onward rest o) .1
-    go (got fs) e = rw (e, onward) (h (o .1))
-    go (refused n) e = rw (e, onward) (le-refl (o .1))
+    -- 24 only with the count above the limit
+    ended : {run free : Out (List (List Result)) × ℕ} → Alike L run free → Alike L (flex-outcome (a .sheet) q (ltb L (run .1)) (run .0), run .1) (flex-outcome (a .sheet) q false (free .0), free .1)
+    ended {run} {free} h = record { run-low = λ l. same (h .run-low l) l; free-low = λ l. same (h .free-low l) (rw (h .free-low l) l) }
+      where
+        same : run ≡ free → run .1 ≤ L → _≡_ {A = Out Words × ℕ} (flex-outcome (a .sheet) q (ltb L (run .1)) (run .0), run .1) (flex-outcome (a .sheet) q false (free .0), free .1)
+        same e l = rw (not-above L (run .1) l) (ap (λ o. (flex-outcome (a .sheet) q false (o .0), o .1)) e)
 
-onward-same : (rest rest′ : ℕ → Carry) (over : ℕ → Bool) → ((d : ℕ) → over ((rest d) .1) ≡ false → rest d ≡ rest′ d) → (o : Out (List Result) × ℕ) → over ((onward rest o) .1) ≡ false → onward rest o ≡ onward rest′ o
-unfolding onward
-onward-same rest rest′ over same o h = go (or-nothing (o .0)) refl h
+    go : (o : Option ℕ) → unset (a .sheet) ≡ o → Alike L (flex-within (ltb L) a q c) (flex-free a q, c + asked-flex a q)
+    go (some n) e = rw (e, flex-within, flex-free, asked-flex) (nothing-asked L n c)
+    go none e = rw (e, flex-within, flex-free, asked-flex) (ended (turn-alike L (flex-searches a q) c))
+
+-- The whole calls, past the entry checks.
+module _ (L : ℕ) (a : Finder) (q answer work : Words) (c : ℕ) (past : Enters a q answer work c) where
+  whole-impl-alike : (basic : ℕ) → Alike L (try-find-impl L a basic q (length answer) (length work) c) (free-find-impl a basic q, c + asked-find-impl a basic q)
+  unfolding try-find-impl free-find-impl asked-find-impl
+  whole-impl-alike basic = go (refusal (impl-checks a basic q)) (refusal-after (entry (a .sheet) q (length answer) (length work) c) (impl-checks a basic q) past) refl
+    where
+      go : (o : Option ℕ) → refusal (entry (a .sheet) q (length answer) (length work) c ++ impl-checks a basic q) ≡ o → refusal (impl-checks a basic q) ≡ o →
+          Alike L (try-find-impl L a basic q (length answer) (length work) c) (free-find-impl a basic q, c + asked-find-impl a basic q)
+      go (some n) e f = rw (e, f, try-find-impl, free-find-impl, asked-find-impl) (nothing-asked L n c)
+      go none e f = rw (e, f, try-find-impl, free-find-impl, asked-find-impl) (impl-alike L a (eqb basic 1) q c)
+
+  whole-flex-alike : Alike L (find-flex L a q (length answer) (length work) c) (free-find-flex a q, c + asked-find-flex a q)
+  unfolding find-flex free-find-flex asked-find-flex
+  whole-flex-alike = go (refusal (flex-checks a q)) (refusal-after (entry (a .sheet) q (length answer) (length work) c) (flex-checks a q) past) refl
+    where
+      go : (o : Option ℕ) → refusal (entry (a .sheet) q (length answer) (length work) c ++ flex-checks a q) ≡ o → refusal (flex-checks a q) ≡ o →
+          Alike L (find-flex L a q (length answer) (length work) c) (free-find-flex a q, c + asked-find-flex a q)
+      go (some n) e f = rw (e, f, find-flex, free-find-flex, asked-find-flex) (nothing-asked L n c)
+      go none e f = rw (e, f, find-flex, free-find-flex, asked-find-flex) (flex-alike L a q c)
+
+  -- Demand 3 of one run past the entry checks, under any step limit.
+  pub demand-3-impl-one : (basic : ℕ) → Demand3-one L (free-find-impl a basic q) (asked-find-impl a basic q) c (try-find-impl L a basic q (length answer) (length work) c)
+  demand-3-impl-one basic = one-run L _ _ c _ (whole-impl-alike basic)
+
+  pub demand-3-flex-one : Demand3-one L (free-find-flex a q) (asked-find-flex a q) c (find-flex L a q (length answer) (length work) c)
+  demand-3-flex-one = one-run L _ _ c _ whole-flex-alike
+
+-- Demand 3 of two runs alike in all but start count, what the buffers hold, and here the step limit too:
+-- both past the entry checks, and Long with at least as many steps left, L - c ≤ L′ - c′ (written without subtraction). With one step limit that is c′ ≤ c.
+module _ (L L′ : ℕ) (a : Finder) (q answer work answer′ work′ : Words) (c c′ : ℕ) (past : Enters a q answer work c) (past′ : Enters a q answer′ work′ c′) (room : L + c′ ≤ L′ + c) where
+  pub demand-3-impl : (basic : ℕ) →
+      Demand3 L (free-find-impl a basic q) (asked-find-impl a basic q) c c′
+      (try-find-impl L a basic q (length answer) (length work) c)
+      (try-find-impl L′ a basic q (length answer′) (length work′) c′)
+  demand-3-impl basic = two-runs L L′ _ _ c c′ _ _ room (demand-3-impl-one L a q answer work c past basic) (whole-impl-alike L′ a q answer′ work′ c′ past′ basic)
+
+  pub demand-3-flex :
+      Demand3 L (free-find-flex a q) (asked-find-flex a q) c c′
+      (find-flex L a q (length answer) (length work) c)
+      (find-flex L′ a q (length answer′) (length work′) c′)
+  demand-3-flex = two-runs L L′ _ _ c c′ _ _ room (demand-3-flex-one L a q answer work c past) (whole-flex-alike L′ a q answer′ work′ c′ past′)
+
+-- Demand 3 in its own words, with the step limit 2,000. One run: if it ends at 2,000 or below, it gives exactly the answer of the search with no step limit
+-- and ends at start + the number of questions that search asks; it ends above 2,000 exactly when that sum is above 2,000.
+module _ (a : Finder) (q answer work : Words) (c : ℕ) (past : Enters a q answer work c) where
+  pub one-try-find-impl : (basic : ℕ) → Demand3-one 2000 (free-find-impl a basic q) (asked-find-impl a basic q) c (try-find-impl limit·steps a basic q (length answer) (length work) c)
+  one-try-find-impl basic = demand-3-impl-one limit·steps a q answer work c past basic
+
+  pub one-find-flex : Demand3-one 2000 (free-find-flex a q) (asked-find-flex a q) c (find-flex limit·steps a q (length answer) (length work) c)
+  one-find-flex = demand-3-flex-one limit·steps a q answer work c past
+
+-- Two runs alike in all but start count and what the buffers hold, past the entry checks: Short starts with at least as many steps spent.
+module _ (a : Finder) (q answer work answer′ work′ : Words) (c c′ : ℕ) (past : Enters a q answer work c) (past′ : Enters a q answer′ work′ c′) (spent : c′ ≤ c) where
+  pub demand-3-try-find-impl : (basic : ℕ) →
+      Demand3 2000 (free-find-impl a basic q) (asked-find-impl a basic q) c c′
+      (try-find-impl limit·steps a basic q (length answer) (length work) c)
+      (try-find-impl limit·steps a basic q (length answer′) (length work′) c′)
+  demand-3-try-find-impl basic = demand-3-impl limit·steps limit·steps a q answer work answer′ work′ c c′ past past′ (omega arith) basic
+
+  pub demand-3-find-flex :
+      Demand3 2000 (free-find-flex a q) (asked-find-flex a q) c c′
+      (find-flex limit·steps a q (length answer) (length work) c)
+      (find-flex limit·steps a q (length answer′) (length work′) c′)
+  demand-3-find-flex = demand-3-flex limit·steps limit·steps a q answer work answer′ work′ c c′ past past′ (omega arith)
+
+-- What the buffers hold after is a function of the outcome and of what they held (`answer-after`, `work-after`).
+-- So if Short ends at the limit or below with an answer, both answer buffers begin with its words.
+pub same-words : {L : ℕ} {free : Out Words} {asked c c′ : ℕ} {short long : Out Words × ℕ} → Demand3 L free asked c c′ short long → (answer answer′ ws : Words) → short .1 ≤ L → short .0 ≡ got ws →
+    (take (length ws) (answer-after (short .0) answer) ≡ ws) × (take (length ws) (answer-after (long .0) answer′) ≡ ws)
+unfolding answer-after
+same-words d answer answer′ ws l e = (begins answer _ e, begins answer′ _ (d .answers l .1 ∙ sym (d .answers l .0) ∙ e))
   where
-    go : (w : Out (List Result)) → or-nothing (o .0) ≡ w → over ((onward rest o) .1) ≡ false → onward rest o ≡ onward rest′ o
-    go (got fs) e k = rw (e, onward) (ap (λ q. (with-first fs (q .0), q .1)) (same (o .1) (rw (e, onward) at k)))
-    go (refused n) e k = rw (e, onward)
-
-module _ (over : ℕ → Bool) (up : (c d : ℕ) → c ≤ d → over d ≡ false → over c ≡ false) where
-  turn-rises : (rs : List (Run (List Result))) (c : ℕ) → c ≤ (in-turn (within over) rs c) .1
-  unfolding in-turn
-  turn-rises [] c = le-refl c
-  turn-rises (r ∷ rs) c = le-trans (rises over r c) (onward-rises (in-turn (within over) rs) (turn-rises rs) (within over r c))
-
-  turn-agrees : (rs : List (Run (List Result))) (c : ℕ) → over ((in-turn (within over) rs c) .1) ≡ false → in-turn (within over) rs c ≡ in-turn freely rs c
-  unfolding in-turn
-  turn-agrees [] c h = refl
-  turn-agrees (r ∷ rs) c h =
-      let rest = in-turn (within over) rs in
-      let e = agrees over r c (up ((within over r c) .1) ((onward rest (within over r c)) .1) (onward-rises rest (turn-rises rs) (within over r c)) h) in
-      onward-same rest (in-turn freely rs) over (turn-agrees rs) (within over r c) h ∙ ap (onward (in-turn freely rs)) e
-
--- how many questions the four ask
-pub askedIn : List (Run (List Result)) → ℕ
-askedIn rs = (in-turn freely rs 0) .1
-
-onward-shift : (rest : ℕ → Carry) (plain : Unit {0} → Out (List (List Result)) × Unit {0}) → ((c : ℕ) → rest c ≡ ((plain tt) .0, c + (rest 0) .1)) → (o : Out (List Result)) (c n : ℕ) → onward rest (o, c + n) ≡ ((onward plain (o, tt)) .0, c + (onward rest (o, n)) .1)
-unfolding onward
-onward-shift rest plain h o c n = go (or-nothing o) refl
-  where
-    K : ℕ
-    K = (rest 0) .1
-
-    sum : c + n + K ≡ c + (rest n) .1
-    sum = add-assoc c n K ∙ ap (λ m. c + m) (sym (ap (λ q. q .1) (h n)))
-
-    go : (w : Out (List Result)) → or-nothing o ≡ w → onward rest (o, c + n) ≡ ((onward plain (o, tt)) .0, c + (onward rest (o, n)) .1)
-    go (got fs) e = rw (e, onward) (ap (λ q. (with-first fs (q .0), q .1)) (h (c + n)) ∙ λ i. (with-first fs ((plain tt) .0), sum i))
-    go (refused k) e = rw (e, onward)
-
-turn-shift : (rs : List (Run (List Result))) (c : ℕ) → in-turn freely rs c ≡ ((in-turn plainly rs tt) .0, c + askedIn rs)
-unfolding in-turn askedIn
-turn-shift [] c = λ i. (got [], sym (add-zero c) i)
-turn-shift (r ∷ rs) c =
-    onward-shift (in-turn freely rs) (in-turn plainly rs) (turn-shift rs) (free r) c (asked r)
-    ∙ λ i. ((onward (in-turn plainly rs) (free r, tt)) .0, c + (onward (in-turn freely rs) (free r, sym (zero-add (asked r)) i)) .1)
-
--- the flex call
-pub flexAsked : Finder → Words → ℕ
-flexAsked a q = elim (unset (a .sheet)) [ some n ↦ 0 | none ↦ askedIn (flex-searches a q) ]
-
-pub flex-agrees : (over : ℕ → Bool) (up : (c d : ℕ) → c ≤ d → over d ≡ false → over c ≡ false) (a : Finder) (q : Words) (c : ℕ) → over ((flex-within over a q c) .1) ≡ false → flex-within over a q c ≡ (flex-free a q, c + flexAsked a q)
-unfolding flex-within flex-free flexAsked
-flex-agrees over up a q c h = go (unset (a .sheet)) refl h
-  where
-    rs : List (Run (List Result))
-    rs = flex-searches a q
-
-    end : Carry → Out Words × ℕ
-    end r = (flex-outcome (a .sheet) q (over (r .1)) (r .0), r .1)
-
-    acyclic : over ((in-turn (within over) rs c) .1) ≡ false → end (in-turn (within over) rs c) ≡ (flex-outcome (a .sheet) q false ((in-turn plainly rs tt) .0), c + askedIn rs)
-    acyclic k =
-        let e = turn-agrees over up rs c k ∙ turn-shift rs c in
-        ap end e ∙ λ i. (flex-outcome (a .sheet) q ((sym (ap (λ r. over (r .1)) e) ∙ k) i) ((in-turn plainly rs tt) .0), c + askedIn rs)
-
-    go : (o : Option ℕ) → unset (a .sheet) ≡ o → over ((flex-within over a q c) .1) ≡ false → flex-within over a q c ≡ (flex-free a q, c + flexAsked a q)
-    go (some n) e k = rw (e, flex-within, flex-free, flexAsked) (λ i. (refused n, sym (add-zero c) i))
-    go none e k = rw (e, flex-within, flex-free, flexAsked) (acyclic (rw (e, flex-within) at k))
-
--- the limit L: over is above it
-abbrev pub past : ℕ → ℕ → Bool
-past L c = ltb L c
-
-past-false : (L n : ℕ) → n ≤ L → past L n ≡ false
-past-false L n h = go (past L n) refl
-  where
-    go : (b : Bool) → past L n ≡ b → past L n ≡ false
-    go true e = absurd (omega (arith, ltb→lt L n (subst T (sym e) tt)))
-    go false e = e
-
--- and where a limit leaves room for all that the four ask
-onward-enough : (rest rest′ : ℕ → Carry) (over : ℕ → Bool) (c : ℕ) (o : Out (List Result) × ℕ) → ((n : ℕ) → c < n → n ≤ (onward rest′ o) .1 → over n ≡ false) → (((n : ℕ) → c < n → n ≤ (rest′ (o .1)) .1 → over n ≡ false) → rest (o .1) ≡ rest′ (o .1)) → onward rest o ≡ onward rest′ o
-unfolding onward
-onward-enough rest rest′ over c o h same = go (or-nothing (o .0)) refl h
-  where
-    go : (w : Out (List Result)) → or-nothing (o .0) ≡ w → ((n : ℕ) → c < n → n ≤ (onward rest′ o) .1 → over n ≡ false) → onward rest o ≡ onward rest′ o
-    go (got fs) e k = rw (e, onward) (ap (λ q. (with-first fs (q .0), q .1)) (same (rw (e, onward) at k)))
-    go (refused n) e k = rw (e, onward)
-
-turn-up : (rs : List (Run (List Result))) (c : ℕ) → c ≤ (in-turn freely rs c) .1
-unfolding in-turn
-turn-up [] c = le-refl c
-turn-up (r ∷ rs) c = le-trans (omega arith) (onward-rises (in-turn freely rs) (turn-up rs) (freely r c))
-
-turn-enough : (over : ℕ → Bool) (rs : List (Run (List Result))) (c : ℕ) → ((n : ℕ) → c < n → n ≤ (in-turn freely rs c) .1 → over n ≡ false) → in-turn (within over) rs c ≡ in-turn freely rs c
-unfolding in-turn
-turn-enough over [] c h = refl
-turn-enough over (r ∷ rs) c h =
-    let first-tree = enough over r c (λ n lo hi. h n lo (le-trans hi (onward-rises (in-turn freely rs) (turn-up rs) (freely r c)))) in
-    ap (onward (in-turn (within over) rs)) first-tree
-    ∙ onward-enough (in-turn (within over) rs) (in-turn freely rs) over c (freely r c) h (λ k. turn-enough over rs (c + asked r) (λ n lo hi. k n (omega arith) hi))
-
--- a question is asked
-asks-one : (d : ℕ) (a : Finder) (basic : Bool) (ts : Types) (q : ImplType) → 1 ≤ asked (question d a basic ts q)
-unfolding question asked
-asks-one zero a basic ts q = le-refl 1
-asks-one (suc d) a basic ts q = omega arith
-
-first-asks : (r : Run (List Result)) (rs : List (Run (List Result))) → 1 ≤ asked r → 1 ≤ askedIn (r ∷ rs)
-unfolding askedIn in-turn
-first-asks r rs h = le-trans (rw zero-add h) (onward-rises (in-turn freely rs) (turn-up rs) (freely r 0))
-
-turn-asks : (a : Finder) (q : Words) → 1 ≤ askedIn (flex-searches a q)
-unfolding flex-searches
-turn-asks a q = first-asks _ _ (asks-one 16 a false _ _)
-
-pub flex-enough : (L : ℕ) (a : Finder) (q : Words) (c : ℕ) → flexAsked a q ≤ L - c → flex-within (past L) a q c ≡ (flex-free a q, c + flexAsked a q)
-unfolding flex-within flex-free flexAsked
-flex-enough L a q c room = go (unset (a .sheet)) refl room
-  where
-    rs : List (Run (List Result))
-    rs = flex-searches a q
-
-    end : Carry → Out Words × ℕ
-    end r = (flex-outcome (a .sheet) q (past L (r .1)) (r .0), r .1)
-
-    acyclic : askedIn rs ≤ L - c → end (in-turn (within (past L)) rs c) ≡ (flex-outcome (a .sheet) q false ((in-turn plainly rs tt) .0), c + askedIn rs)
-    acyclic k =
-        let e = turn-enough (past L) rs c (λ n lo hi. past-false L n (omega (arith, ap (λ r. r .1) (turn-shift rs c)))) ∙ turn-shift rs c in
-        ap end e ∙ λ i. (flex-outcome (a .sheet) q (past-false L (c + askedIn rs) (omega (arith, turn-asks a q)) i) ((in-turn plainly rs tt) .0), c + askedIn rs)
-
-    go : (o : Option ℕ) → unset (a .sheet) ≡ o → flexAsked a q ≤ L - c → flex-within (past L) a q c ≡ (flex-free a q, c + flexAsked a q)
-    go (some n) e k = rw (e, flex-within, flex-free, flexAsked) (λ i. (refused n, sym (add-zero c) i))
-    go none e k = rw (e, flex-within, flex-free, flexAsked) (acyclic (rw (e, flexAsked) at k))
-
-past-up : (L c d : ℕ) → c ≤ d → past L d ≡ false → past L c ≡ false
-past-up L c d h e = past-false L c (le-trans h (nltb→le L d (subst (λ b. T (not b)) (sym e) tt)))
-
--- Demand 3 for the flex call
-pub flex-demand : (L L′ : ℕ) (a : Finder) (q : Words) (c c′ : ℕ) → (flex-within (past L) a q c) .1 ≤ L → L - c ≤ L′ - c′ →
-    ((flex-within (past L) a q c) .0 ≡ flex-free a q) × ((flex-within (past L′) a q c′) .0 ≡ (flex-within (past L) a q c) .0) × ((flex-within (past L′) a q c′) .1 + c ≡ (flex-within (past L) a q c) .1 + c′)
-flex-demand L L′ a q c c′ h room =
-    (ap (λ r. r .0) short, ap (λ r. r .0) long ∙ sym (ap (λ r. r .0) short), omega (arith, ap (λ r. r .1) long, ap (λ r. r .1) short))
-  where
-    short : flex-within (past L) a q c ≡ (flex-free a q, c + flexAsked a q)
-    short = flex-agrees (past L) (past-up L) a q c (past-false L _ h)
-
-    long : flex-within (past L′) a q c′ ≡ (flex-free a q, c′ + flexAsked a q)
-    long = flex-enough L′ a q c′ (omega (arith, ap (λ r. r .1) short))
-
--- Demand 3 for the impl call: Short ends at or under its limit, and Long has at least as many steps left
-pub impl-demand : (L L′ : ℕ) (a : Finder) (basic : Bool) (q : Words) (c c′ : ℕ) → (impl-within (past L) a basic q c) .1 ≤ L → L - c ≤ L′ - c′ →
-    ((impl-within (past L) a basic q c) .0 ≡ impl-free a basic q) × ((impl-within (past L′) a basic q c′) .0 ≡ (impl-within (past L) a basic q c) .0) × ((impl-within (past L′) a basic q c′) .1 + c ≡ (impl-within (past L) a basic q c) .1 + c′)
-impl-demand L L′ a basic q c c′ h room =
-    (ap (λ r. r .0) short, ap (λ r. r .0) long ∙ sym (ap (λ r. r .0) short), omega (arith, ap (λ r. r .1) long, ap (λ r. r .1) short))
-  where
-    k : ℕ
-    k = asked (impl-search a basic q)
-
-    short : impl-within (past L) a basic q c ≡ (impl-free a basic q, c + k)
-    short = impl-agrees (past L) a basic q c (past-false L _ h)
-
-    long : impl-within (past L′) a basic q c′ ≡ (impl-free a basic q, c′ + k)
-    long = impl-enough (past L′) a basic q c′ (λ n lo hi. past-false L′ n (omega (arith, ap (λ r. r .1) short)))
+    begins : (buf : Words) (o : Out Words) → o ≡ got ws → take (length ws) (answer-after o buf) ≡ ws
+    begins buf o e = rw e (take-append-seam ws _)
