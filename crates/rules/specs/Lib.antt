@@ -30,3 +30,6 @@ pub mod Readings
 pub mod TransferKeeps
 pub mod FreshKeeps
 pub mod Limit
+pub mod Members
+pub mod CheckLaws
+pub mod AncestorLaws
