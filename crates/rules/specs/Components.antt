@@ -54,7 +54,7 @@ rows-below [] x e h = absurd (in-empty h)
 rows-below (es ∷ g) zero e h = zero-lt-suc (length g)
 rows-below (es ∷ g) (suc x) e h = suc-le-suc (rows-below g x e h)
 
-linked-from : (s : Words) (x y : ℕ) → T (linked (graph s) x y) → x < node-count s
+pub linked-from : (s : Words) (x y : ℕ) → T (linked (graph s) x y) → x < node-count s
 unfolding linked
 linked-from s x y t = let r = (any-in (λ (e : Edge). eqb (e .1) y) (getD (graph s) x [])) .0 t in subst (λ n. x < n) (graph-length s) (rows-below (graph s) x (r .0) (r .1))
 

@@ -33,3 +33,4 @@ pub mod Limit
 pub mod Members
 pub mod CheckLaws
 pub mod AncestorLaws
+pub mod Admission

@@ -1,7 +1,7 @@
 -- What stands in a list, and lists that rise: what the tests and the selections of Lists say of them.
 use Prim.Native.Nat.{ℕ, zero, suc, _+_, _≤_, _<_}
 use mathlib.Core.Path.{_≡_, refl, sym, _∙_, ap, subst}
-use mathlib.Core.Bool.{Bool, true, false, _&&_, _||_}
+use mathlib.Core.Bool.{Bool, true, false, not, _&&_}
 use mathlib.Core.List.{List, [], _∷_}
 use mathlib.Core.Logic.{_⊎_, inl, inr, _↔_}
 use native.Mathlib.Nat.{not-suc-le-zero, le-of-suc-le-suc, eq-or-lt-of-le}
@@ -15,10 +15,10 @@ pub and-iff : (a b : Bool) → T (a && b) ↔ (T a × T b)
 and-iff true b = (λ h. (tt, h), λ h. h .1)
 and-iff false b = (λ h. absurd h, λ h. h .0)
 
--- A test that passed, as an equation.
-pub T-true : (b : Bool) → T b ↔ (b ≡ true)
-T-true true = (λ t. refl, λ e. tt)
-T-true false = (λ t. absurd t, λ e. subst T (sym e) tt)
+-- A test does not hold.
+pub not-iff : (b : Bool) → T (not b) ↔ (b ≡ false)
+not-iff true = (λ t. absurd t, λ e. subst (λ b. T (not b)) (sym e) tt)
+not-iff false = (λ t. refl, λ e. tt)
 
 module _ {A : Type 0} where
   -- x stands in a list.
