@@ -34,3 +34,4 @@ pub mod Members
 pub mod CheckLaws
 pub mod AncestorLaws
 pub mod Admission
+pub mod SheetFuel
