@@ -1,22 +1,21 @@
 -- Admission as document 01 words it, and that the candidates computed are the impls so admitted, by id. For every checked sheet.
-use Prim.Native.Nat.{ℕ, zero, suc, _+_, _*_, _/_, _%_, _≤_, _<_}
-use mathlib.Core.Path.{_≡_, refl, sym, _∙_, ap, subst}
+use Prim.Native.Nat.{ℕ, zero, suc, _+_, _/_, _%_, _<_}
+use mathlib.Core.Path.{_≡_, refl, sym, subst}
 use mathlib.Core.Bool.{Bool, true, false, not, _&&_}
-use mathlib.Core.List.{List, [], _∷_}
+use mathlib.Core.List.{[], _∷_}
 use mathlib.Core.Logic.{_⊎_, inl, inr, ⊎-elim, _↔_, _≢_}
-use native.Mathlib.Nat.{zero-add}
 use native.Mathlib.Omega.{arith}
 use lib.Dec.{T, eqb, eqb→eq, eqb-refl, T-not, not-T}
-use lib.ListN.{length, getD}
-use Rattle.rules.specs.Lists.{Words, any, select, range, optional, is-in}
+use lib.ListN.{length}
+use Rattle.rules.specs.Lists.{Words, any, range, optional}
 use Rattle.rules.specs.Layout.{header·definitions, header·traits, header·impls, binding·vis, binding·impl, flag·manual, flag·basic, flag·unsafe, flag·named}
 use Rattle.rules.specs.Sheet.{at, many, bindings, trait-def, impl-flag, impl-trait}
-use Rattle.rules.specs.Reach.{Marks, marked, closure, marks-of}
+use Rattle.rules.specs.Reach.{marked, marks-of}
 use Rattle.rules.specs.Candidates.{direct, within-def, within-ancestors, Edge, edges, node-count, graph, linked, same-component, ancestors, visible, open-edge, may-take, binds, may-enter, gets-to, admitted, get-candidates, general-candidates}
 use Rattle.rules.specs.Members.{In, first, later, in-cases, in-empty, any-in, and-iff, not-iff, is-in-in, select-in, range-in, Rising, range-rising, select-rising}
 use Rattle.rules.specs.ReachLaws.{From, here, then, closure-paths, marks-in, marks-length}
 use Rattle.rules.specs.CheckLaws.{Checked, passed}
-use Rattle.rules.specs.CheckedSheet.{Valid, valid, graph-length, graph-at, trait-def-in, binding-impl-in}
+use Rattle.rules.specs.CheckedSheet.{valid, graph-length, graph-at, trait-def-in, binding-impl-in}
 use Rattle.rules.specs.AncestorLaws.{Ancestor, ancestors-in}
 use Rattle.rules.specs.Components.{EdgeFrom, Reaches, arrived, along, Together, reaches-on, linked-edge, linked-from, edge-to, linked-to, components}
 

@@ -2,9 +2,8 @@
 use Prim.Native.Nat.{ℕ, zero, suc, _+_, _≤_, _<_}
 use mathlib.Core.Path.{_≡_, refl, sym, _∙_, ap, subst}
 use mathlib.Core.List.{[], _∷_}
-use mathlib.Core.Option.{none, some}
 use mathlib.Core.Logic.{_⊎_, inl, inr, _↔_}
-use native.Mathlib.Nat.{le-of-suc-le-suc, not-suc-le-zero, zero-add, suc-add}
+use native.Mathlib.Nat.{not-suc-le-zero, zero-add, suc-add}
 use native.Mathlib.Omega.{arith}
 use Rattle.rules.specs.Lists.{Words, optional}
 use Rattle.rules.specs.Layout.{header·definitions}
@@ -12,7 +11,7 @@ use Rattle.rules.specs.Sheet.{many, parent}
 use Rattle.rules.specs.Candidates.{ancestors-of, ancestors}
 use Rattle.rules.specs.Members.{In, first, later, in-cases, in-empty}
 use Rattle.rules.specs.CheckLaws.{Checked, passed}
-use Rattle.rules.specs.CheckedSheet.{Valid, valid, parent-low}
+use Rattle.rules.specs.CheckedSheet.{valid, parent-low}
 
 -- a is an ancestor of definition d: d itself, or an ancestor of its parent.
 pub data Ancestor (s : Words) (a : ℕ) : ℕ → Type 0 where

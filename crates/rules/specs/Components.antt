@@ -1,24 +1,36 @@
 -- Components against Tarjan (1972): two nodes share a component exactly if each reaches the other along edges. For every checked sheet.
-use Prim.Native.Nat.{ℕ, zero, suc, _<_, suc-le-suc}
+use Prim.Native.Nat.{ℕ, zero, suc, _/_, _%_, _<_, suc-le-suc}
 use native.Mathlib.Nat.{zero-lt-suc}
-use mathlib.Core.Path.{_≡_, refl, sym, _∙_, ap, subst}
-use mathlib.Core.Bool.{Bool, true, false, _&&_, _||_}
-use mathlib.Core.List.{List, [], _∷_}
-use mathlib.Core.Logic.{_⊎_, inl, inr, ⊎-elim, _↔_}
+use mathlib.Core.Path.{_≡_, sym, ap₂, subst}
+use mathlib.Core.List.{[], _∷_}
+use mathlib.Core.Logic.{_⊎_, inl, inr, _↔_}
 use native.Mathlib.Omega.{arith}
 use lib.Dec.{T, eqb, eqb→eq, eqb-refl}
 use lib.ListN.{length, getD}
 use Rattle.rules.specs.Lists.{Words, any}
-use Rattle.rules.specs.Reach.{Marks, marked, closure, reach, marks-of}
-use Rattle.rules.specs.Candidates.{Edge, Graph, edges, node-count, graph, linked, same-component}
+use Rattle.rules.specs.Reach.{reach, marks-of}
+use Rattle.rules.specs.Candidates.{direct, within-def, within-ancestors, Edge, Graph, for-each-child, edges, node-count, graph, linked, same-component}
 use Rattle.rules.specs.CheckLaws.{Checked, passed}
 use Rattle.rules.specs.CheckedSheet.{Valid, valid, graph-length, graph-at, edges-lead}
-use Rattle.rules.specs.Members.{In, first, later, in-cases, in-empty, any-in, and-iff}
+use Rattle.rules.specs.Members.{In, first, in-cases, in-empty, any-in, and-iff}
 use Rattle.rules.specs.ReachLaws.{From, here, then, closure-paths, marks-in, marks-length}
 
 -- An edge of vis v leads from node x to node y: one of those of `for_each_child`.
 abbrev pub EdgeFrom : Words → ℕ → ℕ → ℕ → Type 0
 EdgeFrom s x v y = In (v, y) (edges s x)
+
+-- A node is a definition and a level, and its edges are those of the definition at that level.
+pub edges-direct : (s : Words) (d : ℕ) → edges s (direct d) ≡ for-each-child s d 0
+unfolding edges
+edges-direct s d = ap₂ (for-each-child s) (let e : direct d / 3 ≡ d = omega arith in e) (let e : direct d % 3 ≡ 0 = omega arith in e)
+
+pub edges-within : (s : Words) (d : ℕ) → edges s (within-def d) ≡ for-each-child s d 1
+unfolding edges
+edges-within s d = ap₂ (for-each-child s) (let e : within-def d / 3 ≡ d = omega arith in e) (let e : within-def d % 3 ≡ 1 = omega arith in e)
+
+pub edges-ancestors : (s : Words) (d : ℕ) → edges s (within-ancestors d) ≡ for-each-child s d 2
+unfolding edges
+edges-ancestors s d = ap₂ (for-each-child s) (let e : within-ancestors d / 3 ≡ d = omega arith in e) (let e : within-ancestors d % 3 ≡ 2 = omega arith in e)
 
 -- Node x reaches node y: a path of zero or more edges leads from x to y.
 pub data Reaches (s : Words) (x : ℕ) : ℕ → Type 0 where
@@ -98,7 +110,7 @@ module _ (s : Words) (c : Checked s) where
       (λ t. reach-there x y (p .0 t), λ r. p .1 (reach-back x y h r))
 
   -- Two nodes share a component exactly if each reaches the other along edges.
-  pub components : (x y : ℕ) → x < node-count s → y < node-count s → T (same-component (graph s) x y) ↔ Together s x y
+  pub components : (x y : ℕ) → x < node-count s → y < node-count s → T (same-component (graph s) x y) ↔ (Reaches s x y × Reaches s y x)
   unfolding same-component
   components x y hx hy =
       let b = and-iff (reach (length (graph s)) (linked (graph s)) x y) (reach (length (graph s)) (linked (graph s)) y x) in

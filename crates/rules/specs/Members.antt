@@ -1,6 +1,6 @@
 -- What stands in a list, and lists that rise: what the tests and the selections of Lists say of them.
 use Prim.Native.Nat.{ℕ, zero, suc, _+_, _≤_, _<_}
-use mathlib.Core.Path.{_≡_, refl, sym, _∙_, ap, subst}
+use mathlib.Core.Path.{_≡_, refl, sym, subst}
 use mathlib.Core.Bool.{Bool, true, false, not, _&&_}
 use mathlib.Core.List.{List, [], _∷_}
 use mathlib.Core.Logic.{_⊎_, inl, inr, _↔_}
@@ -9,6 +9,13 @@ use native.Mathlib.Omega.{arith}
 use lib.Dec.{T, eqb, eqb→eq, eqb-refl}
 use lib.ListN.{length, getD}
 use Rattle.rules.specs.Lists.{Words, any, all, select, range, is-in}
+
+-- Tests that hold alike are equal.
+pub same-test : (a b : Bool) → T a ↔ T b → a ≡ b
+same-test true true h = refl
+same-test true false h = absurd (h .0 tt)
+same-test false true h = absurd (h .1 tt)
+same-test false false h = refl
 
 -- Two tests hold together.
 pub and-iff : (a b : Bool) → T (a && b) ↔ (T a × T b)
@@ -66,17 +73,17 @@ module _ {A : Type 0} where
   any-in p xs = (any-there p xs, λ r. any-back p xs (r .0) (r .1) (r .2))
 
   -- `all`: every element passes the test.
-  all-cons : (p : A → Bool) (x : A) (xs : List A) → T (all p (x ∷ xs)) → T (p x) × T (all p xs)
+  pub all-cons : (p : A → Bool) (x : A) (xs : List A) → T (all p (x ∷ xs)) ↔ (T (p x) × T (all p xs))
   unfolding all
-  all-cons p x xs t = go (p x) refl t
+  all-cons p x xs = go (p x) refl
     where
-      go : (b : Bool) → p x ≡ b → T (all p (x ∷ xs)) → T (p x) × T (all p xs)
-      go true e u = (subst T (sym e) tt, rw (e, all) at u)
-      go false e u = absurd (rw (e, all) at u)
+      go : (b : Bool) → p x ≡ b → T (all p (x ∷ xs)) ↔ (T (p x) × T (all p xs))
+      go true e = rw (e, all) (λ t. (tt, t), λ r. r .1)
+      go false e = rw (e, all) (λ t. absurd t, λ r. r .0)
 
   pub all-in : (p : A → Bool) (xs : List A) → T (all p xs) → (x : A) → In x xs → T (p x)
-  all-in p xs t x (first {xs = ys}) = (all-cons p x ys t) .0
-  all-in p xs t x (later {y} {xs = ys} h) = all-in p ys ((all-cons p y ys t) .1) x h
+  all-in p xs t x (first {xs = ys}) = all-cons p x ys .0 t .0
+  all-in p xs t x (later {y} {xs = ys} h) = all-in p ys (all-cons p y ys .0 t .1) x h
 
   -- Element n, where there is one, stands in the list; so it passes a test that all pass.
   pub in-at : (xs : List A) (n : ℕ) (a : A) → n < length xs → In (getD xs n a) xs

@@ -1,13 +1,13 @@
 -- Rounds over marks come to rest, and mark what paths reach.
 use Prim.Native.Nat.{ℕ, zero, suc, _+_, _≤_, _<_, suc-le-suc}
 use mathlib.Core.Path.{_≡_, refl, sym, _∙_, ap, subst}
-use mathlib.Core.Bool.{Bool, true, false, _&&_, _||_}
-use mathlib.Core.List.{List, [], _∷_}
+use mathlib.Core.Bool.{Bool, true, false, _||_}
+use mathlib.Core.List.{[], _∷_}
 use mathlib.Core.Logic.{_⊎_, inl, inr, ⊎-elim, _↔_}
-use native.Mathlib.Nat.{add-zero, zero-add, add-suc, suc-add, le-refl, le-trans, le-of-suc-le-suc, not-suc-le-zero, zero-lt-suc, eq-or-lt-of-le}
+use native.Mathlib.Nat.{add-zero, zero-add, add-suc, suc-add, le-refl, le-of-suc-le-suc, not-suc-le-zero, zero-lt-suc, eq-or-lt-of-le}
 use native.Mathlib.Omega.{arith}
-use lib.Dec.{T, ltb, eqb}
-use lib.ListN.{length, getD, set, replicate, length-set, length-replicate}
+use lib.Dec.{T}
+use lib.ListN.{length, set, replicate, length-set, length-replicate}
 use Rattle.rules.specs.Lists.{Words}
 use Rattle.rules.specs.Reach.{Marks, marked, any-below, grow, round, rounds, closure, mark-all, marks-of}
 use Rattle.rules.specs.Members.{In, first, later, in-cases, in-empty}
@@ -275,3 +275,7 @@ marks-in n xs y = (there, λ r. mark-all-back xs (replicate n false) y (inr (r .
   where
     there : T (marked (mark-all xs (replicate n false)) y) → In y xs × (y < n)
     there t = ⊎-elim (λ u. absurd (none-marked n y u)) (λ r. (r .0, subst (λ k. y < k) (length-replicate n false) (r .1))) (mark-all-there xs (replicate n false) y t)
+
+-- So `closure` from the marks of some places comes to rest, whatever the relation: any number of further rounds change nothing.
+pub marks-rest : (n k : ℕ) (R : ℕ → ℕ → Bool) (xs : Words) → rounds R n (n + k) (marks-of n xs) ≡ closure n R (marks-of n xs)
+marks-rest n k R xs = closure-enough n k R (marks-of n xs) (marks-length n xs)

@@ -1,13 +1,12 @@
 -- No walk of a checked sheet's or question's chain is cut short: the count that only serves termination is never used up.
 -- (Ancestors: AncestorLaws. The rounds of `closure`: ReachLaws.)
-use Prim.Native.Nat.{ℕ, zero, suc, _+_, _<_}
-use mathlib.Core.Path.{_≡_, refl, sym, subst}
-use mathlib.Core.Bool.{Bool, true, false, _&&_}
+use Prim.Native.Nat.{ℕ, _+_, _<_}
+use mathlib.Core.Path.{_≡_, refl}
+use mathlib.Core.Bool.{Bool, true, false}
 use mathlib.Core.List.{[], _∷_}
 use mathlib.Core.Logic.{_⊎_, inl, inr}
 use mathlib.Core.Option.{none}
 use native.Mathlib.Nat.{zero-lt-suc}
-use native.Mathlib.Omega.{arith}
 use lib.Dec.{T, lit<}
 use lib.ListN.{length}
 use Rattle.rules.specs.Lists.{Words}
@@ -18,7 +17,7 @@ use Rattle.rules.specs.Chains.{zero-or-from, chain-keeps, head-keeps, no
 use Rattle.rules.specs.Check.{refusal, of-sheet, of-ids, of-impl-question, of-flex-question, impl-checks, flex-checks}
 use Rattle.rules.specs.Members.{In}
 use Rattle.rules.specs.CheckLaws.{both, part, unrefused, not-not, Checked, passed}
-use Rattle.rules.specs.ChainLaws.{Chained, Whole, keeps-whole, keeps-heads}
+use Rattle.rules.specs.ChainLaws.{Whole, keeps-whole, keeps-heads}
 
 -- A table's chain is walked whole, and so are the children of each node.
 pub record WholeTable (w : Words) (h : ℕ) : Type 0 where
