@@ -10,13 +10,9 @@ use Rattle.rules.specs.Layout.{header·definitions}
 use Rattle.rules.specs.Sheet.{many, parent}
 use Rattle.rules.specs.Candidates.{ancestors-of, ancestors}
 use Rattle.rules.specs.Members.{In, first, later, in-cases, in-empty}
+use Rattle.rules.specs.Admission.{Ancestor, itself, of-parent}
 use Rattle.rules.specs.CheckLaws.{Checked, passed}
 use Rattle.rules.specs.CheckedSheet.{valid, parent-low}
-
--- a is an ancestor of definition d: d itself, or an ancestor of its parent.
-pub data Ancestor (s : Words) (a : ℕ) : ℕ → Type 0 where
-  itself : Ancestor s a a
-  of-parent : {d p : ℕ} → parent s d ≡ suc p → Ancestor s a p → Ancestor s a d
 
 -- One more of the count: the definition itself, and the parent's ancestors where it has one.
 ancestors-top : (k : ℕ) (s : Words) (d : ℕ) → parent s d ≡ 0 → ancestors-of (suc k) s d ≡ d ∷ []

@@ -9,20 +9,32 @@ use native.Mathlib.Omega.{arith}
 use lib.Dec.{T, eqb, ltb→lt, leb→le}
 use lib.ListN.{length, getD, length-map}
 use Rattle.rules.specs.Lists.{Words, all, concat-map, range, optional, optional-list}
-use Rattle.rules.specs.Layout.{header·definitions, header·generics, header·traits, header·impls, header·imports, header·prelude, binding·vis, binding·impl, member·vis, member·import, member·id, import·definition, flag·named}
+use Rattle.rules.specs.Limits.{limit·definitions, limit·impls}
+use Rattle.rules.specs.Layout.{header·definitions, header·generics, header·traits, header·impls, header·opaques, header·structs, header·enums, header·unions, header·closures, header·imports, header·prelude, header·fork, header·drop, header·duplicate, header·erase, binding·vis, binding·impl, member·vis, member·import, member·id, import·definition, flag·named}
 use Rattle.rules.specs.Sheet.{at, import-def, records, field, parent, trait-vis, def-trait, bindings, named-members, implicit-members, trait-def, impl-flag, impl-trait, many}
 use Rattle.rules.specs.Candidates.{direct, within-def, within-ancestors, get-member, Edge, member-edges, binding-edges, for-each-child, edges, node-count, graph}
-use Rattle.rules.specs.Values.{is-id, is-optional, binding-ok, member-ok, definition-ok, definitions-ok, trait-ok, impl-ok, args-ok, import-ok, generics-ok, sheet-values}
+use Rattle.rules.specs.Values.{is-id, is-optional, binding-ok, member-ok, definition-ok, definitions-ok, trait-ok, impl-ok, args-ok, import-ok, generics-ok, opaque-ok, struct-ok, closure-ok, flex-trait-ok, sheet-values}
 use Rattle.rules.specs.Members.{In, first, later, all-in, all-get}
 pub use Rattle.rules.specs.CheckLaws.{both, part}
 
--- The parts of 8 by what they speak of: prelude?, and the record of each id.
+-- The parts of 8: the limits, prelude?, fork?, drop?, duplicate?, erase?, and the record of each id.
 pub record Valid (s : Words) : Type 0 where
+  pub definition-count : many s header·definitions ≤ limit·definitions
+  pub impl-count : many s header·impls ≤ limit·impls
   pub prelude : at s header·prelude ≤ many s header·definitions
+  pub fork : T (flex-trait-ok s (at s header·fork))
+  pub drop : T (flex-trait-ok s (at s header·drop))
+  pub duplicate : at s header·duplicate ≤ many s header·impls
+  pub erase : at s header·erase ≤ many s header·impls
   pub definitions : (d : ℕ) → d < many s header·definitions → T (definition-ok s d (at (records s header·definitions) d))
   pub generics : (g : ℕ) → g < many s header·generics → T (generics-ok s (at (records s header·generics) g))
   pub traits : (t : ℕ) → t < many s header·traits → T (trait-ok s (at (records s header·traits) t))
   pub impls : (i : ℕ) → i < many s header·impls → T (impl-ok s (at (records s header·impls) i))
+  pub opaques : (o : ℕ) → o < many s header·opaques → T (opaque-ok s (at (records s header·opaques) o))
+  pub structs : (o : ℕ) → o < many s header·structs → T (struct-ok s (at (records s header·structs) o))
+  pub enums : (o : ℕ) → o < many s header·enums → T (opaque-ok s (at (records s header·enums) o))
+  pub unions : (o : ℕ) → o < many s header·unions → T (struct-ok s (at (records s header·unions) o))
+  pub closures : (o : ℕ) → o < many s header·closures → T (closure-ok s (at (records s header·closures) o))
   pub imports : (i : ℕ) → i < many s header·imports → T (import-ok s (at (records s header·imports) i))
 
 definitions-at : (s : Words) (d : ℕ) (ps : Words) → T (definitions-ok s d ps) → (n : ℕ) → n < length ps → T (definition-ok s (n + d) (getD ps n 0))
@@ -34,12 +46,23 @@ definitions-at s d (p ∷ ps) t (suc n) h = subst (λ k. T (definition-ok s k (g
 pub valid : (s : Words) → T (sheet-values s) → Valid s
 unfolding sheet-values many is-optional
 valid s t = let h = part _ t in record {
+  definition-count = leb→le (length (records s header·definitions)) limit·definitions (h 0);
+  impl-count = leb→le (length (records s header·impls)) limit·impls (h 1);
   prelude = leb→le (at s header·prelude) (length (records s header·definitions)) (h 2);
+  fork = h 3;
+  drop = h 4;
+  duplicate = leb→le (at s header·duplicate) (length (records s header·impls)) (h 5);
+  erase = leb→le (at s header·erase) (length (records s header·impls)) (h 6);
   definitions = λ d l. subst (λ k. T (definition-ok s k (at (records s header·definitions) d))) (add-zero d) (definitions-at s 0 (records s header·definitions) (h 7) d l);
   generics = λ g l. all-get (generics-ok s) (records s header·generics) g 0 (h 8) l;
-  traits = λ g l. all-get (trait-ok s) (records s header·traits) g 0 (h 9) l;
-  impls = λ g l. all-get (impl-ok s) (records s header·impls) g 0 (h 10) l;
-  imports = λ g l. all-get (import-ok s) (records s header·imports) g 0 (h 16) l;
+  traits = λ t l. all-get (trait-ok s) (records s header·traits) t 0 (h 9) l;
+  impls = λ i l. all-get (impl-ok s) (records s header·impls) i 0 (h 10) l;
+  opaques = λ o l. all-get (opaque-ok s) (records s header·opaques) o 0 (h 11) l;
+  structs = λ o l. all-get (struct-ok s) (records s header·structs) o 0 (h 12) l;
+  enums = λ o l. all-get (opaque-ok s) (records s header·enums) o 0 (h 13) l;
+  unions = λ o l. all-get (struct-ok s) (records s header·unions) o 0 (h 14) l;
+  closures = λ o l. all-get (closure-ok s) (records s header·closures) o 0 (h 15) l;
+  imports = λ i l. all-get (import-ok s) (records s header·imports) i 0 (h 16) l;
 }
 
 -- Edges that all lead below N.

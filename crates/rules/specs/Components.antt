@@ -10,14 +10,11 @@ use lib.ListN.{length, getD}
 use Rattle.rules.specs.Lists.{Words, any}
 use Rattle.rules.specs.Reach.{reach, marks-of}
 use Rattle.rules.specs.Candidates.{direct, within-def, within-ancestors, Edge, Graph, for-each-child, edges, node-count, graph, linked, same-component}
+use Rattle.rules.specs.Admission.{EdgeFrom, Reaches, arrived, along}
 use Rattle.rules.specs.CheckLaws.{Checked, passed}
 use Rattle.rules.specs.CheckedSheet.{Valid, valid, graph-length, graph-at, edges-lead}
 use Rattle.rules.specs.Members.{In, first, in-cases, in-empty, any-in, and-iff}
 use Rattle.rules.specs.ReachLaws.{From, here, then, closure-paths, marks-in, marks-length}
-
--- An edge of vis v leads from node x to node y: one of those of `for_each_child`.
-abbrev pub EdgeFrom : Words → ℕ → ℕ → ℕ → Type 0
-EdgeFrom s x v y = In (v, y) (edges s x)
 
 -- A node is a definition and a level, and its edges are those of the definition at that level.
 pub edges-direct : (s : Words) (d : ℕ) → edges s (direct d) ≡ for-each-child s d 0
@@ -31,15 +28,6 @@ edges-within s d = ap₂ (for-each-child s) (let e : within-def d / 3 ≡ d = om
 pub edges-ancestors : (s : Words) (d : ℕ) → edges s (within-ancestors d) ≡ for-each-child s d 2
 unfolding edges
 edges-ancestors s d = ap₂ (for-each-child s) (let e : within-ancestors d / 3 ≡ d = omega arith in e) (let e : within-ancestors d % 3 ≡ 2 = omega arith in e)
-
--- Node x reaches node y: a path of zero or more edges leads from x to y.
-pub data Reaches (s : Words) (x : ℕ) : ℕ → Type 0 where
-  arrived : Reaches s x x
-  along : {y v z : ℕ} → Reaches s x y → EdgeFrom s y v z → Reaches s x z
-
--- "Nodes that reach each other".
-abbrev pub Together : Words → ℕ → ℕ → Type 0
-Together s x y = Reaches s x y × Reaches s y x
 
 -- A path and a path from where it ends are a path.
 pub reaches-on : {s : Words} {x y z : ℕ} → Reaches s x y → Reaches s y z → Reaches s x z

@@ -34,4 +34,5 @@ pub mod Members
 pub mod CheckLaws
 pub mod AncestorLaws
 pub mod Admission
+pub mod AdmissionLaws
 pub mod SheetFuel

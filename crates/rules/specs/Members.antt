@@ -1,9 +1,9 @@
 -- What stands in a list, and lists that rise: what the tests and the selections of Lists say of them.
 use Prim.Native.Nat.{ℕ, zero, suc, _+_, _≤_, _<_}
-use mathlib.Core.Path.{_≡_, refl, sym, subst}
+use mathlib.Core.Path.{_≡_, refl, sym, ap₂, subst}
 use mathlib.Core.Bool.{Bool, true, false, not, _&&_}
 use mathlib.Core.List.{List, [], _∷_}
-use mathlib.Core.Logic.{_⊎_, inl, inr, _↔_}
+use mathlib.Core.Logic.{_⊎_, inl, inr, ⊎-elim, _↔_}
 use native.Mathlib.Nat.{not-suc-le-zero, le-of-suc-le-suc, eq-or-lt-of-le}
 use native.Mathlib.Omega.{arith}
 use lib.Dec.{T, eqb, eqb→eq, eqb-refl}
@@ -178,3 +178,24 @@ select-rising p (x ∷ xs) r = go (p x) refl (select-rising p xs (r .1))
     go : (b : Bool) → p x ≡ b → Rising (select p xs) → Rising (select p (x ∷ xs))
     go true e ih = rw (e, select) (λ y h. r .0 y ((select-there p xs y h) .0), ih)
     go false e ih = rw (e, select) ih
+
+-- Lists that rise and hold the same are equal: a set by id is one list.
+pub rising-unique : (xs ys : Words) → Rising xs → Rising ys → ((x : ℕ) → In x xs ↔ In x ys) → xs ≡ ys
+rising-unique [] [] r q h = refl
+rising-unique [] (y ∷ ys) r q h = absurd (in-empty (h y .1 first))
+rising-unique (x ∷ xs) [] r q h = absurd (in-empty (h x .0 first))
+rising-unique (x ∷ xs) (y ∷ ys) r q h = ap₂ (λ z zs. z ∷ zs) e (rising-unique xs ys (r .1) (q .1) (λ z. (there z, back z)))
+  where
+    e : x ≡ y
+    e = go (in-cases (h x .0 first)) (in-cases (h y .1 first))
+      where
+        go : (x ≡ y) ⊎ In x ys → (y ≡ x) ⊎ In y xs → x ≡ y
+        go (inl a) b = a
+        go (inr a) (inl b) = sym b
+        go (inr a) (inr b) = absurd (omega (arith, q .0 x a, r .0 y b))
+
+    there : (z : ℕ) → In z xs → In z ys
+    there z i = ⊎-elim (λ a. absurd (omega (arith, r .0 z i, e))) (λ b. b) (in-cases (h z .0 (later i)))
+
+    back : (z : ℕ) → In z ys → In z xs
+    back z i = ⊎-elim (λ a. absurd (omega (arith, q .0 z i, e))) (λ b. b) (in-cases (h z .1 (later i)))
