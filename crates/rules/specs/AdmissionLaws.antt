@@ -108,7 +108,6 @@ module _ (s : Words) (c : Checked s) (src : ℕ) (h : src < many s header·defin
   open-node l stays = l
   open-node l (onward {y} {v} {z} p e w) = edge-to s c y (open-node l p) v z e
 
-  -- The nodes that are marked are those to which an open path leads from some of the nodes.
   to-there : (nodes : Words) (m : ℕ) → From (may-take (graph s) anc) (marks-of (length (graph s)) nodes) m → (n : ℕ) × In n nodes × (n < node-count s) × OpenPath s src n m
   to-there nodes m (here t) = let r = marks-in (length (graph s)) nodes m .0 t in (m, r .0, subst (λ k. m < k) (graph-length s) (r .1), stays)
   to-there nodes m (then {y} p t) =
@@ -120,6 +119,7 @@ module _ (s : Words) (c : Checked s) (src : ℕ) (h : src < many s header·defin
   to-back nodes n m i l stays = here (marks-in (length (graph s)) nodes n .1 (i, subst (λ k. n < k) (sym (graph-length s)) l))
   to-back nodes n m i l (onward {y} {v} p e w) = then (to-back nodes n y i l p) (take-back y v m (open-node l p) e w)
 
+  -- `gets-to`: where an open path leads from some node among these.
   pub gets-to-iff : (nodes : Words) (m : ℕ) → T (marked (gets-to s src nodes) m) ↔ ((n : ℕ) × In n nodes × (n < node-count s) × OpenPath s src n m)
   unfolding gets-to
   gets-to-iff nodes m =
@@ -129,7 +129,6 @@ module _ (s : Words) (c : Checked s) (src : ℕ) (h : src < many s header·defin
       taken : (y z : ℕ) → T (may-take (graph s) anc y z) → z < length (graph s)
       taken y z t = linked-to s c y z (take-linked y z t)
 
-  -- `binds` says which node binds an impl with a vis that lets the source in.
   binds-there : (i n : ℕ) (f : Bool) → impl-flag s flag·named i ≡ f → (b : ℕ) → In b (bindings s (n / 3)) → T (eqb (at s (b + binding·impl)) i && visible anc (at s (b + binding·vis)) && eqb (n % 3) (level f)) → Binds s src n i
   binds-there i n f e b m t =
       let p = and-iff (eqb (at s (b + binding·impl)) i && visible anc (at s (b + binding·vis))) (eqb (n % 3) (level f)) .0 t in
@@ -154,6 +153,7 @@ module _ (s : Words) (c : Checked s) (src : ℕ) (h : src < many s header·defin
         ),
       )
 
+  -- `binds` says which node binds an impl with a vis that lets the source in.
   pub binds-iff : (i n : ℕ) → T (binds s (ancestors s src) i n) ↔ Binds s src n i
   unfolding binds
   binds-iff i n = go (impl-flag s flag·named i) refl
@@ -178,6 +178,10 @@ module _ (s : Words) (c : Checked s) (src : ℕ) (h : src < many s header·defin
       below : (f : Bool) → n ≡ binding-node f (w .definition) → w .definition < many s header·definitions
       below true e = omega arith
       below false e = omega arith
+
+  -- So is an impl that the set of a node admits.
+  pub admits-in : (n i : ℕ) → n < node-count s → Admits s src n i → i < many s header·impls
+  admits-in n i l w = binds-in (w .end) i (open-node l (w .path)) (w .binds)
 
   -- "Manual, unsafe and Error impls never enter."
   enter-iff : (i : ℕ) → T (may-enter s i) ↔ ((impl-flag s flag·manual i ≡ false) × (impl-flag s flag·unsafe i ≡ false) × (impl-trait s i ≢ 0))
@@ -218,7 +222,7 @@ module _ (s : Words) (c : Checked s) (src : ℕ) (h : src < many s header·defin
         let m = gets-to-iff nodes (w .end) .1 (n, u, l, w .path) in
         let b = and-iff (marked (gets-to s src nodes) (w .end)) (binds s anc i (w .end)) .1 (m, binds-iff i (w .end) .1 (w .binds)) in
         let t = any-in (λ n. marked (gets-to s src nodes) n && binds s anc i n) (range 0 (node-count s)) .1 (w .end, range-in 0 (node-count s) (w .end) .1 (omega arith, omega arith), b) in
-        let j = binds-in (w .end) i k (w .binds) in
+        let j = admits-in n i l w in
         let e = enter-iff i .1 (w .not-manual, w .not-unsafe, w .not-error) in
         select-in _ (range 0 (many s header·impls)) i .1 (range-in 0 (many s header·impls) i .1 (omega arith, omega arith), and-iff (may-enter s i) (any (λ n. marked (gets-to s src nodes) n && binds s anc i n) (range 0 (node-count s))) .1 (e, t))
 
@@ -277,20 +281,22 @@ module _ (s : Words) (c : Checked s) (src : ℕ) (h : src < many s header·defin
       back (inr (inl w)) = (within-def (trait-def s t), later first, trait-node t l, w)
       back (inr (inr r)) = (r .0, later (later (r .1)), r .2, r .3)
 
--- The lists rise: each impl once, by id.
+-- The list rises: each impl once, by id.
 pub admitted-rises : (s : Words) (src : ℕ) (nodes : Words) → Rising (admitted s src nodes)
 unfolding admitted
 admitted-rises s src nodes = select-rising _ (range 0 (many s header·impls)) (range-rising 0 (many s header·impls))
 
+-- So does that of a trait and a basic flag.
 pub candidates-rise : (s : Words) (src : ℕ) (nodes : Words) (t : ℕ) (b : Bool) → Rising (get-candidates s src nodes t b)
 unfolding get-candidates
 candidates-rise s src nodes t b = select-rising _ (admitted s src nodes) (admitted-rises s src nodes)
 
+-- And that of the general set.
 pub general-rises : (s : Words) (src : ℕ) → Rising (general-candidates s src)
 unfolding general-candidates
 general-rises s src = admitted-rises s src (within-ancestors src ∷ [])
 
--- "Nodes that reach each other share one set": what the set of one admits, the set of the other does.
+-- Open paths join; between nodes that reach each other every path is open.
 open-on : {s : Words} {src x y z : ℕ} → OpenPath s src x y → OpenPath s src y z → OpenPath s src x z
 open-on p stays = p
 open-on p (onward q e w) = onward (open-on p q) e w
@@ -299,6 +305,7 @@ together-open : {s : Words} {src x y : ℕ} → Reaches s x y → Reaches s y x 
 together-open arrived b = stays
 together-open (along p e) b = onward (together-open p (reaches-on (along arrived e) b)) e (inl (along arrived e, reaches-on b p))
 
+-- "Nodes that reach each other share one set": what the set of one admits, the set of the other does.
 pub one-set : {s : Words} {src x y i : ℕ} → Together s x y → Admits s src x i → Admits s src y i
 one-set g w = record { end = w .end; path = open-on (together-open (g .1) (g .0)) (w .path); binds = w .binds; not-manual = w .not-manual; not-unsafe = w .not-unsafe; not-error = w .not-error }
 

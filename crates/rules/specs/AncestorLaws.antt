@@ -61,7 +61,7 @@ module _ (s : Words) (c : Checked s) where
       let b = parent-below d p h e in
       subst (In a) (sym (ancestors-up k s d p e)) (later (ancestors-back k a p (omega arith) (omega arith) x))
 
-  -- One more changes nothing, and so do any number more.
+  -- One more of the count changes nothing.
   pub ancestors-rest : (k d : ℕ) → d < k → d < many s header·definitions → ancestors-of (suc k) s d ≡ ancestors-of k s d
   ancestors-rest zero d l h = absurd (not-suc-le-zero l)
   ancestors-rest (suc k) d l h = go (parent s d) refl (ancestors-rest k)
@@ -72,6 +72,7 @@ module _ (s : Words) (c : Checked s) where
           let b = parent-below d p h e in
           ancestors-up (suc k) s d p e ∙ ap (λ l. d ∷ l) (ih p (omega arith) (omega arith)) ∙ sym (ancestors-up k s d p e)
 
+  -- Nor do any number more: the count is never used up.
   pub ancestors-enough : (k d : ℕ) → d < many s header·definitions → ancestors-of (k + many s header·definitions) s d ≡ ancestors s d
   unfolding ancestors
   ancestors-enough zero d h = ap (λ n. ancestors-of n s d) (zero-add (many s header·definitions))

@@ -148,18 +148,20 @@ module _ (s : Words) (len : ℕ) (long : 0 < len) (heads : ℕ → Bool) where
   unfolding chain-keeps chain
   chain-rule i h = (keeps-there (length s) i (room-all i h), λ k. keeps-back i k .1)
 
-  -- A chain that keeps the rule is walked whole, and the heads in its records pass their test.
+  -- A chain that keeps the rule is walked whole.
   pub keeps-whole : (i : ℕ) → (i ≡ 0) ⊎ (0 < length s) → T (chain-keeps s len heads i) → Whole s i
   keeps-whole i h t = keeps-back i (chain-rule i h .0 t) .0
 
+  -- The heads in its records pass their test.
   pub keeps-heads : (i : ℕ) → T (chain-keeps s len heads i) → (p : ℕ) → In p (chain s i) → T (heads p)
   unfolding chain-keeps
   keeps-heads i t p m = ok-iff p .0 (all-in ok (chain s i) t p m) .1
 
-  -- The chain from zero keeps the rule; any other does if its first record does and the chain from its next does.
+  -- The chain from zero keeps the rule.
   pub runs-end : chain-keeps s len heads 0 ≡ true
   runs-end = same-test (chain-keeps s len heads 0) true (λ t. tt, λ t. chain-rule 0 (inl refl) .1 at-end)
 
+  -- Any other does if its first record does, with the heads in it, and the chain from its next does.
   pub runs-step : (i : ℕ) → 0 < i → 0 < length s → chain-keeps s len heads i ≡ elim (ok i) as (λ b. Bool) [ true ↦ chain-keeps s len heads (at s i) | false ↦ false ]
   runs-step i h l = same-test _ _ (λ t. b .1 (there (chain-rule i (inr l) .0 t)), λ t. chain-rule i (inr l) .1 (back (b .0 t)))
     where

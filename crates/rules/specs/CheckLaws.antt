@@ -38,6 +38,7 @@ unrefused (c ∷ cs) e n = go (c .1) e n (unrefused cs)
     go false k zero ih = tt
     go false k (suc m) ih = ih k m
 
+-- A test does not fail.
 pub not-not : (b : Bool) → T (not (not b)) → T b
 not-not true t = tt
 not-not false t = absurd t
@@ -53,6 +54,7 @@ pub record Passed (s : Words) : Type 0 where
   pub values : T (sheet-values s)
   pub types : T (sheet-acyclic s)
 
+-- A checked sheet promises that.
 pub passed : (s : Words) → Checked s → Passed s
 unfolding of-sheet
 passed s e = let h = unrefused (of-sheet s) e in record {

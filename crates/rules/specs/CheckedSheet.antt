@@ -43,6 +43,7 @@ definitions-at s d [] t n h = absurd (not-suc-le-zero h)
 definitions-at s d (p ∷ ps) t zero h = subst (λ k. T (definition-ok s k p)) (sym (zero-add d)) ((both (definition-ok s d p) (definitions-ok s (suc d) ps) t) .0)
 definitions-at s d (p ∷ ps) t (suc n) h = subst (λ k. T (definition-ok s k (getD ps n 0))) (add-suc n d ∙ sym (suc-add n d)) (definitions-at s (suc d) ps ((both (definition-ok s d p) (definitions-ok s (suc d) ps) t) .1) n (le-of-suc-le-suc h))
 
+-- A sheet that passes 8 has them.
 pub valid : (s : Words) → T (sheet-values s) → Valid s
 unfolding sheet-values many is-optional
 valid s t = let h = part _ t in record {
@@ -104,25 +105,28 @@ range-get f i zero y h = absurd (not-suc-le-zero h)
 range-get f i (suc n) zero h = ap f (sym (add-zero i))
 range-get f i (suc n) (suc y) h = range-get f (suc i) n y (le-of-suc-le-suc h) ∙ ap f (suc-add i y ∙ sym (add-suc i y))
 
--- The graph has the edges of each node.
+-- The graph has as many places as there are nodes.
 pub graph-length : (s : Words) → length (graph s) ≡ node-count s
 unfolding graph
 graph-length s = length-map (range 0 (node-count s)) (edges s) ∙ range-length 0 (node-count s)
 
+-- At the place of a node stand its edges.
 pub graph-at : (s : Words) (x : ℕ) → x < node-count s → getD (graph s) x [] ≡ edges s x
 unfolding graph
 graph-at s x h = range-get (edges s) 0 (node-count s) x h ∙ ap (edges s) (zero-add x)
 
 module _ (s : Words) (v : Valid s) where
-  -- A trait's definition, an impl's trait? and an import's definition? name what is there.
+  -- A trait's definition is there.
   pub trait-def-in : (t : ℕ) → t < many s header·traits → trait-def s t < many s header·definitions
   unfolding trait-ok is-id trait-def field
   trait-def-in t h = ltb→lt _ (many s header·definitions) (part _ (v .traits t h) 0)
 
+  -- An impl's trait? is 0 or names a trait.
   pub impl-trait-in : (i : ℕ) → i < many s header·impls → impl-trait s i ≤ many s header·traits
   unfolding impl-ok args-ok is-optional impl-trait field
   impl-trait-in i h = leb→le _ (many s header·traits) (part _ (part _ (v .impls i h) 3) 0)
 
+  -- An import's definition? is 0 or names a definition.
   pub import-def-in : (i : ℕ) → i < many s header·imports → import-def s i ≤ many s header·definitions
   unfolding import-ok is-optional field import-def
   import-def-in i h = leb→le _ (many s header·definitions) (v .imports i h)

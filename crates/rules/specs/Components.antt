@@ -16,15 +16,17 @@ use Rattle.rules.specs.CheckedSheet.{Valid, valid, graph-length, graph-a
 use Rattle.rules.specs.Members.{In, first, in-cases, in-empty, any-in, and-iff}
 use Rattle.rules.specs.ReachLaws.{From, here, then, closure-paths, marks-in, marks-length}
 
--- A node is a definition and a level, and its edges are those of the definition at that level.
+-- A node is a definition and a level, and its edges are those of `for_each_child` for them: direct,
 pub edges-direct : (s : Words) (d : ℕ) → edges s (direct d) ≡ for-each-child s d 0
 unfolding edges
 edges-direct s d = ap₂ (for-each-child s) (let e : direct d / 3 ≡ d = omega arith in e) (let e : direct d % 3 ≡ 0 = omega arith in e)
 
+-- within,
 pub edges-within : (s : Words) (d : ℕ) → edges s (within-def d) ≡ for-each-child s d 1
 unfolding edges
 edges-within s d = ap₂ (for-each-child s) (let e : within-def d / 3 ≡ d = omega arith in e) (let e : within-def d % 3 ≡ 1 = omega arith in e)
 
+-- and within ancestors.
 pub edges-ancestors : (s : Words) (d : ℕ) → edges s (within-ancestors d) ≡ for-each-child s d 2
 unfolding edges
 edges-ancestors s d = ap₂ (for-each-child s) (let e : within-ancestors d / 3 ≡ d = omega arith in e) (let e : within-ancestors d % 3 ≡ 2 = omega arith in e)
@@ -48,12 +50,12 @@ linked-edge s x y h = rw (graph-at s x h) (there, back)
     back : (v : ℕ) × EdgeFrom s x v y → T (any (λ e. eqb (e .1) y) (edges s x))
     back r = a .1 ((r .0, y), r .1, eqb-refl y)
 
--- Out of no place but a node does the graph have links, and into no other.
 rows-below : (g : Graph) (x : ℕ) (e : Edge) → In e (getD g x []) → x < length g
 rows-below [] x e h = absurd (in-empty h)
 rows-below (es ∷ g) zero e h = zero-lt-suc (length g)
 rows-below (es ∷ g) (suc x) e h = suc-le-suc (rows-below g x e h)
 
+-- The graph has links from nodes alone.
 pub linked-from : (s : Words) (x y : ℕ) → T (linked (graph s) x y) → x < node-count s
 unfolding linked
 linked-from s x y t = let r = (any-in (λ (e : Edge). eqb (e .1) y) (getD (graph s) x [])) .0 t in subst (λ n. x < n) (graph-length s) (rows-below (graph s) x (r .0) (r .1))
@@ -78,7 +80,6 @@ module _ (s : Words) (c : Checked s) where
   reaches-node h arrived = h
   reaches-node h (along {y} {v = vis} {z} p e) = edge-to y (reaches-node h p) vis z e
 
-  -- The places that the rounds mark are those that a path reaches.
   reach-there : (x y : ℕ) → From (linked (graph s)) (marks-of (length (graph s)) (x ∷ [])) y → Reaches s x y
   reach-there x y (here t) = go (in-cases (((marks-in (length (graph s)) (x ∷ []) y) .0 t) .0))
     where
@@ -91,6 +92,7 @@ module _ (s : Words) (c : Checked s) where
   reach-back x y h arrived = here ((marks-in (length (graph s)) (x ∷ []) x) .1 (first, subst (λ n. x < n) (sym (graph-length s)) h))
   reach-back x y h (along {y = z} {v = vis} p e) = then (reach-back x z h p) ((linked-edge s z y (reaches-node h p)) .1 (vis, e))
 
+  -- `reach`: what is computed from a node is what a path from it reaches.
   pub reach-paths : (x y : ℕ) → x < node-count s → T (reach (length (graph s)) (linked (graph s)) x y) ↔ Reaches s x y
   unfolding reach
   reach-paths x y h =
@@ -106,13 +108,15 @@ module _ (s : Words) (c : Checked s) where
       let q = reach-paths y x hy in
       (λ t. let r = b .0 t in (p .0 (r .0), q .0 (r .1)), λ r. b .1 (p .1 (r .0), q .1 (r .1)))
 
-  -- So sharing a component is an equivalence, and the components part the nodes: every node is in its own, and two that have a node in common are one.
+  -- So sharing a component is an equivalence, and the components part the nodes. Every node is in its own component;
   pub component-refl : (x : ℕ) → x < node-count s → T (same-component (graph s) x x)
   component-refl x h = components x x h h .1 (arrived, arrived)
 
+  -- it does not matter which of two is asked;
   pub component-sym : (x y : ℕ) → x < node-count s → y < node-count s → T (same-component (graph s) x y) → T (same-component (graph s) y x)
   component-sym x y hx hy t = let r = components x y hx hy .0 t in components y x hy hx .1 (r .1, r .0)
 
+  -- and two components that have a node in common are one.
   pub component-trans : (x y z : ℕ) → x < node-count s → y < node-count s → z < node-count s → T (same-component (graph s) x y) → T (same-component (graph s) y z) → T (same-component (graph s) x z)
   component-trans x y z hx hy hz t u =
       let p = components x y hx hy .0 t in

@@ -46,7 +46,6 @@ module _ {A : Type 0} where
   pub in-empty : {x : A} → In x [] → ⊥
   in-empty h = elim h as (λ l i. Some l) [ first ↦ tt | later _ ↦ tt ]
 
-  -- `any`: some element passes the test.
   any-there : (p : A → Bool) (xs : List A) → T (any p xs) → (x : A) × In x xs × T (p x)
   unfolding any
   any-there p [] t = absurd t
@@ -69,10 +68,11 @@ module _ {A : Type 0} where
   any-back p xs x (first {xs = ys}) t = any-cons p x ys (inl t)
   any-back p xs x (later {y} {xs = ys} h) t = any-cons p y ys (inr (any-back p ys x h t))
 
+  -- `any`: some element passes the test.
   pub any-in : (p : A → Bool) (xs : List A) → T (any p xs) ↔ ((x : A) × In x xs × T (p x))
   any-in p xs = (any-there p xs, λ r. any-back p xs (r .0) (r .1) (r .2))
 
-  -- `all`: every element passes the test.
+  -- `all`: the first element passes the test, and all the others do.
   pub all-cons : (p : A → Bool) (x : A) (xs : List A) → T (all p (x ∷ xs)) ↔ (T (p x) × T (all p xs))
   unfolding all
   all-cons p x xs = go (p x) refl
@@ -81,20 +81,21 @@ module _ {A : Type 0} where
       go true e = rw (e, all) (λ t. (tt, t), λ r. r .1)
       go false e = rw (e, all) (λ t. absurd t, λ r. r .0)
 
+  -- So every element does.
   pub all-in : (p : A → Bool) (xs : List A) → T (all p xs) → (x : A) → In x xs → T (p x)
   all-in p xs t x (first {xs = ys}) = all-cons p x ys .0 t .0
   all-in p xs t x (later {y} {xs = ys} h) = all-in p ys (all-cons p y ys .0 t .1) x h
 
-  -- Element n, where there is one, stands in the list; so it passes a test that all pass.
+  -- Element n, where there is one, stands in the list.
   pub in-at : (xs : List A) (n : ℕ) (a : A) → n < length xs → In (getD xs n a) xs
   in-at [] n a h = absurd (not-suc-le-zero h)
   in-at (x ∷ xs) zero a h = first
   in-at (x ∷ xs) (suc n) a h = later (in-at xs n a (le-of-suc-le-suc h))
 
+  -- So it passes a test that all pass.
   pub all-get : (p : A → Bool) (xs : List A) (n : ℕ) (a : A) → T (all p xs) → n < length xs → T (p (getD xs n a))
   all-get p xs n a t h = all-in p xs t (getD xs n a) (in-at xs n a h)
 
-  -- `select`: the elements that pass the test.
   select-there : (p : A → Bool) (xs : List A) (x : A) → In x (select p xs) → In x xs × T (p x)
   unfolding select
   select-there p [] x h = absurd (in-empty h)
@@ -128,6 +129,7 @@ module _ {A : Type 0} where
   select-back p xs x (first {xs = ys}) t = select-first p x ys t
   select-back p xs x (later {y} {xs = ys} h) t = select-later p x y ys (select-back p ys x h t)
 
+  -- `select`: the elements that pass the test.
   pub select-in : (p : A → Bool) (xs : List A) (x : A) → In x (select p xs) ↔ (In x xs × T (p x))
   select-in p xs x = (select-there p xs x, λ r. select-back p xs x (r .0) (r .1))
 
@@ -138,7 +140,6 @@ is-in-in x xs =
     let a = any-in (λ y. eqb x y) xs in
     (λ t. let r = a .0 t in subst (λ y. In y xs) (sym (eqb→eq x (r .0) (r .2))) (r .1), λ h. a .1 (x, h, eqb-refl x))
 
--- `range i n`: the numbers from i on, below i + n.
 range-there : (i n x : ℕ) → In x (range i n) → (i ≤ x) × (x < i + n)
 unfolding range
 range-there i zero x h = absurd (in-empty h)
@@ -157,6 +158,7 @@ range-back i (suc n) x l h = go (eq-or-lt-of-le l) (range-back (suc i) n x)
     go (inl e) ih = subst (λ y. In y (i ∷ range (suc i) n)) e first
     go (inr k) ih = later (ih k (omega arith))
 
+-- `range i n`: the numbers from i on, below i + n.
 pub range-in : (i n x : ℕ) → In x (range i n) ↔ ((i ≤ x) × (x < i + n))
 range-in i n x = (range-there i n x, λ r. range-back i n x (r .0) (r .1))
 
@@ -165,11 +167,13 @@ abbrev pub Rising : Words → Type 0
 Rising [] = Unit {0}
 Rising (x ∷ xs) = ((y : ℕ) → In y xs → x < y) × Rising xs
 
+-- `range` rises.
 pub range-rising : (i n : ℕ) → Rising (range i n)
 unfolding range
 range-rising i zero = tt
 range-rising i (suc n) = (λ y h. (range-there (suc i) n y h) .0, range-rising (suc i) n)
 
+-- What is selected from a list that rises does.
 pub select-rising : (p : ℕ → Bool) (xs : Words) → Rising xs → Rising (select p xs)
 unfolding select
 select-rising p [] r = tt

@@ -23,12 +23,14 @@ count [] = 0
 count (true ∷ ms) = suc (count ms)
 count (false ∷ ms) = count ms
 
+-- At most all.
 pub count-le : (ms : Marks) → count ms ≤ length ms
 unfolding count
 count-le [] = le-refl 0
 count-le (true ∷ ms) = omega (arith, count-le ms)
 count-le (false ∷ ms) = omega (arith, count-le ms)
 
+-- Further marks change no length.
 pub grow-length : (f : ℕ → Bool) (i : ℕ) (ms : Marks) → length (grow f i ms) ≡ length ms
 unfolding grow
 grow-length f i [] = refl
@@ -83,7 +85,7 @@ module _ (R : ℕ → ℕ → Bool) (n : ℕ) where
       go (inl e) ih = let p = ap (rounds R n k) e ∙ rounds-fixed k ms e in ap (round R n) p ∙ e ∙ sym p
       go (inr l) ih = ih (omega (arith, grow-length (λ y. any-below n (λ x. elim (marked ms x) [ true ↦ R x y | false ↦ false ])) 0 ms, suc-add k (count ms)))
 
--- The rounds of `closure` come to rest: one more changes nothing, and so do any number more.
+-- The rounds of `closure` come to rest: one more changes nothing.
 pub closure-rests : (n : ℕ) (R : ℕ → ℕ → Bool) (ms : Marks) → length ms ≡ n → round R n (closure n R ms) ≡ closure n R ms
 unfolding closure
 closure-rests n R ms e = rest R n n ms (omega (arith, e))
@@ -93,6 +95,7 @@ unfolding rounds
 rounds-add R n zero k ms = ap (λ m. rounds R n m ms) (zero-add k)
 rounds-add R n (suc j) k ms = ap (λ m. rounds R n m ms) (suc-add j k) ∙ rounds-add R n j k (round R n ms)
 
+-- Nor do any number more.
 pub closure-enough : (n k : ℕ) (R : ℕ → ℕ → Bool) (ms : Marks) → length ms ≡ n → rounds R n (n + k) ms ≡ closure n R ms
 unfolding closure
 closure-enough n k R ms e = rounds-add R n n k ms ∙ rounds-fixed R n k (rounds R n n ms) (rest R n n ms (omega (arith, e)))
@@ -110,6 +113,7 @@ or-right : (a b : Bool) → T b → T (a || b)
 or-right true b h = tt
 or-right false b h = h
 
+-- What is marked once marks have grown was marked, or passes the test.
 pub grow-from : (f : ℕ → Bool) (i : ℕ) (ms : Marks) (k : ℕ) → T (marked (grow f i ms) k) → T (marked ms k) ⊎ T (f (i + k))
 unfolding grow
 grow-from f i [] k h = inl h
@@ -122,6 +126,7 @@ grow-keeps f i [] k h = h
 grow-keeps f i (m ∷ ms) zero h = or-left m (f i) h
 grow-keeps f i (m ∷ ms) (suc k) h = grow-keeps f (suc i) ms k h
 
+-- What passes the test is marked.
 pub grow-new : (f : ℕ → Bool) (i : ℕ) (ms : Marks) (k : ℕ) → k < length ms → T (f (i + k)) → T (marked (grow f i ms) k)
 unfolding grow
 grow-new f i [] k l h = absurd (not-suc-le-zero l)
@@ -155,6 +160,7 @@ led : (m r : Bool) → T m → T r → T (elim m as (λ b. Bool) [ true ↦ r | 
 led true r a b = b
 led false r a b = absurd a
 
+-- Marks stand at places of the list.
 pub marked-below : (ms : Marks) (y : ℕ) → T (marked ms y) → y < length ms
 marked-below [] y t = absurd t
 marked-below (m ∷ ms) zero t = zero-lt-suc (length ms)
@@ -185,6 +191,7 @@ module _ (R : ℕ → ℕ → Bool) (n : ℕ) (m₀ : Marks) where
   rounds-keep zero ms y h = h
   rounds-keep (suc k) ms y h = rounds-keep k (round R n ms) y (grow-keeps _ 0 ms y h)
 
+  -- Rounds change no length.
   pub rounds-length : (k : ℕ) (ms : Marks) → length (rounds R n k ms) ≡ length ms
   unfolding rounds round
   rounds-length zero ms = refl
@@ -264,11 +271,12 @@ none-marked zero y t = t
 none-marked (suc n) zero t = t
 none-marked (suc n) (suc y) t = none-marked n y t
 
--- `marks-of n xs` has n marks, and those of the numbers in xs below n.
+-- `marks-of n xs` is of n places.
 pub marks-length : (n : ℕ) (xs : Words) → length (marks-of n xs) ≡ n
 unfolding marks-of
 marks-length n xs = mark-all-length xs (replicate n false) ∙ length-replicate n false
 
+-- It marks the numbers in xs that are below n.
 pub marks-in : (n : ℕ) (xs : Words) (y : ℕ) → T (marked (marks-of n xs) y) ↔ (In y xs × (y < n))
 unfolding marks-of
 marks-in n xs y = (there, λ r. mark-all-back xs (replicate n false) y (inr (r .0, subst (λ k. y < k) (sym (length-replicate n false)) (r .1))))

@@ -6,11 +6,12 @@ use native.Mathlib.Nat.{suc-sub-suc, sub-zero}
 use Rattle.rules.specs.Lists.{Words}
 use Rattle.rules.specs.Sheet.{at, chain-of}
 
--- No count left, or the chain at its end: there is no record.
+-- With no count left there is no record.
 pub chain-spent : (k : ℕ) (s : Words) (i id : ℕ) → k ≡ 0 → 0 ≡ at (chain-of k s i) id
 unfolding chain-of
 chain-spent k s i id e = rw e refl
 
+-- Nor where the chain ends.
 pub chain-end : (k : ℕ) (s : Words) (i id : ℕ) → i ≡ 0 → 0 ≡ at (chain-of k s i) id
 unfolding chain-of
 chain-end zero s i id e = refl
