@@ -41,3 +41,9 @@ pub mod Witnesses
 pub mod WordLaws
 pub mod Outcomes
 pub mod Refusals
+pub mod Members
+pub mod CheckLaws
+pub mod AncestorLaws
+pub mod Admission
+pub mod AdmissionLaws
+pub mod SheetFuel
