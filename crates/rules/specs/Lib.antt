@@ -30,3 +30,5 @@ pub mod Readings
 pub mod TransferKeeps
 pub mod FreshKeeps
 pub mod Limit
+pub mod WalksEnd
+pub mod Pigeonholes
