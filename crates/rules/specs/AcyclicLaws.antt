@@ -11,7 +11,7 @@ use lib.ListN.{length, getD, length-replicate}
 use Rattle.rules.specs.Lists.{Words, all}
 use Rattle.rules.specs.Types.{Ty, TypeState, unknown, known, TypeNode, Types, new-node, node-at, state-at}
 use Rattle.rules.specs.Acyclic.{children, above, heights, acyclic}
-use Rattle.rules.specs.Robinson.{var, con, cons, Sol, terms, rep, Fits, Free}
+use Rattle.rules.specs.Solutions.{var, con, cons, Sol, terms, rep, Fits, Free}
 
 -- children of a node, by number
 unfoldable pub children-at : Types → ℕ → List Ty

@@ -11,7 +11,7 @@ use Rattle.rules.specs.Lists.{Words, all, holds}
 use Rattle.rules.specs.Sheet.{at, chain, records, field, type-params, many}
 use Rattle.rules.specs.Types.{Ty, TypeState, unknown, TypeNode, new-node, node-at, state-at}
 use Rattle.rules.specs.Transfer.{cell-types, node-state, new-nodes, table}
-use Rattle.rules.specs.Robinson.{rep, AllIn, ChildrenIn, WellFormed, Free, Readable}
+use Rattle.rules.specs.Solutions.{rep, AllIn, ChildrenIn, WellFormed, Free, Readable}
 use Rattle.rules.specs.Search.{Finder}
 use Rattle.rules.specs.Chains.{sheet-keeps}
 use Rattle.rules.specs.Values.{is-id, in-table, node-fits, node-ok, table-ok, generics-ok, impl-ok, sheet-values, impl-question-values, flex-question-values}

@@ -8,7 +8,7 @@ use native.Mathlib.Omega.{arith}
 use lib.ListN.{length, replicate, length-append}
 use Rattle.rules.specs.Types.{Ty, TypeState, unknown, TypeNode, Types, new-node}
 use Rattle.rules.specs.Transfer.{new-nodes, Transfer, param-for}
-use Rattle.rules.specs.Robinson.{WellFormed, Readable}
+use Rattle.rules.specs.Solutions.{WellFormed, Readable}
 use Rattle.rules.specs.Readings.{Ranked}
 use Rattle.rules.specs.TransferKeeps.{Inv, begin, push, filled-formed, filled-readable}
 

@@ -32,3 +32,7 @@ pub mod FreshKeeps
 pub mod Limit
 pub mod WalksEnd
 pub mod Pigeonholes
+pub mod Solutions
+pub mod Joining
+pub mod MostGeneral
+pub mod UnifierFound

@@ -7,7 +7,7 @@ use native.Mathlib.Nat.{not-suc-le-zero, le-refl}
 use native.Mathlib.Omega.{arith}
 use lib.ListN.{length, getD}
 use Rattle.rules.specs.Types.{Ty, TypeState, unknown, known, Types, state-at}
-use Rattle.rules.specs.Robinson.{var, con, Sol, terms, rep, Fits, ChildrenIn, WellFormed, Readable}
+use Rattle.rules.specs.Solutions.{var, con, Sol, terms, rep, Fits, ChildrenIn, WellFormed, Readable}
 use Rattle.rules.specs.Acyclic.{children, above, heights}
 use Rattle.rules.specs.AcyclicLaws.{children-at, flat-rank, height-step, flat-rank-most, terms-same}
 use Rattle.rules.specs.RootRank.{rooted, rank, rank-falls, child-in, rooted-children, rooted-length, solved-acyclic}

@@ -9,7 +9,7 @@ use native.Mathlib.Omega.{arith}
 use lib.Dec.{T}
 use lib.ListN.{length, getD}
 use Rattle.rules.specs.Types.{Ty, TypeState, unknown, known, TypeNode, Types, new-node, node-at, state-at}
-use Rattle.rules.specs.Robinson.{con, Sol, term-size, terms, rep, Fits, Solves, AllIn, ChildrenIn, WellFormed}
+use Rattle.rules.specs.Solutions.{con, Sol, term-size, terms, rep, Fits, Solves, AllIn, ChildrenIn, WellFormed}
 use Rattle.rules.specs.Acyclic.{children, acyclic}
 use Rattle.rules.specs.AcyclicLaws.{children-at, child, flat-rank, map-length, lt-or, no-children, Down, one, on, flat-rank-falls}
 use Rattle.rules.specs.NoCycles.{acyclic-if-none}

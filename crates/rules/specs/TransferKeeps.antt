@@ -13,7 +13,7 @@ use lib.ListN.{length, getD, set, length-append, length-set, List·getD-append}
 use lib.Seq.{getD-at, getD-set-same, getD-set-other}
 use Rattle.rules.specs.Types.{Ty, TypeState, unknown, known, TypeNode, Types, new-node, node-at, state-at, xor, invert-if, find}
 use Rattle.rules.specs.Transfer.{Transfer, mapped, param-for, transfer-each, transfer-in, transfer-types, import-types}
-use Rattle.rules.specs.Robinson.{rep, AllIn, ChildrenIn, WellFormed, Readable, eqb-true, eqb-false}
+use Rattle.rules.specs.Solutions.{rep, AllIn, ChildrenIn, WellFormed, Readable, eqb-true, eqb-false}
 use Rattle.rules.specs.AcyclicLaws.{lt-or}
 use Rattle.rules.specs.RootRank.{rank, child-in}
 use Rattle.rules.specs.Readings.{Ranked, readable-ranked, readable-most, rank-root, ranked-readable}

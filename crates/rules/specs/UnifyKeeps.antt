@@ -10,7 +10,8 @@ use lib.ListN.{length}
 use Rattle.rules.specs.Lists.{Words}
 use Rattle.rules.specs.Sheet.{kind-flag}
 use Rattle.rules.specs.Types.{Ty, TypeState, unknown, known, Types, xor, invert-if, find, state-at, occurs-in, UnifyResult, success, failure, indeterminate, join, Unified, unify-each, unify-types, last-of, unify-children, unify-known, join-on-success, bind-unknown, unify-states, unify-roots, unify-in, unify, ImplType, unify-impl-type}
-use Rattle.rules.specs.Robinson.{rep, AllIn, ChildrenIn, WellFormed, Readable, Won, Right, eqb-true, eqb-false, flip-in, states-right, unify-in-right}
+use Rattle.rules.specs.Solutions.{rep, AllIn, ChildrenIn, WellFormed, Readable, eqb-true, eqb-false}
+use Rattle.rules.specs.MostGeneral.{Won, Right, flip-in, states-right, unify-in-right}
 
 pub record Keeps (ts us : Types) : Type 0 where
   pub len : length us ≡ length ts

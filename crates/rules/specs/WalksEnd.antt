@@ -16,7 +16,7 @@ use Rattle.rules.specs.Types.{Ty, TypeState, unknown, known, Types, new-
 use Rattle.rules.specs.Transfer.{Transfer, mapped, param-for, transfer-each, transfer-in, transfer-types}
 use Rattle.rules.specs.Run.{Run, done, stop}
 use Rattle.rules.specs.Search.{get-mod-in, get-mod}
-use Rattle.rules.specs.Robinson.{rep, AllIn, ChildrenIn, WellFormed, Readable}
+use Rattle.rules.specs.Solutions.{rep, AllIn, ChildrenIn, WellFormed, Readable}
 use Rattle.rules.specs.Pigeonholes.{steady, walk-enough}
 use Rattle.rules.specs.RootRank.{rank, child-in}
 use Rattle.rules.specs.Readings.{readable-ranked, readable-most}
