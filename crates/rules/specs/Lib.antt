@@ -36,3 +36,4 @@ pub mod Solutions
 pub mod Joining
 pub mod MostGeneral
 pub mod UnifierFound
+pub mod UnifyEnds

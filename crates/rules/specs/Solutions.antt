@@ -159,5 +159,9 @@ fuel-step n N θ sz sz′ x h e l f =
 pub fuel-less : (n N : ℕ) (θ : Sol) (sz sz′ : ℕ) → sz′ ≤ sz → Fuel n N θ sz → Fuel n N θ sz′
 fuel-less n N θ sz sz′ l f = record { ms = f .ms; len = f .len; above = λ r t. omega (arith, f .above r t); left = f .left }
 
+-- At the start any fuel above N will do.
+pub fuel-over : (n N : ℕ) (θ : Sol) (sz : ℕ) → N < n → Fuel n N θ sz
+fuel-over n N θ sz h = record { ms = replicate N false; len = length-replicate N false; above = λ r t. absurd (none-marked N r t); left = omega arith }
+
 pub fuel-full : (N : ℕ) (θ : Sol) (sz : ℕ) → Fuel (suc N) N θ sz
-fuel-full N θ sz = record { ms = replicate N false; len = length-replicate N false; above = λ r t. absurd (none-marked N r t); left = omega arith }
+fuel-full N θ sz = fuel-over (suc N) N θ sz (le-refl (suc N))
