@@ -14,10 +14,11 @@ use Rattle.rules.specs.Acyclic.{children, acyclic}
 use Rattle.rules.specs.AcyclicLaws.{children-at, child, flat-rank, map-length, lt-or, no-children, Down, one, on, flat-rank-falls}
 use Rattle.rules.specs.NoCycles.{acyclic-if-none}
 
--- every node with what its root is
+-- The table in which every node is what its root is: there a way down leads from a type to the children of its root.
 unfoldable pub rooted : Types → Types
 rooted ts = map (λ nd. record { up = nd .up; state = state-at ts (nd .up .1); size = nd .size }) ts
 
+-- The rank of a node: how long the longest such way down from it is, counted up to the length of the table.
 unfoldable pub rank : Types → ℕ → ℕ
 rank ts n = flat-rank (rooted ts) n
 
@@ -53,7 +54,7 @@ module _ (ts : Types) (formed : WellFormed ts) where
     here : n < length ts
     here = has-kids n j l
 
-    inside : child (rooted ts) n j < length (rooted ts)
+    pub inside : child (rooted ts) n j < length (rooted ts)
     unfolding child children
     inside = subst (λ m. child (rooted ts) n j < m) (sym (rooted-length ts)) (go (state-at ts (rep ts n)) (rooted-children ts n here) (formed n here .2))
       where
@@ -76,13 +77,17 @@ module _ (ts : Types) (formed : WellFormed ts) where
   down-size θ sv x y (one j l) = smaller x j l θ sv
   down-size θ sv x y (on {y = z} d j l) = omega (arith, smaller z j l θ sv, down-size θ sv x z d)
 
-  -- a table with a solution acyclic
+  -- No type reaches itself in a table that has a solution.
   pub solved-acyclic : (θ : Sol) → Solves ts θ → T (acyclic (rooted ts))
   solved-acyclic θ sv = acyclic-if-none (rooted ts) inside (λ n d. lt-irrefl _ (down-size θ sv n n d))
 
-  -- the measure of an occurs walk: it falls range a type to the children of its root
-  pub rank-falls : (θ : Sol) → Solves ts θ → (n : ℕ) → n < length ts → (i : Bool) (kd d : ℕ) (cs : List Ty) → state-at ts (rep ts n) ≡ known i kd d cs → (j : ℕ) → j < length cs → rank ts ((getD cs j (false, 0)) .1) < rank ts n
+  -- The measure of an occurs walk: it falls from a type to the children of its root, where no type reaches itself,
+  pub rooted-falls : T (acyclic (rooted ts)) → (n : ℕ) → n < length ts → (i : Bool) (kd d : ℕ) (cs : List Ty) → state-at ts (rep ts n) ≡ known i kd d cs → (j : ℕ) → j < length cs → rank ts ((getD cs j (false, 0)) .1) < rank ts n
   unfolding rank child children
-  rank-falls θ sv n h i kd d cs q j l =
+  rooted-falls e n h i kd d cs q j l =
       let same : children-at (rooted ts) n ≡ cs = rooted-children ts n h ∙ ap children q in
-      subst (λ (cs′ : List Ty). flat-rank (rooted ts) ((getD cs′ j (false, 0)) .1) < flat-rank (rooted ts) n) same (flat-rank-falls (rooted ts) (solved-acyclic θ sv) n j (subst (λ (cs′ : List Ty). j < length cs′) (sym same) l))
+      subst (λ (cs′ : List Ty). flat-rank (rooted ts) ((getD cs′ j (false, 0)) .1) < flat-rank (rooted ts) n) same (flat-rank-falls (rooted ts) e n j (subst (λ (cs′ : List Ty). j < length cs′) (sym same) l))
+
+  -- and so where there is a solution.
+  pub rank-falls : (θ : Sol) → Solves ts θ → (n : ℕ) → n < length ts → (i : Bool) (kd d : ℕ) (cs : List Ty) → state-at ts (rep ts n) ≡ known i kd d cs → (j : ℕ) → j < length cs → rank ts ((getD cs j (false, 0)) .1) < rank ts n
+  rank-falls θ sv = rooted-falls (solved-acyclic θ sv)

@@ -1,4 +1,4 @@
--- Moving types from a table that ends into one that ends leaves one that ends: import and export keep tables acyclic, and their fuel is never used up.
+-- Moving types from an acyclic table into an acyclic one leaves an acyclic one: `import` and `export` keep tables in order.
 use Prim.Native.Nat.{ℕ, zero, suc, _+_, _≤_, _<_}
 use mathlib.Core.Path.{_≡_, refl, sym, _∙_, ap, subst}
 use mathlib.Core.Bool.{Bool, true, false, true≢false}
@@ -16,7 +16,7 @@ use Rattle.rules.specs.Transfer.{Transfer, mapped, param-for, transfer-e
 use Rattle.rules.specs.Solutions.{rep, AllIn, ChildrenIn, WellFormed, Readable, eqb-true, eqb-false}
 use Rattle.rules.specs.AcyclicLaws.{lt-or}
 use Rattle.rules.specs.RootRank.{rank, child-in}
-use Rattle.rules.specs.Readings.{Ranked, readable-ranked, readable-most, rank-root, ranked-readable}
+use Rattle.rules.specs.Readings.{Ranked, Acyclic, readable-ranked, readable-most, rank-root, ranked-readable}
 
 -- one place of a function changed
 unfoldable pub put : (ℕ → ℕ) → ℕ → ℕ → ℕ → ℕ
@@ -65,7 +65,7 @@ module _ (src : Types) (gs : WellFormed src) (ρ : ℕ → ℕ) (ranked : Ranked
     pub in′ : t .1 < len
     pub by : (t .1 < length dst) ⊎ ((length dst ≤ t .1) × (ξ (t .1) ≡ r))
 
-  -- a child: old, or new and of lower flat-rank than b
+  -- a child: old, or new and of lower rank than b
   pub record Low (ξ : ℕ → ℕ) (len b : ℕ) (t : Ty) : Type 0 where
     pub in′ : t .1 < len
     pub by : (t .1 < length dst) ⊎ ((length dst ≤ t .1) × (ρ (ξ (t .1)) < b))
@@ -287,7 +287,7 @@ module _ (src : Types) (gs : WellFormed src) (ρ : ℕ → ℕ) (ranked : Ranked
             let e = v .flat n l h in
             (subst (λ x. x < length (m .1)) (sym e) h, ap (rep (m .1)) e, subst (λ x. ChildrenIn (length (m .1)) (state-at (m .1) x)) (sym e) (new-kids n l h (state-at (m .1) n) refl))
 
-    -- old nodes keep their flat-rank, new ones stand above them
+    -- old nodes keep their rank, new ones stand above them
     unfoldable rankNow : ℕ → ℕ
     rankNow n = elim (ltb n (length dst)) [ true ↦ rank dst n | false ↦ suc (length dst) + ρ (ξ n) ]
 
@@ -355,3 +355,7 @@ imports src gs ks ps dst gd kd low ts h = record {
 
     a : ArriveAll src gs (rank src) ranked even ps dst low ([], dst) (λ n. 0) ts (transfer-each (transfer-in (suc (length src)) src ps) ts ([], dst))
     a = all-arrive src gs (rank src) ranked even ps dst low (suc (length src)) (transfer-in (suc (length src)) src ps) (move-right src gs (rank src) ranked even ps dst low (suc (length src))) ts (λ j l. (h j l, omega (arith, readable-most src gs ks ((getD ts j (false, 0)) .1)))) ([], dst) (λ n. 0) (begin src gs (rank src) ranked even ps dst low)
+
+-- The same from and into acyclic tables: an import leaves the table acyclic.
+pub imports-acyclic : (src : Types) → WellFormed src → Acyclic src → (ps : Option (List Ty)) (dst : Types) → WellFormed dst → Acyclic dst → ((st : TypeState) (u : Ty) → param-for ps st ≡ some u → u .1 < length dst) → (ts : List Ty) → ((j : ℕ) → j < length ts → (getD ts j (false, 0)) .1 < length src) → WellFormed ((import-types src ps ts dst) .1) × Acyclic ((import-types src ps ts dst) .1)
+imports-acyclic src gs es ps dst gd ed low ts h = let i = imports src gs (ranked-readable src gs (rank src) es) ps dst gd (ranked-readable dst gd (rank dst) ed) low ts h in (i .formed, readable-ranked _ (i .formed) (i .kept))

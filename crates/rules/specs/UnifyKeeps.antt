@@ -1,4 +1,4 @@
--- Whatever a join comes to, the table that it leaves can be read as terms: it stays acyclic. (The last joins go on after a failure.)
+-- Whatever `unify` comes to, the table that it leaves is well formed and acyclic, and its solutions solve the table before. (Joining goes on after a failure.)
 use Prim.Native.Nat.{ℕ, zero, suc, _<_}
 use mathlib.Core.Path.{_≡_, refl, sym, _∙_, ap, subst}
 use mathlib.Core.Bool.{Bool, true, false, not, _&&_, _||_}
@@ -13,7 +13,10 @@ use Rattle.rules.specs.Sheet.{kind-flag, row·may-meet}
 use Rattle.rules.specs.Types.{Ty, TypeState, unknown, known, Types, xor, invert-if, find, state-at, occurs-in, UnifyResult, success, failure, indeterminate, join, Unified, unify-each, unify-types, last-of, unify-children, unify-known, join-on-success, bind-unknown, unify-states, unify-roots, unify-in, unify, ImplType, unify-impl-type}
 use Rattle.rules.specs.Solutions.{Sol, rep, Solves, AllIn, ChildrenIn, WellFormed, Readable, eqb-true, eqb-false}
 use Rattle.rules.specs.MostGeneral.{Won, Right, flip-in, states-right, unify-in-right}
+use Rattle.rules.specs.RootRank.{rank}
+use Rattle.rules.specs.Readings.{Acyclic, readable-ranked, ranked-readable}
 
+-- A table that stays as long, well formed and readable.
 pub record Keeps (ts us : Types) : Type 0 where
   pub len : length us ≡ length ts
   pub formed : WellFormed us
@@ -146,3 +149,22 @@ impl-type-narrows s ts a b formed ax ay k = go (eqb (a .0) 0 || eqb (b .0) 0) re
 
 pub impl-type-keeps : (s : Words) (ts : Types) (a b : ImplType) → WellFormed ts → AllIn (length ts) (a .1) → AllIn (length ts) (b .1) → Readable ts → Keeps ts ((unify-impl-type s ts a b) .1)
 impl-type-keeps s ts a b formed ax ay k = (impl-type-narrows s ts a b formed ax ay k) .keeps
+
+-- A table that stays as long, and is well formed and acyclic: the rank computed from it falls from each node to the children of its root.
+pub record StaysAcyclic (ts us : Types) : Type 0 where
+  pub len : length us ≡ length ts
+  pub formed : WellFormed us
+  pub acyclic : Acyclic us
+
+stays : (ts us : Types) → Keeps ts us → StaysAcyclic ts us
+stays ts us k = record { len = k .len; formed = k .formed; acyclic = readable-ranked us (k .formed) (k .kept) }
+
+-- The acyclicity lemma, for all tables, inverted and with Error too: whatever `unify` comes to, to any depth, the table stays acyclic.
+pub unify-in-acyclic : (n : ℕ) (s : Words) (ts : Types) (a b : Ty) → WellFormed ts → Acyclic ts → a .1 < length ts → b .1 < length ts → StaysAcyclic ts ((unify-in n s ts a b) .1)
+unify-in-acyclic n s ts a b formed e ha hb = stays ts _ ((unify-in-narrows n s ts a b formed ha hb (ranked-readable ts formed (rank ts) e)) .keeps)
+
+pub unify-acyclic : (s : Words) (ts : Types) (a b : Ty) → WellFormed ts → Acyclic ts → a .1 < length ts → b .1 < length ts → StaysAcyclic ts ((unify s ts a b) .1)
+unify-acyclic s ts a b formed e ha hb = stays ts _ (unify-keeps s ts a b formed ha hb (ranked-readable ts formed (rank ts) e))
+
+pub impl-type-acyclic : (s : Words) (ts : Types) (a b : ImplType) → WellFormed ts → Acyclic ts → AllIn (length ts) (a .1) → AllIn (length ts) (b .1) → StaysAcyclic ts ((unify-impl-type s ts a b) .1)
+impl-type-acyclic s ts a b formed e ax ay = stays ts _ (impl-type-keeps s ts a b formed ax ay (ranked-readable ts formed (rank ts) e))
