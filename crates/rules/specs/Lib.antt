@@ -37,3 +37,4 @@ pub mod Joining
 pub mod MostGeneral
 pub mod UnifierFound
 pub mod UnifyEnds
+pub mod UprightTables

@@ -114,24 +114,29 @@ pub record Free (ts : Types) (σ : Sol) : Type 0 where
 abbrev pub Readable : Types → Type 0
 Readable ts = (σ : Sol) × Free ts σ
 
--- every solution is an instance of the free one
-instance-of : (k : ℕ) (ts : Types) (σ θ : Sol) → WellFormed ts → Free ts σ → Solves ts θ → (n : ℕ) → n < length ts → term-size (σ n) < k → sub θ (σ n) ≡ θ n
-unfolding sub term-size terms
-instance-of zero ts σ θ formed fr sv n h l = absurd (not-suc-le-zero l)
-instance-of (suc k) ts σ θ formed fr sv n h l = go (state-at ts (rep ts n)) refl (instance-of k ts σ θ formed fr sv)
+-- Two solutions of a table that can be read as terms are one where they agree on its unknowns.
+unique-of : (k : ℕ) (ts : Types) (σ θ θ′ : Sol) → WellFormed ts → Solves ts σ → Solves ts θ → Solves ts θ′ → ((r : ℕ) → r < length ts → rep ts r ≡ r → state-at ts r ≡ unknown → θ r ≡ θ′ r) → (n : ℕ) → n < length ts → term-size (σ n) < k → θ n ≡ θ′ n
+unfolding term-size terms
+unique-of zero ts σ θ θ′ formed ss sv sv′ e n h l = absurd (not-suc-le-zero l)
+unique-of (suc k) ts σ θ θ′ formed ss sv sv′ e n h l = go (state-at ts (rep ts n)) refl (unique-of k ts σ θ θ′ formed ss sv sv′ e)
   where
-    inside : (cs : List Ty) → AllIn (length ts) cs → term-size (terms σ cs) < k → ((m : ℕ) → m < length ts → term-size (σ m) < k → sub θ (σ m) ≡ θ m) → sub θ (terms σ cs) ≡ terms θ cs
+    inside : (cs : List Ty) → AllIn (length ts) cs → term-size (terms σ cs) < k → ((m : ℕ) → m < length ts → term-size (σ m) < k → θ m ≡ θ′ m) → terms θ cs ≡ terms θ′ cs
     inside [] a q ih = refl
     inside (c ∷ cs) a q ih = ap₂ cons (ih (c .1) (a .0) (omega arith)) (inside cs (a .1) (omega arith) ih)
 
-    go : (st : TypeState) → state-at ts (rep ts n) ≡ st → ((m : ℕ) → m < length ts → term-size (σ m) < k → sub θ (σ m) ≡ θ m) → sub θ (σ n) ≡ θ n
-    go unknown e ih = ap (sub θ) (fr .solves n h .0 ∙ fr .vars (rep ts n) (formed n h .0) (formed n h .1) e) ∙ sym (sv n h .0)
-    go (known i kd d cs) e ih =
-        let w = fr .solves n h .0 ∙ subst (Fits σ (rep ts n)) e (fr .solves n h .1) in
-        ap (sub θ) w ∙ ap (con kd d) (inside cs (subst (ChildrenIn (length ts)) e (formed n h .2)) (omega (arith, ap term-size w)) ih) ∙ sym (sv n h .0 ∙ subst (Fits θ (rep ts n)) e (sv n h .1))
+    go : (st : TypeState) → state-at ts (rep ts n) ≡ st → ((m : ℕ) → m < length ts → term-size (σ m) < k → θ m ≡ θ′ m) → θ n ≡ θ′ n
+    go unknown q ih = sv n h .0 ∙ e (rep ts n) (formed n h .0) (formed n h .1) q ∙ sym (sv′ n h .0)
+    go (known i kd d cs) q ih =
+        let whole : (ρ : Sol) → Solves ts ρ → ρ n ≡ con kd d (terms ρ cs) = λ ρ s. s n h .0 ∙ subst (Fits ρ (rep ts n)) q (s n h .1) in
+        whole θ sv ∙ ap (con kd d) (inside cs (subst (ChildrenIn (length ts)) q (formed n h .2)) (omega (arith, ap term-size (whole σ ss))) ih) ∙ sym (whole θ′ sv′)
 
+pub unique : (ts : Types) (θ θ′ : Sol) → WellFormed ts → Readable ts → Solves ts θ → Solves ts θ′ → ((r : ℕ) → r < length ts → rep ts r ≡ r → state-at ts r ≡ unknown → θ r ≡ θ′ r) → (n : ℕ) → n < length ts → θ n ≡ θ′ n
+unique ts θ θ′ formed r sv sv′ e n h = unique-of (suc (term-size ((r .0) n))) ts (r .0) θ θ′ formed (r .1 .solves) sv sv′ e n h (le-refl _)
+
+-- Every solution is an instance of the free one.
 pub instance : (ts : Types) (σ θ : Sol) → WellFormed ts → Free ts σ → Solves ts θ → (n : ℕ) → n < length ts → sub θ (σ n) ≡ θ n
-instance ts σ θ formed fr sv n h = instance-of (suc (term-size (σ n))) ts σ θ formed fr sv n h (le-refl (suc (term-size (σ n))))
+unfolding sub
+instance ts σ θ formed fr sv = unique ts (λ n. sub θ (σ n)) θ formed (σ, fr) (solves-sub ts θ σ (fr .solves)) sv (λ r h e u. ap (sub θ) (fr .vars r h e u))
 
 -- Fuel n for a walk down a table of N nodes, from one whose term has size sz: those passed so far are marked, and are larger; n and they together are more than N.
 pub record Fuel (n N : ℕ) (θ : Sol) (sz : ℕ) : Type 0 where

@@ -11,80 +11,21 @@ use lib.Dec.{T, eqb, ltb}
 use lib.ListN.{length, length-set}
 use lib.Seq.{getD-set-same, getD-set-other}
 use Rattle.rules.specs.Lists.{Words}
-use Rattle.rules.specs.Sheet.{kind-flag}
+use Rattle.rules.specs.Layout.{kind·error}
+use Rattle.rules.specs.Sheet.{kind-flag, row·may-meet}
 use Rattle.rules.specs.Types.{Ty, TypeState, unknown, known, TypeNode, Types, node-at, xor, invert-if, invert-state, find, state-at, size-at, UnifyResult, success, failure, indeterminate, and, from-bool, relabel, or-else, hang, join, Unified, unify-each, unify-children, unify-known, join-on-success, occurs-in, self-inverse, bind-unknown, unify-states, unify-roots, unify-in, unify}
 use Rattle.rules.specs.Solutions.{Term, var, con, nil, cons, term-size, Sol, terms, rep, Fits, Solves, AllIn, ChildrenIn, WellFormed, eqb-true, eqb-false, Readable, Fuel, fuel-none, fuel-step, fuel-less, fuel-full}
 use Rattle.rules.specs.Joining.{map-at, map-length}
+use Rattle.rules.specs.UprightTables.{Upright, PlainState, UprightErrorFree, flip-upright, KeepsUpright, unify-in-upright}
 use Rattle.rules.specs.MostGeneral.{Won, occurs-size, Right, AfterAll, headT, tailT, flip-in, flip-terms, known-right, unify-in-right}
-
--- Upright types: none is inverted.
-abbrev pub Upright : List Ty → Type 0
-Upright [] = Unit {0}
-Upright (c ∷ cs) = (c .0 ≡ false) × Upright cs
-
--- A state that is unknown, or neither inverted nor Error, with upright children.
-abbrev pub PlainState : TypeState → Type 0
-PlainState unknown = Unit {0}
-PlainState (known i k d cs) = (i ≡ false) × (k ≢ 13) × Upright cs
-
--- An upright, error-free table: no node is the inverse of its root, and none is inverted, Error, or has an inverted child.
-abbrev pub UprightErrorFree : Types → Type 0
-UprightErrorFree ts = (n : ℕ) → n < length ts → ((node-at ts n) .up .0 ≡ false) × PlainState (state-at ts n)
-
-hang-plain : (ts : Types) (lo hi : Ty) → lo .1 < length ts → hi .1 < length ts → lo .0 ≡ false → hi .0 ≡ false → UprightErrorFree ts → UprightErrorFree (hang ts lo hi)
-unfolding hang node-at state-at relabel invert-if or-else invert-state
-hang-plain ts lo hi hlo hhi l₀ h₀ plain n h′ = go (ℕ-discrete n (hi .1))
-  where
-    b : Bool
-    b = xor (hi .0) (lo .0)
-
-    b₀ : b ≡ false
-    b₀ = ap₂ xor h₀ l₀
-
-    mv : TypeNode → TypeNode
-    mv = relabel (lo .1) (b, hi .1)
-
-    h : n < length ts
-    h = subst (λ m. n < m) (length-set (map mv ts) (hi .1) _ ∙ map-length mv ts) h′
-
-    or-plain : (u v : TypeState) (c : Bool) → c ≡ false → PlainState u → PlainState v → PlainState (or-else u (invert-state c v))
-    or-plain unknown unknown c e p q = tt
-    or-plain unknown (known i k d cs) c e p q = (ap₂ xor e (q .0), q .1, q .2)
-    or-plain (known i k d cs) v c e p q = p
-
-    mv-plain : (nd : TypeNode) → (nd .up .0 ≡ false) × PlainState (nd .state) → ((mv nd) .up .0 ≡ false) × PlainState ((mv nd) .state)
-    mv-plain nd p = pick (eqb (nd .up .1) (lo .1)) refl
-      where
-        pick : (c : Bool) → eqb (nd .up .1) (lo .1) ≡ c → ((mv nd) .up .0 ≡ false) × PlainState ((mv nd) .state)
-        pick true e = rw (e, relabel) (ap₂ xor (p .0) b₀, p .1)
-        pick false e = rw (e, relabel) p
-
-    go : Dec (n ≡ hi .1) → ((node-at (hang ts lo hi) n) .up .0 ≡ false) × PlainState (state-at (hang ts lo hi) n)
-    go (yes e) =
-        subst (λ m. ((node-at (hang ts lo hi) m) .up .0 ≡ false) × PlainState (state-at (hang ts lo hi) m)) (sym e)
-        (subst (λ nd. (nd .up .0 ≡ false) × PlainState (nd .state)) (sym (getD-set-same (map mv ts) (hi .1) _ _ (rw (map-length mv ts) hhi)))
-        (refl, or-plain (state-at ts (hi .1)) (state-at ts (lo .1)) b b₀ (plain (hi .1) hhi .1) (plain (lo .1) hlo .1)))
-    go (no d) = subst (λ nd. (nd .up .0 ≡ false) × PlainState (nd .state)) (sym (getD-set-other (map mv ts) (hi .1) n _ _ d ∙ map-at mv ts n _ h)) (mv-plain (node-at ts n) (plain n h))
-
-join-plain : (ts : Types) (x y : Ty) → x .1 < length ts → y .1 < length ts → x .0 ≡ false → y .0 ≡ false → UprightErrorFree ts → UprightErrorFree (join ts x y)
-unfolding join
-join-plain ts x y hx hy x₀ y₀ plain = go (ltb (size-at ts (y .1)) (size-at ts (x .1))) refl
-  where
-    go : (b : Bool) → ltb (size-at ts (y .1)) (size-at ts (x .1)) ≡ b → UprightErrorFree (join ts x y)
-    go true e = rw (e, join) (hang-plain ts y x hy hx y₀ x₀ plain)
-    go false e = rw (e, join) (hang-plain ts x y hx hy x₀ y₀ plain)
-
--- found, and still plain
-abbrev Fine : Unified → Type 0
-Fine m = Won (m .0) × UprightErrorFree (m .1)
 
 not-T→false : (b : Bool) → ¬ T b → b ≡ false
 not-T→false true h = absurd (h tt)
 not-T→false false h = refl
 
-bind-fine : (ts : Types) (θ : Sol) (x y : Ty) → WellFormed ts → UprightErrorFree ts → Solves ts θ → x .1 < length ts → y .1 < length ts → rep ts (x .1) ≡ x .1 → rep ts (y .1) ≡ y .1 → x .1 ≢ y .1 → x .0 ≡ false → y .0 ≡ false → θ (x .1) ≡ θ (y .1) → Fine (bind-unknown ts x y)
+bind-fine : (ts : Types) (θ : Sol) (x y : Ty) → WellFormed ts → Solves ts θ → x .1 < length ts → y .1 < length ts → rep ts (x .1) ≡ x .1 → rep ts (y .1) ≡ y .1 → x .1 ≢ y .1 → θ (x .1) ≡ θ (y .1) → Won ((bind-unknown ts x y) .0)
 unfolding bind-unknown
-bind-fine ts θ x y formed plain sv hx hy rx ry ne x₀ y₀ e = rw (no-occurs, bind-unknown) (tt, join-plain ts x y hx hy x₀ y₀ plain)
+bind-fine ts θ x y formed sv hx hy rx ry ne e = rw (no-occurs, bind-unknown) tt
   where
     side : (v t : Ty) → t .1 < length ts → rep ts (t .1) ≡ t .1 → t .1 ≢ v .1 → θ (v .1) ≡ θ (t .1) → occurs-in (suc (length ts)) ts (v .1) t ≡ false
     side v t ht rt d q = not-T→false _ (λ o. no′ (occurs-size (suc (length ts)) ts θ formed sv (v .1) t ht o))
@@ -96,14 +37,21 @@ bind-fine ts θ x y formed plain sv hx hy rx ry ne x₀ y₀ e = rw (no-occurs, 
     no-occurs : (occurs-in (suc (length ts)) ts (x .1) y || occurs-in (suc (length ts)) ts (y .1) x) ≡ false
     no-occurs = ap₂ _||_ (side x y hy ry (λ z. ne (sym z)) e) (side y x hx rx ne (sym e))
 
+pub won-is : (v : UnifyResult) → Won v → v ≡ success
+won-is success w = refl
+won-is failure w = absurd w
+won-is indeterminate w = absurd w
+
 won-both : (v w : UnifyResult) → Won v → Won w → Won (and v w)
 won-both success w a b = b
 won-both failure w a b = a
 won-both indeterminate w a b = absurd a
 
+-- Two types unify wherever a solution makes them agree, and fuel n is enough for it.
 abbrev pub Result : (Types → Ty → Ty → Unified) → ℕ → ℕ → Sol → Type 0
-Result f n N θ = (ts : Types) (a b : Ty) → length ts ≡ N → WellFormed ts → UprightErrorFree ts → a .1 < N → b .1 < N → a .0 ≡ false → b .0 ≡ false → Solves ts θ → θ (a .1) ≡ θ (b .1) → Fuel n N θ (term-size (θ (a .1))) → Readable ts → Fine (f ts a b)
+Result f n N θ = (ts : Types) (a b : Ty) → length ts ≡ N → WellFormed ts → UprightErrorFree ts → a .1 < N → b .1 < N → a .0 ≡ false → b .0 ≡ false → Solves ts θ → θ (a .1) ≡ θ (b .1) → Fuel n N θ (term-size (θ (a .1))) → Readable ts → Won ((f ts a b) .0)
 
+-- What a term of each form has: how many there are in a list, the kind and the id of a type.
 lenT : Term → ℕ
 lenT (var n) = 0
 lenT (con k d t) = 0
@@ -127,51 +75,40 @@ idT (con k d t) = d
 idT nil = 0
 idT (cons t u) = 0
 
-module _ (f : Types → Ty → Ty → Unified) (right : Right f) (n N : ℕ) (θ : Sol) (found : Result f n N θ) where
-  all-fine : (ts : Types) (xs ys : List Ty) → length ts ≡ N → WellFormed ts → UprightErrorFree ts → AllIn N xs → AllIn N ys → Upright xs → Upright ys → Solves ts θ → terms θ xs ≡ terms θ ys → Fuel n N θ (term-size (terms θ xs)) → Readable ts → Fine (unify-each f ts xs ys)
+module _ (f : Types → Ty → Ty → Unified) (right : Right f) (n N : ℕ) (θ : Sol) (kept : KeepsUpright f) (found : Result f n N θ) where
+  all-fine : (ts : Types) (xs ys : List Ty) → length ts ≡ N → WellFormed ts → UprightErrorFree ts → AllIn N xs → AllIn N ys → Upright xs → Upright ys → Solves ts θ → terms θ xs ≡ terms θ ys → Fuel n N θ (term-size (terms θ xs)) → Readable ts → Won ((unify-each f ts xs ys) .0)
   unfolding unify-each terms headT tailT term-size
-  all-fine ts [] ys len formed plain ax ay ux uy sv e fu fr = (tt, plain)
-  all-fine ts (x ∷ xs) [] len formed plain ax ay ux uy sv e fu fr = (tt, plain)
+  all-fine ts [] ys len formed plain ax ay ux uy sv e fu fr = tt
+  all-fine ts (x ∷ xs) [] len formed plain ax ay ux uy sv e fu fr = tt
   all-fine ts (x ∷ xs) (y ∷ ys) len formed plain ax ay ux uy sv e fu fr =
       let p = found ts x y len formed plain (ax .0) (ay .0) (ux .0) (uy .0) sv (ap headT e) (fuel-less n N θ (term-size (θ (x .1)) + term-size (terms θ xs)) (term-size (θ (x .1))) (omega arith) fu) fr in
-      let ak = right ts x y formed (rw len (ax .0)) (rw len (ay .0)) fr (p .0) in
+      let ak = right ts x y formed (rw len (ax .0)) (rw len (ay .0)) fr p in
       let a = ak .0 in
-      let q = all-fine ((f ts x y) .1) xs ys (a .len ∙ len) (a .formed) (p .1) (ax .1) (ay .1) (ux .1) (uy .1) (a .into θ sv (ap headT e)) (ap tailT e) (fuel-less n N θ (term-size (θ (x .1)) + term-size (terms θ xs)) (term-size (terms θ xs)) (omega arith) fu) (ak .1) in
-      (won-both ((f ts x y) .0) ((unify-each f ((f ts x y) .1) xs ys) .0) (p .0) (q .0), q .1)
-
-  flip-upright : (inv : Bool) → inv ≡ false → (ys : List Ty) → Upright ys → Upright (map (invert-if inv) ys)
-  unfolding invert-if
-  flip-upright inv e [] u = tt
-  flip-upright inv e (y ∷ ys) u = (ap₂ xor e (u .0), flip-upright inv e ys (u .1))
+      let q = all-fine ((f ts x y) .1) xs ys (a .len ∙ len) (a .formed) (kept ts x y formed fr plain (rw len (ax .0)) (rw len (ay .0)) (ux .0) (uy .0)) (ax .1) (ay .1) (ux .1) (uy .1) (a .into θ sv (ap headT e)) (ap tailT e) (fuel-less n N θ (term-size (θ (x .1)) + term-size (terms θ xs)) (term-size (terms θ xs)) (omega arith) fu) (ak .1) in
+      won-both ((f ts x y) .0) ((unify-each f ((f ts x y) .1) xs ys) .0) p q
 
   map-len : (inv : Bool) (ys : List Ty) → length (map (invert-if inv) ys) ≡ length ys
   map-len inv [] = refl
   map-len inv (y ∷ ys) = ap suc (map-len inv ys)
 
-  known-fine : (s : Words) (ts : Types) (inv : Bool) (k d : ℕ) (xs : List Ty) (k′ d′ : ℕ) (ys : List Ty) → length ts ≡ N → WellFormed ts → UprightErrorFree ts → AllIn N xs → AllIn N ys → Upright xs → Upright ys → Solves ts θ → inv ≡ false → k ≢ 13 → k′ ≢ 13 → con k d (terms θ xs) ≡ con k′ d′ (terms θ ys) → Fuel n N θ (term-size (terms θ xs)) → Readable ts → Fine (unify-known f s ts inv k d xs k′ d′ ys)
+  known-fine : (s : Words) (ts : Types) (inv : Bool) (k d : ℕ) (xs : List Ty) (k′ d′ : ℕ) (ys : List Ty) → length ts ≡ N → WellFormed ts → UprightErrorFree ts → AllIn N xs → AllIn N ys → Upright xs → Upright ys → Solves ts θ → inv ≡ false → k ≢ kind·error → k′ ≢ kind·error → con k d (terms θ xs) ≡ con k′ d′ (terms θ ys) → Fuel n N θ (term-size (terms θ xs)) → Readable ts → Won ((unify-known f s ts inv k d xs k′ d′ ys) .0)
   unfolding unify-known unify-children tailT kindT idT
   known-fine s ts inv k d xs k′ d′ ys len formed plain ax ay ux uy sv iv nk nk′ e fu fr = rw (no-error, fit, lens, unify-known, unify-children) (all-fine ts xs (map (invert-if inv) ys) len formed plain ax (flip-in inv N ys ay) ux (flip-upright inv iv ys uy) sv (ap tailT e ∙ sym (flip-terms inv θ ys)) fu fr)
     where
-      no-error : (eqb k 13 || eqb k′ 13) ≡ false
-      no-error = ap₂ _||_ (eqb-false k 13 nk) (eqb-false k′ 13 nk′)
+      no-error : (eqb k kind·error || eqb k′ kind·error) ≡ false
+      no-error = ap₂ _||_ (eqb-false k kind·error nk) (eqb-false k′ kind·error nk′)
 
-      fit : (eqb k k′ && eqb d d′ && (not inv || kind-flag s 3 k d)) ≡ true
-      fit = λ t. (eqb-true k k′ (ap kindT e) t) && (eqb-true d d′ (ap idT e) t) && (not (iv t) || kind-flag s 3 k d)
+      fit : (eqb k k′ && eqb d d′ && (not inv || kind-flag s row·may-meet k d)) ≡ true
+      fit = λ t. (eqb-true k k′ (ap kindT e) t) && (eqb-true d d′ (ap idT e) t) && (not (iv t) || kind-flag s row·may-meet k d)
 
       lens : eqb (length xs) (length (map (invert-if inv) ys)) ≡ true
       lens = eqb-true _ _ (sym (lenT-terms θ xs) ∙ ap lenT (ap tailT e) ∙ lenT-terms θ ys ∙ sym (map-len inv ys))
 
-  won-is : (v : UnifyResult) → Won v → v ≡ success
-  won-is success w = refl
-  won-is failure w = absurd w
-  won-is indeterminate w = absurd w
-
-  states-fine : (s : Words) (ts : Types) (x y : Ty) → length ts ≡ N → WellFormed ts → UprightErrorFree ts → x .1 < length ts → y .1 < length ts → rep ts (x .1) ≡ x .1 → rep ts (y .1) ≡ y .1 → x .1 ≢ y .1 → x .0 ≡ false → y .0 ≡ false → Solves ts θ → θ (x .1) ≡ θ (y .1) → Fuel (suc n) N θ (term-size (θ (x .1))) → Readable ts → (u v : TypeState) → state-at ts (x .1) ≡ u → state-at ts (y .1) ≡ v → Fine (unify-states f s ts x y u v)
+  states-fine : (s : Words) (ts : Types) (x y : Ty) → length ts ≡ N → WellFormed ts → UprightErrorFree ts → x .1 < length ts → y .1 < length ts → rep ts (x .1) ≡ x .1 → rep ts (y .1) ≡ y .1 → x .1 ≢ y .1 → x .0 ≡ false → y .0 ≡ false → Solves ts θ → θ (x .1) ≡ θ (y .1) → Fuel (suc n) N θ (term-size (θ (x .1))) → Readable ts → (u v : TypeState) → state-at ts (x .1) ≡ u → state-at ts (y .1) ≡ v → Won ((unify-states f s ts x y u v) .0)
   unfolding unify-states tailT term-size join-on-success
-  states-fine s ts x y len formed plain hx hy rx ry ne x₀ y₀ sv e fu fr unknown v eu ev = bind-fine ts θ x y formed plain sv hx hy rx ry ne x₀ y₀ e
-  states-fine s ts x y len formed plain hx hy rx ry ne x₀ y₀ sv e fu fr (known i k d xs) unknown eu ev = bind-fine ts θ x y formed plain sv hx hy rx ry ne x₀ y₀ e
-  states-fine s ts x y len formed plain hx hy rx ry ne x₀ y₀ sv e fu fr (known i k d xs) (known j k′ d′ ys) eu ev =
-      fine-join (won-is (m .0) (fm .0))
+  states-fine s ts x y len formed plain hx hy rx ry ne x₀ y₀ sv e fu fr unknown v eu ev = bind-fine ts θ x y formed sv hx hy rx ry ne e
+  states-fine s ts x y len formed plain hx hy rx ry ne x₀ y₀ sv e fu fr (known i k d xs) unknown eu ev = bind-fine ts θ x y formed sv hx hy rx ry ne e
+  states-fine s ts x y len formed plain hx hy rx ry ne x₀ y₀ sv e fu fr (known i k d xs) (known j k′ d′ ys) eu ev = joined m fm
     where
       inv : Bool
       inv = xor (xor i (x .0)) (xor j (y .0))
@@ -209,26 +146,23 @@ module _ (f : Types → Ty → Ty → Unified) (right : Right f) (n N : ℕ) (θ
       less : term-size (terms θ xs) < term-size (θ (x .1))
       less = omega (arith, ap term-size fx)
 
-      fm : Fine m
+      fm : Won (m .0)
       fm =
           known-fine s ts inv k d xs k′ d′ ys len formed plain (subst (λ M. AllIn M xs) len ax) (subst (λ M. AllIn M ys) len ay) (px .2) (py .2) sv (ap₂ xor (ap₂ xor (px .0) x₀) (ap₂ xor (py .0) y₀)) (px .1) (py .1) cons-eq
           (fuel-step n N θ (term-size (θ (x .1))) (term-size (terms θ xs)) (x .1) (subst (λ M. x .1 < M) len hx) refl less fu) fr
 
-      q : AfterAll ts xs ys (m .1)
-      q = known-right f right s ts inv k d xs k′ d′ ys formed ax ay fr (fm .0) .2
+      joined : (w : Unified) → Won (w .0) → Won ((join-on-success w x y) .0)
+      joined w h = rw (won-is (w .0) h, join-on-success) tt
 
-      fine-join : m .0 ≡ success → Fine (join-on-success m x y)
-      fine-join a = rw (a, join-on-success) (tt, join-plain (m .1) x y (subst (λ M. x .1 < M) (sym (q .len)) hx) (subst (λ M. y .1 < M) (sym (q .len)) hy) x₀ y₀ (fm .1))
-
-  roots-fine : (s : Words) (ts : Types) (x y : Ty) → length ts ≡ N → WellFormed ts → UprightErrorFree ts → x .1 < length ts → y .1 < length ts → rep ts (x .1) ≡ x .1 → rep ts (y .1) ≡ y .1 → x .0 ≡ false → y .0 ≡ false → Solves ts θ → θ (x .1) ≡ θ (y .1) → Fuel (suc n) N θ (term-size (θ (x .1))) → Readable ts → Fine (unify-roots f s ts x y)
+  roots-fine : (s : Words) (ts : Types) (x y : Ty) → length ts ≡ N → WellFormed ts → UprightErrorFree ts → x .1 < length ts → y .1 < length ts → rep ts (x .1) ≡ x .1 → rep ts (y .1) ≡ y .1 → x .0 ≡ false → y .0 ≡ false → Solves ts θ → θ (x .1) ≡ θ (y .1) → Fuel (suc n) N θ (term-size (θ (x .1))) → Readable ts → Won ((unify-roots f s ts x y) .0)
   unfolding unify-roots
   roots-fine s ts x y len formed plain hx hy rx ry x₀ y₀ sv e fu fr = go (ℕ-discrete (x .1) (y .1))
     where
       upright : Won (from-bool (not (xor (x .0) (y .0)) || self-inverse s ts x))
       upright = rw (x₀, y₀) (unfold from-bool in tt)
 
-      go : Dec (x .1 ≡ y .1) → Fine (unify-roots f s ts x y)
-      go (yes q) = rw (eqb-true (x .1) (y .1) q, unify-roots) (upright, plain)
+      go : Dec (x .1 ≡ y .1) → Won ((unify-roots f s ts x y) .0)
+      go (yes q) = rw (eqb-true (x .1) (y .1) q, unify-roots) upright
       go (no d) = rw (eqb-false (x .1) (y .1) d, unify-roots) (states-fine s ts x y len formed plain hx hy rx ry d x₀ y₀ sv e fu fr (state-at ts (x .1)) (state-at ts (y .1)) refl refl)
 
 unify-in-fine : (n : ℕ) (s : Words) (N : ℕ) (θ : Sol) → Result (unify-in n s) n N θ
@@ -239,16 +173,11 @@ unify-in-fine (suc n) s N θ ts a b len formed plain ha hb a₀ b₀ sv e fu fr 
     let hb′ : b .1 < length ts = rw len hb in
     let ga = formed (a .1) ha′ in
     let gb = formed (b .1) hb′ in
-    roots-fine (λ us t u. unify-in n s us t u) (unify-in-right n s) n N θ (unify-in-fine n s N θ) s ts (find ts a) (find ts b) len formed plain (ga .0) (gb .0) (ga .1) (gb .1)
+    roots-fine (λ us t u. unify-in n s us t u) (unify-in-right n s) n N θ (unify-in-upright n s) (unify-in-fine n s N θ) s ts (find ts a) (find ts b) len formed plain (ga .0) (gb .0) (ga .1) (gb .1)
     (ap₂ xor a₀ (plain (a .1) ha′ .0)) (ap₂ xor b₀ (plain (b .1) hb′ .0)) sv (sym (sv (a .1) ha′ .0) ∙ e ∙ sv (b .1) hb′ .0)
     (subst (λ u. Fuel (suc n) N θ (term-size u)) (sv (a .1) ha′ .0) fu) fr
 
--- On upright, error-free types: wherever a solution makes the two agree, they unify
+-- On upright, error-free types: wherever a solution makes the two agree, they unify.
 pub unify-found : (s : Words) (ts : Types) (a b : Ty) → WellFormed ts → UprightErrorFree ts → a .1 < length ts → b .1 < length ts → a .0 ≡ false → b .0 ≡ false → Readable ts → (θ : Sol) → Solves ts θ → θ (a .1) ≡ θ (b .1) → (unify s ts a b) .0 ≡ success
 unfolding unify
-unify-found s ts a b formed plain ha hb a₀ b₀ fr θ sv e = won _ (unify-in-fine (suc (length ts)) s (length ts) θ ts a b refl formed plain ha hb a₀ b₀ sv e (fuel-full (length ts) θ (term-size (θ (a .1)))) fr .0)
-  where
-    won : (v : UnifyResult) → Won v → v ≡ success
-    won success w = refl
-    won failure w = absurd w
-    won indeterminate w = absurd w
+unify-found s ts a b formed plain ha hb a₀ b₀ fr θ sv e = won-is _ (unify-in-fine (suc (length ts)) s (length ts) θ ts a b refl formed plain ha hb a₀ b₀ sv e (fuel-full (length ts) θ (term-size (θ (a .1)))) fr)

@@ -85,7 +85,7 @@ module _ (f : Types → Ty → Ty → Unified) (safe : NarrowsTables f) where
       go false e true q = rw (e, q, unify-children) (all-safe ts (last-of xs) (last-of ys) formed (last-in (length ts) xs ax) (last-in (length ts) ys ay) kp)
       go false e false q = rw (e, q, unify-children) (still ts formed kp)
 
-  known-safe : (s : Words) (ts : Types) (inv : Bool) (k d : ℕ) (xs : List Ty) (k′ d′ : ℕ) (ys : List Ty) → WellFormed ts → AllIn (length ts) xs → AllIn (length ts) ys → Readable ts → Narrows ts ((unify-known f s ts inv k d xs k′ d′ ys) .1)
+  pub known-safe : (s : Words) (ts : Types) (inv : Bool) (k d : ℕ) (xs : List Ty) (k′ d′ : ℕ) (ys : List Ty) → WellFormed ts → AllIn (length ts) xs → AllIn (length ts) ys → Readable ts → Narrows ts ((unify-known f s ts inv k d xs k′ d′ ys) .1)
   unfolding unify-known
   known-safe s ts inv k d xs k′ d′ ys formed ax ay kp = go (eqb k kind·error || eqb k′ kind·error) refl (eqb k k′ && eqb d d′ && (not inv || kind-flag s row·may-meet k d)) refl
     where
