@@ -11,6 +11,7 @@ use lib.ListN.{length, getD, length-replicate}
 use Rattle.rules.specs.Lists.{Words, all}
 use Rattle.rules.specs.Types.{Ty, TypeState, unknown, known, TypeNode, Types, new-node, node-at, state-at}
 use Rattle.rules.specs.Acyclic.{children, above, heights, acyclic}
+pub use Rattle.rules.specs.Pigeonholes.{lt-or}
 use Rattle.rules.specs.Solutions.{var, con, cons, Sol, terms, rep, Fits, Free}
 
 -- children of a node, by number
@@ -82,19 +83,12 @@ pub no-children : (ts : Types) (n : ℕ) → length ts ≤ n → children-at ts 
 unfolding children-at state-at node-at new-node children
 no-children ts n h = ap (λ (nd : TypeNode). children (nd .state)) (past-end ts n (new-node 0 unknown) h)
 
-pub lt-or : (m n : ℕ) → (m < n) ⊎ (n ≤ m)
-lt-or m n = go (ltb m n) refl
-  where
-    go : (b : Bool) → ltb m n ≡ b → (m < n) ⊎ (n ≤ m)
-    go true e = inl (ltb→lt m n (subst T (sym e) tt))
-    go false e = inr (nltb→le m n (subst (λ b. T (not b)) (sym e) tt))
-
 module _ (ts : Types) (e : T (acyclic ts)) where
   pub flat-rank-below : (n : ℕ) → n < length ts → flat-rank ts n < length ts
   unfolding flat-rank acyclic
   flat-rank-below n h = ltb→lt _ (length ts) (all-at (λ k. ltb k (length ts)) (heights (length ts) ts) n 0 e (subst (λ m. n < m) (sym (heights-length (length ts) ts)) h))
 
-  -- the flat-rank falls range a node to its children
+  -- The rank falls from a node to its children
   pub flat-rank-falls : (n j : ℕ) → j < length (children-at ts n) → flat-rank ts (child ts n j) < flat-rank ts n
   unfolding flat-rank child
   flat-rank-falls n j l = ⊎-elim inside outside (lt-or n (length ts))
@@ -148,7 +142,7 @@ module _ (ts : Types) (e : T (acyclic ts)) where
       go unknown q ih = rw (q, flat-term)
       go (known i kd d cs) q ih = rw (q, flat-term) (ap (con kd d) (terms-same (flat-term k ts) (flat-term m ts) cs λ j b. ih _ (omega (arith, child-low n i kd d cs q j b)) (omega (arith, child-low n i kd d cs q j b))))
 
-  -- every node its own root, as in a table read range a slice: then the terms solve the table, and leave its unknowns free
+  -- every node its own root, as in a table read from a slice: then the terms solve the table, and leave its unknowns free
   pub terms-free : ((n : ℕ) → n < length ts → rep ts n ≡ n) → Free ts (flat-term (suc (length ts)) ts)
   unfolding flat-term
   terms-free flat = record { solves = λ n h. (ap (flat-term (suc (length ts)) ts) (sym (flat n h)), subst (λ r. Fits σ r (state-at ts r)) (sym (flat n h)) (check-nodes n)); vars = λ r h q u. free r u }

@@ -3,6 +3,7 @@ use Prim.Native.Nat.{ℕ, zero, suc, _+_, _<_}
 use mathlib.Core.Path.{_≡_, refl, sym, _∙_, ap, subst}
 use mathlib.Core.Bool.{Bool, true, false, not}
 use mathlib.Core.List.{List, [], _∷_, map}
+use mathlib.Core.Logic.{_↔_}
 use mathlib.Core.Option.{none, Option·some-ne-none}
 use native.Mathlib.Nat.{le-of-suc-le-suc, not-suc-le-zero, zero-add, add-zero, add-suc, suc-add}
 use lib.Dec.{T, eqb, ltb, leb, ltb→lt}
@@ -18,8 +19,9 @@ use Rattle.rules.specs.Chains.{sheet-keeps}
 use Rattle.rules.specs.Values.{is-id, in-table, node-fits, node-ok, table-ok, generics-ok, impl-ok, sheet-values, impl-question-values, flex-question-values}
 use Rattle.rules.specs.Acyclic.{acyclic, sheet-acyclic, question-acyclic}
 use Rattle.rules.specs.Check.{Checks, refusal, of-sheet, of-ids, of-impl-question, of-flex-question, impl-checks, flex-checks}
-use Rattle.rules.specs.AcyclicLaws.{all-at, map-length, flat-term, terms-free}
-use Rattle.rules.specs.Readings.{Acyclic, readable-ranked}
+use Rattle.rules.specs.AcyclicLaws.{Down, all-at, map-length, flat-term, terms-free}
+use Rattle.rules.specs.NoCycles.{acyclic-iff}
+use Rattle.rules.specs.Readings.{Acyclic, readable-ranked, flat-inside}
 use Rattle.rules.specs.CheckedSheet.{part, both, Valid, valid}
 
 new-nodes-length : (i : ℕ) (sts : List TypeState) → length (new-nodes i sts) ≡ length sts
@@ -79,6 +81,10 @@ module _ (w : Words) (h : ℕ) where
           at-kind : (b : Bool) → eqb (at w (p + node·kind)) kind·unknown ≡ b → ChildrenIn (length (table w h)) (node-state w p)
           at-kind true e = rw (e, node-state) tt
           at-kind false e = rw (e, node-state) (all-in _ _ (subst (λ m. T (in-table m (cell-types w (at w (p + node·children))))) (sym table-length) (part _ u 6)))
+
+  -- 9 and 13: a table that passed 8 (12) passes if and only if no type of it reaches itself.
+  pub table-acyclic-iff : (s : Words) (params : ℕ) → T (table-ok s w params h) → T (acyclic (table w h)) ↔ ((n : ℕ) → Down (table w h) n n → ⊥)
+  table-acyclic-iff s params t = acyclic-iff (table w h) (flat-inside (table w h) (table-formed s params t) table-flat)
 
   -- 9 or 13 passed: the table reads as terms over its unknowns.
   pub table-free : T (acyclic (table w h)) → Free (table w h) (flat-term (suc (length (table w h))) (table w h))

@@ -11,6 +11,7 @@ use lib.ListN.{length, getD, replicate, length-replicate, getD-replicate}
 use Rattle.rules.specs.Lists.{Words, all, any}
 use Rattle.rules.specs.Reach.{Marks, marked, grow, closure}
 use Rattle.rules.specs.ReachLaws.{count, count-le, From, here, then, closure-paths, grow-length, grow-from, grow-new, rounds-length}
+use Rattle.rules.specs.Pigeonholes.{none-marked}
 use Rattle.rules.specs.Sheet.{at}
 use Rattle.rules.specs.Types.{Ty, Types}
 use Rattle.rules.specs.Acyclic.{above, heights, acyclic}
@@ -39,7 +40,7 @@ module _ (ts : Types) (r : ℕ → ℕ) (falls : (n j : ℕ) → j < length (chi
   height-le zero n = subst (λ m. m ≤ r n) (sym (zeros (length ts) n)) (omega arith)
   height-le (suc k) n = subst (λ m. m ≤ r n) (sym (height-step k ts n)) (above-le (heights k ts) (children-at ts n) (r n) (λ j l. omega (arith, height-le k ((getD (children-at ts n) j (false, 0)) .1), falls n j l)))
 
-  -- a flat-rank that falls range each node to its children, and is less than the count of nodes
+  -- A table is acyclic if any rank falls from each node to its children, and is less than the count of nodes.
   pub acyclic-by-rank : ((n : ℕ) → n < length ts → r n < length ts) → T (acyclic ts)
   unfolding acyclic
   acyclic-by-rank low = all-intro (λ h. ltb h (length ts)) (heights (length ts) ts) (λ n l. lt→ltb _ (length ts) (omega (arith, height-le (length ts) n, low n (subst (λ m. n < m) (heights-length (length ts) ts) l))))
@@ -72,11 +73,6 @@ count-more (true ∷ ms) (false ∷ us) e h c t f = absurd (h 0 tt)
 count-more (false ∷ ms) (true ∷ us) e h c t f = omega (arith, count-up ms us (omega arith) (λ y. h (suc y)))
 count-more (false ∷ ms) (false ∷ us) e h zero t f = absurd t
 count-more (false ∷ ms) (false ∷ us) e h (suc c) t f = count-more ms us (omega arith) (λ y. h (suc y)) c t f
-
-none-marked : (N y : ℕ) → T (marked (replicate N false) y) → ⊥
-none-marked zero y t = t
-none-marked (suc N) zero t = t
-none-marked (suc N) (suc y) t = none-marked N y t
 
 -- a node leads to a node
 unfoldable leads : Types → ℕ → ℕ → Bool

@@ -3,15 +3,16 @@ use Prim.Native.Nat.{ℕ, zero, suc, _≤_, _<_}
 use mathlib.Core.Path.{_≡_, refl, sym, _∙_, ap, subst}
 use mathlib.Core.Bool.{Bool, false}
 use mathlib.Core.List.{List}
-use mathlib.Core.Logic.{_↔_}
+use mathlib.Core.Logic.{_↔_, ⊎-elim}
 use native.Mathlib.Nat.{not-suc-le-zero, le-refl}
 use native.Mathlib.Omega.{arith}
+use lib.Dec.{T}
 use lib.ListN.{length, getD}
 use Rattle.rules.specs.Types.{Ty, TypeState, unknown, known, Types, state-at}
 use Rattle.rules.specs.Solutions.{var, con, Sol, terms, rep, Fits, ChildrenIn, WellFormed, Free, Readable}
-use Rattle.rules.specs.Acyclic.{children, above, heights}
-use Rattle.rules.specs.AcyclicLaws.{Down, none-returns, children-at, flat-rank, height-step, flat-rank-most, terms-same}
-use Rattle.rules.specs.NoCycles.{acyclic-if-none}
+use Rattle.rules.specs.Acyclic.{children, above, heights, acyclic}
+use Rattle.rules.specs.AcyclicLaws.{Down, none-returns, children-at, child, no-children, lt-or, flat-rank-below, flat-rank-falls, terms-free, flat-rank, height-step, flat-rank-most, terms-same}
+use Rattle.rules.specs.NoCycles.{acyclic-by-rank, acyclic-if-none}
 use Rattle.rules.specs.RootRank.{rooted, rank, inside, rooted-falls, rank-falls, child-in, rooted-children, rooted-length, solved-acyclic}
 
 -- δ falls from each node to the children of its root.
@@ -96,6 +97,10 @@ module _ (ts : Types) (formed : WellFormed ts) where
   unfolding reading
   reading-free e = ranked-free ts formed (rank ts) e
 
+  -- No way down is longer than the table.
+  pub rank-most : Acyclic ts → (n : ℕ) → rank ts n ≤ length ts
+  rank-most a = readable-most ts formed (ranked-readable ts formed (rank ts) a)
+
   -- A table is acyclic exactly if it can be read as terms over its unknowns,
   pub acyclic-iff-readable : Acyclic ts ↔ Readable ts
   acyclic-iff-readable = (ranked-readable ts formed (rank ts), readable-ranked ts formed)
@@ -103,3 +108,38 @@ module _ (ts : Types) (formed : WellFormed ts) where
   -- and exactly if no type reaches itself, from a type to the children of its root and on.
   pub acyclic-iff-none : Acyclic ts ↔ ((n : ℕ) → Down (rooted ts) n n → ⊥)
   acyclic-iff-none = (λ e. let r = ranked-readable ts formed (rank ts) e in none-returns (rooted ts) (solved-acyclic ts formed (r .0) (r .1 .solves)), λ none. record { falls = rooted-falls ts formed (acyclic-if-none (rooted ts) (inside ts formed) none) })
+
+-- A table as a slice has it: every node is its own root.
+module _ (ts : Types) (formed : WellFormed ts) (flat : (n : ℕ) → n < length ts → rep ts n ≡ n) where
+  same-children : (n : ℕ) → n < length ts → children-at (rooted ts) n ≡ children-at ts n
+  unfolding children-at
+  same-children n h = rooted-children ts n h ∙ ap (λ r. children (state-at ts r)) (flat n h)
+
+  -- A property of a node's child that holds by its root's children.
+  by-root : (P : ℕ → ℕ → Type 0) → ((n j : ℕ) → n < length ts → j < length (children-at (rooted ts) n) → P n (child (rooted ts) n j)) → (n j : ℕ) → j < length (children-at ts n) → P n (child ts n j)
+  unfolding child
+  by-root P p n j l = ⊎-elim
+      (λ h. subst (λ (cs : List Ty). P n ((getD cs j (false, 0)) .1)) (same-children n h) (p n j h (subst (λ (cs : List Ty). j < length cs) (sym (same-children n h)) l)))
+      (λ h. absurd (not-suc-le-zero (subst (λ (cs : List Ty). j < length cs) (no-children ts n h) l)))
+      (lt-or n (length ts))
+
+  pub flat-inside : (n j : ℕ) → j < length (children-at ts n) → child ts n j < length ts
+  flat-inside = by-root (λ n m. m < length ts) (λ n j h l. subst (λ k. child (rooted ts) n j < k) (rooted-length ts) (inside ts formed n j l))
+
+  flat-low : T (acyclic (rooted ts)) → (n : ℕ) → n < length ts → rank ts n < length ts
+  unfolding rank
+  flat-low e n h = subst (λ k. flat-rank (rooted ts) n < k) (rooted-length ts) (flat-rank-below (rooted ts) e n (subst (λ k. n < k) (sym (rooted-length ts)) h))
+
+  flat-falls : T (acyclic (rooted ts)) → (n j : ℕ) → j < length (children-at ts n) → rank ts (child ts n j) < rank ts n
+  unfolding rank
+  flat-falls e = by-root (λ n m. rank ts m < rank ts n) (λ n j h l. flat-rank-falls (rooted ts) e n j l)
+
+  -- What 9 and 13 check is that it is acyclic.
+  pub checked-iff-acyclic : T (acyclic ts) ↔ Acyclic ts
+  checked-iff-acyclic = (
+    λ e. readable-ranked ts formed (_, terms-free ts e flat),
+    λ a.
+        let r = ranked-readable ts formed (rank ts) a in
+        let e = solved-acyclic ts formed (r .0) (r .1 .solves) in
+        acyclic-by-rank ts (rank ts) (flat-falls e) (flat-low e),
+  )

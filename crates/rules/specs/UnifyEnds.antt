@@ -16,6 +16,8 @@ use Rattle.rules.specs.Types.{Ty, TypeState, unknown, known, Types, xor,
 use Rattle.rules.specs.Solutions.{term-size, Sol, terms, rep, Fits, Solves, AllIn, ChildrenIn, WellFormed, Readable, Fuel, fuel-none, fuel-step, fuel-less, fuel-over}
 use Rattle.rules.specs.MostGeneral.{flip-in}
 use Rattle.rules.specs.Pigeonholes.{steady}
+use Rattle.rules.specs.RootRank.{rank}
+use Rattle.rules.specs.Readings.{Acyclic, ranked-readable}
 use Rattle.rules.specs.UnifyKeeps.{Narrows, NarrowsTables, last-in, unify-in-narrows}
 
 -- Fuel k is enough for types in a table: in each of its solutions.
@@ -108,7 +110,7 @@ unify-in-alike (suc k) s ts a b formed r ha hb e =
     roots-alike k (λ us t u. unify-in k s us t u) (λ us t u. unify-in (suc k) s us t u) (unify-in-narrows k s) (unify-in-alike k s) s ts (find ts a) (find ts b) formed r (ga .0) (gb .0) (ga .1) (gb .1)
     (λ θ sv. fuel-less (suc k) (length ts) θ _ _ (omega (arith, ap term-size (sv (a .1) ha .0))) (e θ sv))
 
--- `unify`: more fuel than the table is long changes nothing.
-pub unify-enough : (s : Words) (ts : Types) → WellFormed ts → Readable ts → (a b : Ty) → a .1 < length ts → b .1 < length ts → (m : ℕ) → unify-in (m + suc (length ts)) s ts a b ≡ unify s ts a b
+-- `unify` of types of a well-formed, acyclic table: more fuel than the table is long changes nothing.
+pub unify-enough : (s : Words) (ts : Types) → WellFormed ts → Acyclic ts → (a b : Ty) → a .1 < length ts → b .1 < length ts → (m : ℕ) → unify-in (m + suc (length ts)) s ts a b ≡ unify s ts a b
 unfolding unify
-unify-enough s ts formed r a b ha hb = steady (λ k. unify-in k s ts a b) (suc (length ts)) (λ m. unify-in-alike (m + suc (length ts)) s ts a b formed r ha hb (λ θ sv. fuel-over _ (length ts) θ _ (omega arith)))
+unify-enough s ts formed e a b ha hb = steady (λ k. unify-in k s ts a b) (suc (length ts)) (λ m. unify-in-alike (m + suc (length ts)) s ts a b formed (ranked-readable ts formed (rank ts) e) ha hb (λ θ sv. fuel-over _ (length ts) θ _ (omega arith)))

@@ -1,4 +1,4 @@
--- The walks down a table never use up their fuel: `occurs`, `self_inverse`, `get_mod` and `transfer_type` come to the same with any more of it.
+-- The walks down a well-formed, acyclic table never use up their fuel: `occurs`, `self_inverse`, `get_mod` and `transfer_type` come to the same with any more of it. All types, inverted and Error too.
 use Prim.Native.Nat.{ℕ, zero, suc, _+_, _<_}
 use mathlib.Core.Path.{_≡_, refl, sym, _∙_, ap, ap₂, subst}
 use mathlib.Core.Bool.{Bool, true, false}
@@ -16,10 +16,10 @@ use Rattle.rules.specs.Types.{Ty, TypeState, unknown, known, Types, new-
 use Rattle.rules.specs.Transfer.{Transfer, mapped, param-for, transfer-each, transfer-in, transfer-types}
 use Rattle.rules.specs.Run.{Run, done, stop}
 use Rattle.rules.specs.Search.{get-mod-in, get-mod}
-use Rattle.rules.specs.Solutions.{rep, AllIn, ChildrenIn, WellFormed, Readable}
+use Rattle.rules.specs.Solutions.{rep, AllIn, ChildrenIn, WellFormed}
 use Rattle.rules.specs.Pigeonholes.{steady, walk-enough}
 use Rattle.rules.specs.RootRank.{rank, child-in}
-use Rattle.rules.specs.Readings.{readable-ranked, readable-most}
+use Rattle.rules.specs.Readings.{Acyclic, rank-most}
 
 -- Two tests that agree on each of some types agree on whether any passes, and on whether all do.
 module _ (f g : Ty → Bool) where
@@ -41,10 +41,10 @@ each-same f g (c ∷ cs) h m =
     ap {B = List Ty × Transfer} (λ (r : Ty × Transfer). (r .0 ∷ (transfer-each f cs (r .1)) .0, (transfer-each f cs (r .1)) .1)) (h 0 (omega arith) m)
     ∙ ap {B = List Ty × Transfer} (λ (z : List Ty × Transfer). ((g c m) .0 ∷ z .0, z .1)) (each-same f g cs (λ j l. h (suc j) (omega arith)) ((g c m) .1))
 
-module _ (ts : Types) (formed : WellFormed ts) (readable : Readable ts) where
+module _ (ts : Types) (formed : WellFormed ts) (acyclic : Acyclic ts) where
   -- A child of a root is a node, of lower rank.
   lower : (n : ℕ) → n < length ts → (i : Bool) (kd d : ℕ) (cs : List Ty) → state-at ts (rep ts n) ≡ known i kd d cs → (j : ℕ) → j < length cs → ((getD cs j (false, 0)) .1 < length ts) × (rank ts ((getD cs j (false, 0)) .1) < rank ts n)
-  lower n h i kd d cs q j l = (child-in (length ts) cs j (subst (ChildrenIn (length ts)) q (formed n h .2)) l, (readable-ranked ts formed readable) .falls n h i kd d cs q j l)
+  lower n h i kd d cs q j l = (child-in (length ts) cs j (subst (ChildrenIn (length ts)) q (formed n h .2)) l, acyclic .falls n h i kd d cs q j l)
 
   occurs-next : (k v : ℕ) (t : Ty) → t .1 < length ts → rank ts (t .1) < k → occurs-in k ts v t ≡ occurs-in (suc k) ts v t
   unfolding occurs-in find invert-if rep
@@ -58,7 +58,7 @@ module _ (ts : Types) (formed : WellFormed ts) (readable : Readable ts) where
 
   -- `occurs`: more fuel than the table is long changes nothing.
   pub occurs-enough : (v : ℕ) (t : Ty) → t .1 < length ts → (m : ℕ) → occurs-in (m + suc (length ts)) ts v t ≡ occurs ts v t
-  occurs-enough v t h = steady (λ k. occurs-in k ts v t) (suc (length ts)) (λ m. occurs-next (m + suc (length ts)) v t h (omega (arith, readable-most ts formed readable (t .1))))
+  occurs-enough v t h = steady (λ k. occurs-in k ts v t) (suc (length ts)) (λ m. occurs-next (m + suc (length ts)) v t h (omega (arith, rank-most ts formed acyclic (t .1))))
 
   self-inverse-next : (k : ℕ) (s : Words) (t : Ty) → t .1 < length ts → rank ts (t .1) < k → self-inverse-in k s ts t ≡ self-inverse-in (suc k) s ts t
   unfolding self-inverse-in kind find invert-if invert-state rep
@@ -76,7 +76,7 @@ module _ (ts : Types) (formed : WellFormed ts) (readable : Readable ts) where
   -- `self_inverse`: more fuel than the table is long changes nothing.
   pub self-inverse-enough : (s : Words) (t : Ty) → t .1 < length ts → (m : ℕ) → self-inverse-in (m + suc (length ts)) s ts t ≡ self-inverse s ts t
   unfolding self-inverse
-  self-inverse-enough s t h = steady (λ k. self-inverse-in k s ts t) (suc (length ts)) (λ m. self-inverse-next (m + suc (length ts)) s t h (omega (arith, readable-most ts formed readable (t .1))))
+  self-inverse-enough s t h = steady (λ k. self-inverse-in k s ts t) (suc (length ts)) (λ m. self-inverse-next (m + suc (length ts)) s t h (omega (arith, rank-most ts formed acyclic (t .1))))
 
   transfer-next : (k : ℕ) (ps : Option (List Ty)) (t : Ty) → t .1 < length ts → rank ts (t .1) < k → (m : Transfer) → transfer-in k ts ps t m ≡ transfer-in (suc k) ts ps t m
   unfolding transfer-in find invert-if rep
@@ -94,7 +94,12 @@ module _ (ts : Types) (formed : WellFormed ts) (readable : Readable ts) where
 
   -- `transfer_type`: more fuel than the source is long changes nothing, whatever went before and whatever table is filled.
   pub transfer-enough : (ps : Option (List Ty)) (t : Ty) → t .1 < length ts → (m : Transfer) (k : ℕ) → transfer-in (k + suc (length ts)) ts ps t m ≡ transfer-in (suc (length ts)) ts ps t m
-  transfer-enough ps t h m = steady (λ k. transfer-in k ts ps t m) (suc (length ts)) (λ k. transfer-next (k + suc (length ts)) ps t h (omega (arith, readable-most ts formed readable (t .1))) m)
+  transfer-enough ps t h m = steady (λ k. transfer-in k ts ps t m) (suc (length ts)) (λ k. transfer-next (k + suc (length ts)) ps t h (omega (arith, rank-most ts formed acyclic (t .1))) m)
+
+  -- `transfer` of some types likewise.
+  pub transfer-types-enough : (ps : Option (List Ty)) (us : List Ty) → ((j : ℕ) → j < length us → (getD us j (false, 0)) .1 < length ts) → (m : Transfer) (k : ℕ) → transfer-each (transfer-in (k + suc (length ts)) ts ps) us m ≡ transfer-types ts ps us m
+  unfolding transfer-types
+  transfer-types-enough ps us h m k = each-same (transfer-in (k + suc (length ts)) ts ps) (transfer-in (suc (length ts)) ts ps) us (λ j l w. transfer-enough ps (getD us j (false, 0)) (h j l) w k) m
 
 -- `get_mod` follows Refs: a walk over the nodes of the table.
 module _ (s : Words) (ts : Types) (formed : WellFormed ts) where
