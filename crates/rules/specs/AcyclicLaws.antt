@@ -12,7 +12,6 @@ use Rattle.rules.specs.Lists.{Words, all}
 use Rattle.rules.specs.Types.{Ty, TypeState, unknown, known, TypeNode, Types, new-node, node-at, state-at}
 use Rattle.rules.specs.Acyclic.{children, above, heights, acyclic}
 pub use Rattle.rules.specs.Pigeonholes.{lt-or}
-use Rattle.rules.specs.Solutions.{var, con, cons, Sol, terms, rep, Fits, Free}
 
 -- children of a node, by number
 unfoldable pub children-at : Types → ℕ → List Ty
@@ -116,46 +115,8 @@ down-falls ts e x y (on {y = z} d j l) = le-trans (flat-rank-falls ts e z j l) (
 pub none-returns : (ts : Types) → T (acyclic ts) → (n : ℕ) → Down ts n n → ⊥
 none-returns ts e n d = lt-irrefl (flat-rank ts n) (down-falls ts e n n d)
 
--- a table read as terms over its unknowns, to k levels
-unfoldable pub flat-term : ℕ → Types → Sol
-flat-term zero ts n = var n
-flat-term (suc k) ts n = elim (state-at ts n) [ unknown ↦ var n | known i kd d cs ↦ con kd d (terms (flat-term k ts) cs) ]
-
-pub terms-same : (θ σ : Sol) (cs : List Ty) → ((j : ℕ) → j < length cs → θ ((getD cs j (false, 0)) .1) ≡ σ ((getD cs j (false, 0)) .1)) → terms θ cs ≡ terms σ cs
-unfolding terms
-terms-same θ σ [] h = refl
-terms-same θ σ (c ∷ cs) h = ap₂ cons (h 0 (omega arith)) (terms-same θ σ cs (λ j l. h (suc j) (omega arith)))
-
 module _ (ts : Types) (e : T (acyclic ts)) where
   -- the same, where a node's state is known
   pub child-low : (n : ℕ) (i : Bool) (kd d : ℕ) (cs : List Ty) → state-at ts n ≡ known i kd d cs → (j : ℕ) → j < length cs → flat-rank ts ((getD cs j (false, 0)) .1) < flat-rank ts n
   unfolding child children-at children
   child-low n i kd d cs q = subst (λ (st : TypeState). (j : ℕ) → j < length (children st) → flat-rank ts ((getD (children st) j (false, 0)) .1) < flat-rank ts n) q (flat-rank-falls ts e n)
-
-  term-same : (k m n : ℕ) → flat-rank ts n < k → flat-rank ts n < m → flat-term k ts n ≡ flat-term m ts n
-  unfolding flat-term
-  term-same zero m n h l = absurd (not-suc-le-zero h)
-  term-same (suc k) zero n h l = absurd (not-suc-le-zero l)
-  term-same (suc k) (suc m) n h l = go (state-at ts n) refl (λ i. term-same k m i)
-    where
-      go : (st : TypeState) → state-at ts n ≡ st → ((i : ℕ) → flat-rank ts i < k → flat-rank ts i < m → flat-term k ts i ≡ flat-term m ts i) → flat-term (suc k) ts n ≡ flat-term (suc m) ts n
-      go unknown q ih = rw (q, flat-term)
-      go (known i kd d cs) q ih = rw (q, flat-term) (ap (con kd d) (terms-same (flat-term k ts) (flat-term m ts) cs λ j b. ih _ (omega (arith, child-low n i kd d cs q j b)) (omega (arith, child-low n i kd d cs q j b))))
-
-  -- every node its own root, as in a table read from a slice: then the terms solve the table, and leave its unknowns free
-  pub terms-free : ((n : ℕ) → n < length ts → rep ts n ≡ n) → Free ts (flat-term (suc (length ts)) ts)
-  unfolding flat-term
-  terms-free flat = record { solves = λ n h. (ap (flat-term (suc (length ts)) ts) (sym (flat n h)), subst (λ r. Fits σ r (state-at ts r)) (sym (flat n h)) (check-nodes n)); vars = λ r h q u. free r u }
-    where
-      σ : Sol
-      σ = flat-term (suc (length ts)) ts
-
-      free : (r : ℕ) → state-at ts r ≡ unknown → σ r ≡ var r
-      free r u = rw (u, flat-term)
-
-      check-nodes : (n : ℕ) → Fits σ n (state-at ts n)
-      check-nodes n = go (state-at ts n) refl
-        where
-          go : (st : TypeState) → state-at ts n ≡ st → Fits σ n st
-          go unknown q = tt
-          go (known i kd d cs) q = rw (q, flat-term) (ap (con kd d) (terms-same (flat-term (length ts) ts) σ cs λ j b. term-same (length ts) (suc (length ts)) _ (omega (arith, child-low n i kd d cs q j b, flat-rank-most ts e n)) (omega (arith, child-low n i kd d cs q j b, flat-rank-most ts e n))))

@@ -13,15 +13,15 @@ use Rattle.rules.specs.Layout.{header·edition, header·definitions, hea
 use Rattle.rules.specs.Sheet.{at, chain, records, field, type-params, generics-table, impl-table, many}
 use Rattle.rules.specs.Types.{Ty, TypeState, unknown, TypeNode, new-node, node-at, state-at}
 use Rattle.rules.specs.Transfer.{cell-types, node-state, new-nodes, table}
-use Rattle.rules.specs.Solutions.{rep, AllIn, ChildrenIn, WellFormed, Free, Readable}
+use Rattle.rules.specs.Solutions.{rep, AllIn, ChildrenIn, WellFormed, Readable}
 use Rattle.rules.specs.Search.{Finder}
 use Rattle.rules.specs.Chains.{sheet-keeps}
 use Rattle.rules.specs.Values.{is-id, in-table, node-fits, node-ok, table-ok, generics-ok, impl-ok, sheet-values, impl-question-values, flex-question-values}
 use Rattle.rules.specs.Acyclic.{acyclic, sheet-acyclic, question-acyclic}
 use Rattle.rules.specs.Check.{Checks, refusal, of-sheet, of-ids, of-impl-question, of-flex-question, impl-checks, flex-checks}
-use Rattle.rules.specs.AcyclicLaws.{Down, all-at, map-length, flat-term, terms-free}
+use Rattle.rules.specs.AcyclicLaws.{Down, all-at, map-length}
 use Rattle.rules.specs.NoCycles.{acyclic-iff}
-use Rattle.rules.specs.Readings.{Acyclic, readable-ranked, flat-inside}
+use Rattle.rules.specs.Readings.{Acyclic, readable-ranked, flat-inside, flat-readable}
 use Rattle.rules.specs.CheckedSheet.{part, both, Valid, valid}
 
 new-nodes-length : (i : ℕ) (sts : List TypeState) → length (new-nodes i sts) ≡ length sts
@@ -86,9 +86,9 @@ module _ (w : Words) (h : ℕ) where
   pub table-acyclic-iff : (s : Words) (params : ℕ) → T (table-ok s w params h) → T (acyclic (table w h)) ↔ ((n : ℕ) → Down (table w h) n n → ⊥)
   table-acyclic-iff s params t = acyclic-iff (table w h) (flat-inside (table w h) (table-formed s params t) table-flat)
 
-  -- 9 or 13 passed: the table reads as terms over its unknowns.
-  pub table-free : T (acyclic (table w h)) → Free (table w h) (flat-term (suc (length (table w h))) (table w h))
-  table-free e = terms-free (table w h) e table-flat
+  -- 8 and 9 (12 and 13) passed: the table reads as terms over its unknowns.
+  pub table-readable : WellFormed (table w h) → T (acyclic (table w h)) → Readable (table w h)
+  table-readable formed e = flat-readable (table w h) formed table-flat e
 
 -- No check refuses: the condition of each fails.
 pub unrefused : (cs : Checks) → refusal cs ≡ none → (n : ℕ) → T (not ((getD cs n (0, false)) .1))
@@ -154,8 +154,9 @@ module _ (a : Finder) (q : Words) (r : Ready a q) where
   question-formed = table-formed q (at q question·table) (a .sheet) _ (r .typed)
 
   pub question-free : Readable (table q (at q question·table))
-  question-free = (_, table-free q (at q question·table) (r .asked))
+  question-free = table-readable q (at q question·table) question-formed (r .asked)
 
+  -- 9 passed: the tables of all generics, and of all impls.
   abbrev tables-end : T (all (λ p. acyclic (table (a .sheet) (at (a .sheet) (p + generics·table)))) (records (a .sheet) header·generics)) × T (all (λ p. acyclic (table (a .sheet) (at (a .sheet) (p + impl·table)))) (records (a .sheet) header·impls))
   unfolding sheet-acyclic
   tables-end = both (all (λ p. acyclic (table (a .sheet) (at (a .sheet) (p + generics·table)))) (records (a .sheet) header·generics)) (all (λ p. acyclic (table (a .sheet) (at (a .sheet) (p + impl·table)))) (records (a .sheet) header·impls)) (r .end)
@@ -167,7 +168,7 @@ module _ (a : Finder) (q : Words) (r : Ready a q) where
 
     pub generics-free : Readable (table (a .sheet) (field (a .sheet) header·generics g generics·table))
     unfolding field many
-    generics-free = (_, table-free (a .sheet) (field (a .sheet) header·generics g generics·table) (all-at (λ p. acyclic (table (a .sheet) (at (a .sheet) (p + generics·table)))) (records (a .sheet) header·generics) g 0 (tables-end .0) h))
+    generics-free = table-readable (a .sheet) (field (a .sheet) header·generics g generics·table) generics-formed (all-at (λ p. acyclic (table (a .sheet) (at (a .sheet) (p + generics·table)))) (records (a .sheet) header·generics) g 0 (tables-end .0) h)
 
   module _ (i : ℕ) (h : i < many (a .sheet) header·impls) where
     pub impl-formed : WellFormed (table (a .sheet) (field (a .sheet) header·impls i impl·table))
@@ -176,7 +177,7 @@ module _ (a : Finder) (q : Words) (r : Ready a q) where
 
     pub impl-free : Readable (table (a .sheet) (field (a .sheet) header·impls i impl·table))
     unfolding field many
-    impl-free = (_, table-free (a .sheet) (field (a .sheet) header·impls i impl·table) (all-at (λ p. acyclic (table (a .sheet) (at (a .sheet) (p + impl·table)))) (records (a .sheet) header·impls) i 0 (tables-end .1) h))
+    impl-free = table-readable (a .sheet) (field (a .sheet) header·impls i impl·table) impl-formed (all-at (λ p. acyclic (table (a .sheet) (at (a .sheet) (p + impl·table)))) (records (a .sheet) header·impls) i 0 (tables-end .1) h)
 
 -- The tables of a call: each is well formed and acyclic.
 pub record CheckedTables (a : Finder) (q : Words) : Type 0 where

@@ -9,9 +9,9 @@ use native.Mathlib.Omega.{arith}
 use lib.Dec.{T}
 use lib.ListN.{length, getD}
 use Rattle.rules.specs.Types.{Ty, TypeState, unknown, known, Types, state-at}
-use Rattle.rules.specs.Solutions.{var, con, Sol, terms, rep, Fits, ChildrenIn, WellFormed, Free, Readable}
+use Rattle.rules.specs.Solutions.{terms-same, var, con, Sol, terms, rep, Fits, ChildrenIn, WellFormed, Free, Readable}
 use Rattle.rules.specs.Acyclic.{children, above, heights, acyclic}
-use Rattle.rules.specs.AcyclicLaws.{Down, none-returns, children-at, child, no-children, lt-or, flat-rank-below, flat-rank-falls, terms-free, flat-rank, height-step, flat-rank-most, terms-same}
+use Rattle.rules.specs.AcyclicLaws.{Down, none-returns, children-at, child, no-children, child-low, lt-or, flat-rank-below, flat-rank-falls, flat-rank, height-step, flat-rank-most}
 use Rattle.rules.specs.NoCycles.{acyclic-by-rank, acyclic-if-none}
 use Rattle.rules.specs.RootRank.{rooted, rank, inside, rooted-falls, rank-falls, child-in, rooted-children, rooted-length, solved-acyclic}
 
@@ -134,10 +134,14 @@ module _ (ts : Types) (formed : WellFormed ts) (flat : (n : ℕ) → n < length 
   unfolding rank
   flat-falls e = by-root (λ n m. rank ts m < rank ts n) (λ n j h l. flat-rank-falls (rooted ts) e n j l)
 
+  -- A table that passed 9 or 13 reads as terms over its unknowns.
+  pub flat-readable : T (acyclic ts) → Readable ts
+  flat-readable e = ranked-readable ts formed (flat-rank ts) (record { falls = λ n h i kd d cs q j l. child-low ts e n i kd d cs (sym (ap (state-at ts) (flat n h)) ∙ q) j l })
+
   -- What 9 and 13 check is that it is acyclic.
   pub checked-iff-acyclic : T (acyclic ts) ↔ Acyclic ts
   checked-iff-acyclic = (
-    λ e. readable-ranked ts formed (_, terms-free ts e flat),
+    λ e. readable-ranked ts formed (flat-readable e),
     λ a.
         let r = ranked-readable ts formed (rank ts) a in
         let e = solved-acyclic ts formed (r .0) (r .1 .solves) in

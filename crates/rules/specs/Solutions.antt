@@ -7,7 +7,7 @@ use mathlib.Core.Logic.{_≢_, _⊎_, inl, inr}
 use native.Mathlib.Nat.{not-suc-le-zero, le-refl}
 use native.Mathlib.Omega.{arith}
 use lib.Dec.{T, eqb, eqb→eq, eqb-refl}
-use lib.ListN.{length, set, length-set, replicate, length-replicate}
+use lib.ListN.{length, getD, set, length-set, replicate, length-replicate}
 use Rattle.rules.specs.Reach.{Marks, marked}
 use Rattle.rules.specs.ReachLaws.{count, count-le}
 use Rattle.rules.specs.Types.{Ty, TypeState, unknown, known, Types, node-at, state-at}
@@ -34,6 +34,12 @@ Sol = ℕ → Term
 unfoldable pub terms : Sol → List Ty → Term
 terms θ [] = nil
 terms θ (c ∷ cs) = cons (θ (c .1)) (terms θ cs)
+
+-- Solutions that agree on each of some types give them the same terms.
+pub terms-same : (θ σ : Sol) (cs : List Ty) → ((j : ℕ) → j < length cs → θ ((getD cs j (false, 0)) .1) ≡ σ ((getD cs j (false, 0)) .1)) → terms θ cs ≡ terms σ cs
+unfolding terms
+terms-same θ σ [] h = refl
+terms-same θ σ (c ∷ cs) h = ap₂ cons (h 0 (omega arith)) (terms-same θ σ cs (λ j l. h (suc j) (omega arith)))
 
 -- The root of a node's class.
 unfoldable pub rep : Types → ℕ → ℕ
