@@ -12,6 +12,7 @@ use lib.Seq.{getD-set-same, getD-set-other}
 use Rattle.rules.specs.Types.{Ty, TypeState, unknown, known, TypeNode, Types, node-at, xor, invert-if, invert-state, state-at, size-at, relabel, or-else, hang, join}
 use Rattle.rules.specs.Solutions.{Term, var, con, nil, cons, term-size, Sol, terms, rep, Fits, Solves, AllIn, ChildrenIn, WellFormed, eqb-true, eqb-false, known≢, sub, solves-sub, Free}
 
+-- What is done to each node is done to node n.
 pub map-at : (f : TypeNode → TypeNode) (l : Types) (n : ℕ) (d : TypeNode) → n < length l → getD (map f l) n d ≡ f (getD l n d)
 map-at f [] n d h = absurd (not-suc-le-zero h)
 map-at f (x ∷ l) zero d h = refl
@@ -21,10 +22,11 @@ pub map-length : (f : TypeNode → TypeNode) (l : Types) → length (map f l) �
 map-length f [] = refl
 map-length f (x ∷ l) = ap suc (map-length f l)
 
+-- A root, or the upper one in place of the lower.
 unfoldable swap : ℕ → ℕ → ℕ → ℕ
 swap lo hi r = elim (eqb r lo) [ true ↦ hi | false ↦ r ]
 
--- what hanging one root under another does
+-- What hanging one root under another does.
 module _ (ts : Types) (lo hi : Ty) (hlo : lo .1 < length ts) (hhi : hi .1 < length ts) (rlo : rep ts (lo .1) ≡ lo .1) (rhi : rep ts (hi .1) ≡ hi .1) (ne : lo .1 ≢ hi .1) where
   hang-length : length (hang ts lo hi) ≡ length ts
   unfolding hang
@@ -76,7 +78,7 @@ module _ (ts : Types) (lo hi : Ty) (hlo : lo .1 < length ts) (hhi : hi .1 < leng
       go (yes e) = inl (e, rw (eqb-true r (lo .1) e, swap))
       go (no d) = inr (d, rw (eqb-false r (lo .1) d, swap))
 
-  -- a node's root after it: the upper one for the lower one's class, else as before
+  -- A node's root after it: the upper one for the lower one's class, else as before.
   hang-cases : (n : ℕ) → n < length ts → ((rep ts n ≡ lo .1) × (rep (hang ts lo hi) n ≡ hi .1)) ⊎ ((rep ts n ≢ lo .1) × (rep (hang ts lo hi) n ≡ rep ts n))
   hang-cases n h = go (swap-cases (rep ts n))
     where
@@ -84,7 +86,7 @@ module _ (ts : Types) (lo hi : Ty) (hlo : lo .1 < length ts) (hhi : hi .1 < leng
       go (inl e) = inl (e .0, hang-rep n h ∙ e .1)
       go (inr e) = inr (e .0, hang-rep n h ∙ e .1)
 
-  -- a property of a root and its state, after it
+  -- A property of a root and its state, after it.
   hang-each : (P : ℕ → TypeState → Type 0) → P (hi .1) (or-else (state-at ts (hi .1)) (invert-state (xor (hi .0) (lo .0)) (state-at ts (lo .1)))) → (r : ℕ) → r < length ts → (r ≢ hi .1 → P r (state-at ts r)) → P r (state-at (hang ts lo hi) r)
   hang-each P top r h other = go (ℕ-discrete r (hi .1))
     where
@@ -114,8 +116,8 @@ module _ (ts : Types) (lo hi : Ty) (hlo : lo .1 < length ts) (hhi : hi .1 < leng
         g : (rep ts n < N) × (rep ts (rep ts n) ≡ rep ts n) × ChildrenIn N (state-at ts (rep ts n))
         g = formed n h
 
-        acyclic : (r : ℕ) → r < N → rep (hang ts lo hi) r ≡ r → (r ≢ hi .1 → ChildrenIn N (state-at ts r)) → rep (hang ts lo hi) n ≡ r → (rep (hang ts lo hi) n < length (hang ts lo hi)) × (rep (hang ts lo hi) (rep (hang ts lo hi) n) ≡ rep (hang ts lo hi) n) × ChildrenIn (length (hang ts lo hi)) (state-at (hang ts lo hi) (rep (hang ts lo hi) n))
-        acyclic r hr rr children e =
+        settled : (r : ℕ) → r < N → rep (hang ts lo hi) r ≡ r → (r ≢ hi .1 → ChildrenIn N (state-at ts r)) → rep (hang ts lo hi) n ≡ r → (rep (hang ts lo hi) n < length (hang ts lo hi)) × (rep (hang ts lo hi) (rep (hang ts lo hi) n) ≡ rep (hang ts lo hi) n) × ChildrenIn (length (hang ts lo hi)) (state-at (hang ts lo hi) (rep (hang ts lo hi) n))
+        settled r hr rr children e =
             subst (λ m. (m < length (hang ts lo hi)) × (rep (hang ts lo hi) m ≡ m) × ChildrenIn (length (hang ts lo hi)) (state-at (hang ts lo hi) m)) (sym e)
             (subst (λ m. r < m) (sym hang-length) hr, rr, subst (λ m. ChildrenIn m (state-at (hang ts lo hi) r)) (sym hang-length) (hang-each (λ k st. ChildrenIn N st) kids-top r hr children))
 
@@ -127,8 +129,8 @@ module _ (ts : Types) (lo hi : Ty) (hlo : lo .1 < length ts) (hhi : hi .1 < leng
             pick (inr e) = e .1 ∙ rr
 
         go : ((rep ts n ≡ lo .1) × (rep (hang ts lo hi) n ≡ hi .1)) ⊎ ((rep ts n ≢ lo .1) × (rep (hang ts lo hi) n ≡ rep ts n)) → (rep (hang ts lo hi) n < length (hang ts lo hi)) × (rep (hang ts lo hi) (rep (hang ts lo hi) n) ≡ rep (hang ts lo hi) n) × ChildrenIn (length (hang ts lo hi)) (state-at (hang ts lo hi) (rep (hang ts lo hi) n))
-        go (inl e) = acyclic (hi .1) hhi (fixed (hi .1) hhi rhi (λ q. ne (sym q))) (λ d. absurd (d refl)) (e .1)
-        go (inr e) = acyclic (rep ts n) (g .0) (fixed (rep ts n) (g .0) (g .1) (e .0)) (λ d. g .2) (e .1)
+        go (inl e) = settled (hi .1) hhi (fixed (hi .1) hhi rhi (λ q. ne (sym q))) (λ d. absurd (d refl)) (e .1)
+        go (inr e) = settled (rep ts n) (g .0) (fixed (rep ts n) (g .0) (g .1) (e .0)) (λ d. g .2) (e .1)
 
   hang-same : (u v : ℕ) → u < length ts → v < length ts → rep ts u ≡ rep ts v → rep (hang ts lo hi) u ≡ rep (hang ts lo hi) v
   hang-same u v hu hv e = hang-rep u hu ∙ ap (swap (lo .1) (hi .1)) e ∙ sym (hang-rep v hv)
@@ -181,12 +183,12 @@ module _ (ts : Types) (lo hi : Ty) (hlo : lo .1 < length ts) (hhi : hi .1 < leng
         top : Top
         top = top-in (state-at ts (hi .1)) (state-at ts (lo .1)) e (subst (λ r. Fits θ r (state-at ts r)) rhi (s (hi .1) hhi .1)) (subst (λ r. Fits θ r (state-at ts r)) rlo (s (lo .1) hlo .1))
 
-        acyclic : (r : ℕ) → r < length ts → (r ≢ hi .1 → Fits θ r (state-at ts r)) → θ n ≡ θ r → rep (hang ts lo hi) n ≡ r → (θ n ≡ θ (rep (hang ts lo hi) n)) × Fits θ (rep (hang ts lo hi) n) (state-at (hang ts lo hi) (rep (hang ts lo hi) n))
-        acyclic r hr fit en er = subst (λ m. (θ n ≡ θ m) × Fits θ m (state-at (hang ts lo hi) m)) (sym er) (en, hang-each (Fits θ) top r hr fit)
+        settled : (r : ℕ) → r < length ts → (r ≢ hi .1 → Fits θ r (state-at ts r)) → θ n ≡ θ r → rep (hang ts lo hi) n ≡ r → (θ n ≡ θ (rep (hang ts lo hi) n)) × Fits θ (rep (hang ts lo hi) n) (state-at (hang ts lo hi) (rep (hang ts lo hi) n))
+        settled r hr fit en er = subst (λ m. (θ n ≡ θ m) × Fits θ m (state-at (hang ts lo hi) m)) (sym er) (en, hang-each (Fits θ) top r hr fit)
 
         go : ((rep ts n ≡ lo .1) × (rep (hang ts lo hi) n ≡ hi .1)) ⊎ ((rep ts n ≢ lo .1) × (rep (hang ts lo hi) n ≡ rep ts n)) → (θ n ≡ θ (rep (hang ts lo hi) n)) × Fits θ (rep (hang ts lo hi) n) (state-at (hang ts lo hi) (rep (hang ts lo hi) n))
-        go (inl c) = acyclic (hi .1) hhi (λ d. absurd (d refl)) (s n h .0 ∙ ap θ (c .0) ∙ e) (c .1)
-        go (inr c) = acyclic (rep ts n) (formed n h .0) (λ d. s n h .1) (s n h .0) (c .1)
+        go (inl c) = settled (hi .1) hhi (λ d. absurd (d refl)) (s n h .0 ∙ ap θ (c .0) ∙ e) (c .1)
+        go (inr c) = settled (rep ts n) (formed n h .0) (λ d. s n h .1) (s n h .0) (c .1)
 
     joined : Solves (hang ts lo hi) θ → θ (lo .1) ≡ θ (hi .1)
     joined s = s (lo .1) (subst (λ m. lo .1 < m) (sym hang-length) hlo) .0 ∙ ap θ hang-lo
@@ -211,7 +213,8 @@ module _ (ts : Types) (lo hi : Ty) (hlo : lo .1 < length ts) (hhi : hi .1 < leng
         go (inl c) = subst (λ m. (θ n ≡ θ m) × Fits θ m (state-at ts m)) (sym (c .0)) (sn .0 ∙ ap θ (c .1) ∙ sym e, top-lo (state-at ts (hi .1)) (state-at ts (lo .1)) e top tw)
         go (inr c) = (sn .0 ∙ ap θ (c .1), fit (rep ts n) (formed n h .0) (subst (λ m. Fits θ m (state-at (hang ts lo hi) m)) (c .1) (sn .1)) (ℕ-discrete (rep ts n) (hi .1)))
 
--- what a success leaves behind: a good table in which the two are one, whose solutions are those at which they agree
+-- What a success leaves of nodes a and b: a well-formed table in which they are one, whose solutions are the old ones at which they agree.
+-- Classes only grow (same, fewer); a root that stays keeps what is known of it (kept); and one that is larger than a in some solution stays a root (quiet).
 pub record After (ts : Types) (a b : ℕ) (us : Types) : Type 0 where
   pub len : length us ≡ length ts
   pub formed : WellFormed us
@@ -265,10 +268,11 @@ module _ (ts : Types) (lo hi : Ty) (hlo : lo .1 < length ts) (hhi : hi .1 < leng
         into = λ θ s e. hang-into ts lo hi hlo hhi rlo rhi ne formed θ s e;
       }
 
+-- In every solution after it the two agree.
 pub agree : (ts us : Types) (a b : ℕ) → a < length ts → b < length ts → After ts a b us → (θ : Sol) → Solves us θ → θ a ≡ θ b
 agree ts us a b ha hb r θ s = s a (subst (λ N. a < N) (sym (r .len)) ha) .0 ∙ ap θ (r .meet) ∙ sym (s b (subst (λ N. b < N) (sym (r .len)) hb) .0)
 
-pub flip-after : (ts us : Types) (a b : ℕ) → a < length ts → b < length ts → After ts a b us → After ts b a us
+flip-after : (ts us : Types) (a b : ℕ) → a < length ts → b < length ts → After ts a b us → After ts b a us
 flip-after ts us a b ha hb r =
     record {
       len = r .len;
@@ -282,7 +286,7 @@ flip-after ts us a b ha hb r =
       into = λ θ s e. r .into θ s (sym e);
     }
 
--- lists of types, one by one in one class
+-- Lists of types, one by one in one class.
 abbrev pub SameAll : Types → List Ty → List Ty → Type 0
 SameAll ts [] [] = Unit {0}
 SameAll ts [] (y ∷ ys) = ⊥
@@ -296,19 +300,19 @@ same-terms ts θ s [] (y ∷ ys) a b e = absurd e
 same-terms ts θ s (x ∷ xs) [] a b e = absurd e
 same-terms ts θ s (x ∷ xs) (y ∷ ys) a b e = ap₂ cons (s (x .1) (a .0) .0 ∙ ap θ (e .0) ∙ sym (s (y .1) (b .0) .0)) (same-terms ts θ s xs ys (a .1) (b .1) (e .1))
 
-pub same-all : (ts us : Types) (N : ℕ) → ((u v : ℕ) → u < N → v < N → rep ts u ≡ rep ts v → rep us u ≡ rep us v) → (xs ys : List Ty) → AllIn N xs → AllIn N ys → SameAll ts xs ys → SameAll us xs ys
+same-all : (ts us : Types) (N : ℕ) → ((u v : ℕ) → u < N → v < N → rep ts u ≡ rep ts v → rep us u ≡ rep us v) → (xs ys : List Ty) → AllIn N xs → AllIn N ys → SameAll ts xs ys → SameAll us xs ys
 same-all ts us N f [] [] a b e = tt
 same-all ts us N f [] (y ∷ ys) a b e = absurd e
 same-all ts us N f (x ∷ xs) [] a b e = absurd e
 same-all ts us N f (x ∷ xs) (y ∷ ys) a b e = (f (x .1) (y .1) (a .0) (b .0) (e .0), same-all ts us N f xs ys (a .1) (b .1) (e .1))
 
-pub same-flip : (ts : Types) (xs ys : List Ty) → SameAll ts xs ys → SameAll ts ys xs
+same-flip : (ts : Types) (xs ys : List Ty) → SameAll ts xs ys → SameAll ts ys xs
 same-flip ts [] [] e = tt
 same-flip ts [] (y ∷ ys) e = absurd e
 same-flip ts (x ∷ xs) [] e = absurd e
 same-flip ts (x ∷ xs) (y ∷ ys) e = (sym (e .0), same-flip ts xs ys (e .1))
 
--- two roots that may be joined: one is unknown, or and are known and alike
+-- Two roots that may be joined: one is unknown, or both are known and alike.
 pub data Mates (ts : Types) (a b : ℕ) : Type 0 where
   free-left : state-at ts a ≡ unknown → Mates ts a b
   free-right : state-at ts b ≡ unknown → Mates ts a b
@@ -332,6 +336,7 @@ module _ (ts : Types) (formed : WellFormed ts) where
           let eq = same-terms us θ s xs ys (subst (λ N. AllIn N xs) (sym len) ax) (subst (λ N. AllIn N ys) (sym len) ay) (same-all ts us (length ts) (hang-same ts lo hi hlo hhi rlo rhi ne) xs ys ax ay sm) in
           subst (Fits θ (lo .1)) (sym e) (joined ts lo hi hlo hhi rlo rhi ne formed θ s ∙ subst (Fits θ (hi .1)) e′ f ∙ ap (con k d) (sym eq))
 
+  -- Joining two such roots, the smaller class under the larger, leaves just that.
   pub join-mates : (x y : Ty) → x .1 < length ts → y .1 < length ts → rep ts (x .1) ≡ x .1 → rep ts (y .1) ≡ y .1 → x .1 ≢ y .1 → Mates ts (x .1) (y .1) → After ts (x .1) (y .1) (join ts x y)
   unfolding join
   join-mates x y hx hy rx ry ne m = go (ltb (size-at ts (y .1)) (size-at ts (x .1))) refl
@@ -340,16 +345,15 @@ module _ (ts : Types) (formed : WellFormed ts) where
       go true e = rw (e, join) (flip-after ts (hang ts y x) (y .1) (x .1) hy hx (hang-mates y x hy hx ry rx (λ q. ne (sym q)) (mates-flip ts (x .1) (y .1) m)))
       go false e = rw (e, join) (hang-mates x y hx hy rx ry ne m)
 
--- ---- The reading with unknowns left free is kept
--- One unknown replaced.
+-- The reading with unknowns left free is kept: one unknown is replaced.
 unfoldable pub one : ℕ → Term → Sol
 one v t n = elim (eqb n v) [ true ↦ t | false ↦ var n ]
 
-pub one-at : (v : ℕ) (t : Term) → one v t v ≡ t
+one-at : (v : ℕ) (t : Term) → one v t v ≡ t
 unfolding one
 one-at v t = rw (eqb-true v v refl, one)
 
-pub one-off : (v : ℕ) (t : Term) (n : ℕ) → n ≢ v → one v t n ≡ var n
+one-off : (v : ℕ) (t : Term) (n : ℕ) → n ≢ v → one v t n ≡ var n
 unfolding one
 one-off v t n d = rw (eqb-false n v d, one)
 
@@ -384,7 +388,7 @@ module _ (ts : Types) (lo hi : Ty) (hlo : lo .1 < length ts) (hhi : hi .1 < leng
       go (inl c) = absurd (ne (sym (c .0) ∙ ap (rep ts) (sym e ∙ c .1) ∙ rhi))
       go (inr c) = sym (c .1) ∙ e
 
-  -- the variables of a solution after it, range what it does at free roots
+  -- The unknowns of a solution after it, from what it does at free roots.
   vars-after : (σ′ : Sol) → (state-at (hang ts lo hi) (hi .1) ≡ unknown → σ′ (hi .1) ≡ var (hi .1)) → ((r : ℕ) → r ≢ lo .1 → r ≢ hi .1 → σ r ≡ var r → σ′ r ≡ var r) → (r : ℕ) → r < length (hang ts lo hi) → rep (hang ts lo hi) r ≡ r → state-at (hang ts lo hi) r ≡ unknown → σ′ r ≡ var r
   vars-after σ′ top rest r h e u = go (ℕ-discrete r (hi .1))
     where
@@ -440,7 +444,7 @@ module _ (ts : Types) (lo hi : Ty) (hlo : lo .1 < length ts) (hhi : hi .1 < leng
   keep-alike : (state-at ts (lo .1) ≡ unknown → ⊥) → σ (lo .1) ≡ σ (hi .1) → Stays
   keep-alike kn meet = (σ, record { solves = hang-into ts lo hi hlo hhi rlo rhi ne formed σ (free .solves) meet; vars = vars-after σ (λ q. absurd (top-known (state-at ts (hi .1)) (state-at ts (lo .1)) _ kn (sym (hang-top ts lo hi hlo hhi rlo rhi ne) ∙ q))) (λ r d d′ e. e) })
 
-  -- one of the three
+  -- One of the three.
   keep : Mates ts (lo .1) (hi .1) → (state-at ts (lo .1) ≡ unknown → NotIn (lo .1) (σ (hi .1))) → (state-at ts (hi .1) ≡ unknown → NotIn (hi .1) (σ (lo .1))) → Stays
   keep (alike i j k d xs ys e e′ ax ay sm) nl nr = keep-alike (λ q. known≢ (sym e ∙ q)) (fit (lo .1) hlo rlo (known i k d xs) e ∙ ap (con k d) (same-terms ts σ (free .solves) xs ys ax ay sm) ∙ sym (fit (hi .1) hhi rhi (known j k d ys) e′))
     where
@@ -454,6 +458,7 @@ module _ (ts : Types) (lo hi : Ty) (hlo : lo .1 < length ts) (hhi : hi .1 < leng
       go (known i k d cs) q = keep-right (λ z. known≢ (sym q ∙ z)) e (nr e)
 
 module _ (ts : Types) (formed : WellFormed ts) (σ : Sol) (free : Free ts σ) where
+  -- Joining two such roots, of which none is an unknown that stands in the other, leaves a table that can be read with its unknowns free.
   pub join-keep : (x y : Ty) → x .1 < length ts → y .1 < length ts → rep ts (x .1) ≡ x .1 → rep ts (y .1) ≡ y .1 → x .1 ≢ y .1 → Mates ts (x .1) (y .1) → (state-at ts (x .1) ≡ unknown → NotIn (x .1) (σ (y .1))) → (state-at ts (y .1) ≡ unknown → NotIn (y .1) (σ (x .1))) → (σ′ : Sol) × Free (join ts x y) σ′
   unfolding join
   join-keep x y hx hy rx ry ne m nx ny = go (ltb (size-at ts (y .1)) (size-at ts (x .1))) refl

@@ -9,7 +9,8 @@ use native.Mathlib.Decide.{ℕ-discrete}
 use lib.Dec.{T, eqb, eqb→eq}
 use lib.ListN.{length}
 use Rattle.rules.specs.Lists.{Words, any}
-use Rattle.rules.specs.Sheet.{kind-flag}
+use Rattle.rules.specs.Layout.{kind·closure, kind·error}
+use Rattle.rules.specs.Sheet.{kind-flag, row·may-meet}
 use Rattle.rules.specs.Types.{Ty, TypeState, unknown, known, Types, xor, invert-if, find, state-at, UnifyResult, success, failure, indeterminate, and, join, Unified, unify-each, unify-children, unify-known, join-on-success, occurs-in, bind-unknown, unify-states, unify-roots, unify-in}
 use Rattle.rules.specs.Solutions.{Term, var, con, nil, cons, term-size, Sol, terms, rep, Fits, Solves, AllIn, ChildrenIn, WellFormed, eqb-true, eqb-false, known≢, Free, Readable, Fuel, fuel-none, fuel-step, fuel-full}
 use Rattle.rules.specs.Joining.{After, SameAll, same-terms, Mates, free-left, free-right, alike, join-mates, NotIn, join-keep}
@@ -20,7 +21,7 @@ Won success = Unit {0}
 Won failure = ⊥
 Won indeterminate = ⊥
 
-pub both-won : (v w : UnifyResult) → Won (and v w) → Won v × Won w
+both-won : (v w : UnifyResult) → Won (and v w) → Won v × Won w
 both-won success w h = (tt, h)
 both-won failure w h = absurd h
 both-won indeterminate success h = absurd h
@@ -58,7 +59,7 @@ occurs-size (suc k) ts θ formed sv v t h o = go (eqb (rep ts (t .1)) v) refl (s
         small (inr l) = omega (arith, whole, r .3)
 
 module _ (ts : Types) (formed : WellFormed ts) (σ : Sol) (free : Free ts σ) where
-  -- what does not occur is not in the term
+  -- What does not occur is not in the term.
   none-terms : (v : ℕ) (f : Ty → Bool) (cs : List Ty) → AllIn (length ts) cs → ((c : Ty) → c .1 < length ts → term-size (σ (c .1)) ≤ term-size (terms σ cs) → f c ≡ false → NotIn v (σ (c .1))) → any f cs ≡ false → NotIn v (terms σ cs)
   unfolding any terms term-size
   none-terms v f [] a h e = tt
@@ -99,10 +100,11 @@ module _ (ts : Types) (formed : WellFormed ts) (σ : Sol) (free : Free ts σ) wh
       go false p true q v = absurd (rw (p, q, bind-unknown) at v)
       go false p false q v = rw (p, q, bind-unknown) (join-keep ts formed σ free x y hx hy rx ry ne m (λ u. not-in (suc (length ts)) (x .1) y hy (full y) p) (λ u. not-in (suc (length ts)) (y .1) x hx (full x) q))
 
--- a way to meet two types that is right wherever it succeeds
+-- A way to meet two types that is right wherever it succeeds.
 abbrev pub Right : (Types → Ty → Ty → Unified) → Type 0
 Right f = (ts : Types) (a b : Ty) → WellFormed ts → a .1 < length ts → b .1 < length ts → Readable ts → Won ((f ts a b) .0) → After ts (a .1) (b .1) ((f ts a b) .1) × Readable ((f ts a b) .1)
 
+-- The same of lists of types.
 pub record AfterAll (ts : Types) (xs ys : List Ty) (us : Types) : Type 0 where
   pub len : length us ≡ length ts
   pub formed : WellFormed us
@@ -114,6 +116,7 @@ pub record AfterAll (ts : Types) (xs ys : List Ty) (us : Types) : Type 0 where
   pub out : (θ : Sol) → Solves us θ → Solves ts θ
   pub into : (θ : Sol) → Solves ts θ → terms θ xs ≡ terms θ ys → Solves us θ
 
+-- The first of a list; the rest of it, or the children of a type.
 unfoldable pub headT : Term → Term
 headT (var n) = nil
 headT (con k d t) = nil
@@ -129,18 +132,18 @@ tailT (cons t u) = u
 suc-inj : {m n : ℕ} → suc m ≡ suc n → m ≡ n
 suc-inj e = omega arith
 
-meetAll-right : (f : Types → Ty → Ty → Unified) → Right f → (ts : Types) (xs ys : List Ty) → WellFormed ts → AllIn (length ts) xs → AllIn (length ts) ys → length xs ≡ length ys → Readable ts → Won ((unify-each f ts xs ys) .0) → AfterAll ts xs ys ((unify-each f ts xs ys) .1) × Readable ((unify-each f ts xs ys) .1)
+each-right : (f : Types → Ty → Ty → Unified) → Right f → (ts : Types) (xs ys : List Ty) → WellFormed ts → AllIn (length ts) xs → AllIn (length ts) ys → length xs ≡ length ys → Readable ts → Won ((unify-each f ts xs ys) .0) → AfterAll ts xs ys ((unify-each f ts xs ys) .1) × Readable ((unify-each f ts xs ys) .1)
 unfolding unify-each terms headT tailT term-size
-meetAll-right f right ts [] [] formed ax ay l fr w = (record { len = refl; formed = formed; same = λ u v hu hv e. e; meet = tt; fewer = λ r h e. e; kept = λ r h a b k. refl; quiet = λ θ s r h rr l. rr; out = λ θ s. s; into = λ θ s e. s }, fr)
-meetAll-right f right ts [] (y ∷ ys) formed ax ay l fr w = absurd (omega arith)
-meetAll-right f right ts (x ∷ xs) [] formed ax ay l fr w = absurd (omega arith)
-meetAll-right f right ts (x ∷ xs) (y ∷ ys) formed ax ay l fr w =
+each-right f right ts [] [] formed ax ay l fr w = (record { len = refl; formed = formed; same = λ u v hu hv e. e; meet = tt; fewer = λ r h e. e; kept = λ r h a b k. refl; quiet = λ θ s r h rr l. rr; out = λ θ s. s; into = λ θ s e. s }, fr)
+each-right f right ts [] (y ∷ ys) formed ax ay l fr w = absurd (omega arith)
+each-right f right ts (x ∷ xs) [] formed ax ay l fr w = absurd (omega arith)
+each-right f right ts (x ∷ xs) (y ∷ ys) formed ax ay l fr w =
     let m = f ts x y in
     let won = both-won (m .0) ((unify-each f (m .1) xs ys) .0) w in
     let pk = right ts x y formed (ax .0) (ay .0) fr (won .0) in
     let p = pk .0 in
     let len : length ts ≡ length (m .1) = sym (p .len) in
-    let qk = meetAll-right f right (m .1) xs ys (p .formed) (subst (λ N. AllIn N xs) len (ax .1)) (subst (λ N. AllIn N ys) len (ay .1)) (suc-inj l) (pk .1) (won .1) in
+    let qk = each-right f right (m .1) xs ys (p .formed) (subst (λ N. AllIn N xs) len (ax .1)) (subst (λ N. AllIn N ys) len (ay .1)) (suc-inj l) (pk .1) (won .1) in
     let q = qk .0 in
     let up : (n : ℕ) → n < length ts → n < length (m .1) = λ n h. subst (λ N. n < N) len h in (
       record {
@@ -161,14 +164,15 @@ meetAll-right f right ts (x ∷ xs) (y ∷ ys) formed ax ay l fr w =
 
 children-right : (f : Types → Ty → Ty → Unified) → Right f → (ts : Types) (k : ℕ) (xs ys : List Ty) → WellFormed ts → AllIn (length ts) xs → AllIn (length ts) ys → Readable ts → Won ((unify-children f ts k xs ys) .0) → AfterAll ts xs ys ((unify-children f ts k xs ys) .1) × Readable ((unify-children f ts k xs ys) .1)
 unfolding unify-children
-children-right f right ts k xs ys formed ax ay fr w = go (eqb (length xs) (length ys)) refl (eqb k 8) refl w
+children-right f right ts k xs ys formed ax ay fr w = go (eqb (length xs) (length ys)) refl (eqb k kind·closure) refl w
   where
-    go : (b : Bool) → eqb (length xs) (length ys) ≡ b → (c : Bool) → eqb k 8 ≡ c → Won ((unify-children f ts k xs ys) .0) → AfterAll ts xs ys ((unify-children f ts k xs ys) .1) × Readable ((unify-children f ts k xs ys) .1)
-    go true e c e′ v = rw (e, unify-children) (meetAll-right f right ts xs ys formed ax ay (eqb→eq (length xs) (length ys) (subst T (sym e) tt)) fr (rw (e, unify-children) at v))
+    go : (b : Bool) → eqb (length xs) (length ys) ≡ b → (c : Bool) → eqb k kind·closure ≡ c → Won ((unify-children f ts k xs ys) .0) → AfterAll ts xs ys ((unify-children f ts k xs ys) .1) × Readable ((unify-children f ts k xs ys) .1)
+    go true e c e′ v = rw (e, unify-children) (each-right f right ts xs ys formed ax ay (eqb→eq (length xs) (length ys) (subst T (sym e) tt)) fr (rw (e, unify-children) at v))
     go false e true e′ v = absurd (rw (e, e′, unify-children) at v)
     go false e false e′ v = absurd (rw (e, e′, unify-children) at v)
 
 module _ (inv : Bool) where
+  -- Inverting types changes no node.
   pub flip-in : (N : ℕ) (ys : List Ty) → AllIn N ys → AllIn N (map (invert-if inv) ys)
   unfolding invert-if
   flip-in N [] a = tt
@@ -190,17 +194,18 @@ and-true : (a b : Bool) → T (a && b) → T a × T b
 and-true true b h = (tt, h)
 and-true false b h = absurd h
 
+-- Two known types: of one kind and id.
 pub known-right : (f : Types → Ty → Ty → Unified) → Right f → (s : Words) (ts : Types) (inv : Bool) (k d : ℕ) (xs : List Ty) (k′ d′ : ℕ) (ys : List Ty) → WellFormed ts → AllIn (length ts) xs → AllIn (length ts) ys → Readable ts → Won ((unify-known f s ts inv k d xs k′ d′ ys) .0) → (k ≡ k′) × (d ≡ d′) × AfterAll ts xs ys ((unify-known f s ts inv k d xs k′ d′ ys) .1) × Readable ((unify-known f s ts inv k d xs k′ d′ ys) .1)
 unfolding unify-known
-known-right f right s ts inv k d xs k′ d′ ys formed ax ay fr w = go (eqb k 13 || eqb k′ 13) refl (eqb k k′ && eqb d d′ && (not inv || kind-flag s 3 k d)) refl w
+known-right f right s ts inv k d xs k′ d′ ys formed ax ay fr w = go (eqb k kind·error || eqb k′ kind·error) refl (eqb k k′ && eqb d d′ && (not inv || kind-flag s row·may-meet k d)) refl w
   where
-    go : (b : Bool) → (eqb k 13 || eqb k′ 13) ≡ b → (c : Bool) → (eqb k k′ && eqb d d′ && (not inv || kind-flag s 3 k d)) ≡ c → Won ((unify-known f s ts inv k d xs k′ d′ ys) .0) → (k ≡ k′) × (d ≡ d′) × AfterAll ts xs ys ((unify-known f s ts inv k d xs k′ d′ ys) .1) × Readable ((unify-known f s ts inv k d xs k′ d′ ys) .1)
+    go : (b : Bool) → (eqb k kind·error || eqb k′ kind·error) ≡ b → (c : Bool) → (eqb k k′ && eqb d d′ && (not inv || kind-flag s row·may-meet k d)) ≡ c → Won ((unify-known f s ts inv k d xs k′ d′ ys) .0) → (k ≡ k′) × (d ≡ d′) × AfterAll ts xs ys ((unify-known f s ts inv k d xs k′ d′ ys) .1) × Readable ((unify-known f s ts inv k d xs k′ d′ ys) .1)
     go true e c e′ v = absurd (rw (e, unify-known) at v)
     go false e false e′ v = absurd (rw (e, e′, unify-known) at v)
     go false e true e′ v =
         let pk = children-right f right ts k xs (map (invert-if inv) ys) formed ax (flip-in inv (length ts) ys ay) fr (rw (e, e′, unify-known) at v) in
         let p = pk .0 in
-        let kd = and-true (eqb k k′ && eqb d d′) (not inv || kind-flag s 3 k d) (subst T (sym e′) tt) in
+        let kd = and-true (eqb k k′ && eqb d d′) (not inv || kind-flag s row·may-meet k d) (subst T (sym e′) tt) in
         let kd′ = and-true (eqb k k′) (eqb d d′) (kd .0) in (
           eqb→eq k k′ (kd′ .0),
           eqb→eq d d′ (kd′ .1),
@@ -208,15 +213,16 @@ known-right f right s ts inv k d xs k′ d′ ys formed ax ay fr w = go (eqb k 1
           rw (e, e′, unify-known) (pk .1),
         )
 
-joinIf-won : (m : Unified) (x y : Ty) → Won ((join-on-success m x y) .0) → Won (m .0) × ((join-on-success m x y) .1 ≡ join (m .1) x y)
+join-won : (m : Unified) (x y : Ty) → Won ((join-on-success m x y) .0) → Won (m .0) × ((join-on-success m x y) .1 ≡ join (m .1) x y)
 unfolding join-on-success
-joinIf-won m x y w = go (m .0) refl w
+join-won m x y w = go (m .0) refl w
   where
     go : (v : UnifyResult) → m .0 ≡ v → Won ((join-on-success m x y) .0) → Won (m .0) × ((join-on-success m x y) .1 ≡ join (m .1) x y)
     go success e h = (subst Won (sym e) tt, rw (e, join-on-success))
     go failure e h = absurd (subst Won e (rw (e, join-on-success) at h))
     go indeterminate e h = absurd (subst Won e (rw (e, join-on-success) at h))
 
+-- An unknown and another root.
 pub bind-right : (ts : Types) (x y : Ty) → WellFormed ts → x .1 < length ts → y .1 < length ts → rep ts (x .1) ≡ x .1 → rep ts (y .1) ≡ y .1 → x .1 ≢ y .1 → Mates ts (x .1) (y .1) → Won ((bind-unknown ts x y) .0) → After ts (x .1) (y .1) ((bind-unknown ts x y) .1)
 unfolding bind-unknown
 bind-right ts x y formed hx hy rx ry ne m w = go (occurs-in (suc (length ts)) ts (x .1) y || occurs-in (suc (length ts)) ts (y .1) x) refl w
@@ -225,6 +231,7 @@ bind-right ts x y formed hx hy rx ry ne m w = go (occurs-in (suc (length ts)) ts
     go true e h = absurd (rw (e, bind-unknown) at h)
     go false e h = rw (e, bind-unknown) (join-mates ts formed x y hx hy rx ry ne m)
 
+-- Two different roots, by what they are.
 pub states-right : (f : Types → Ty → Ty → Unified) → Right f → (s : Words) (ts : Types) (x y : Ty) → WellFormed ts → x .1 < length ts → y .1 < length ts → rep ts (x .1) ≡ x .1 → rep ts (y .1) ≡ y .1 → x .1 ≢ y .1 → (u v : TypeState) → state-at ts (x .1) ≡ u → state-at ts (y .1) ≡ v → Readable ts → Won ((unify-states f s ts x y u v) .0) → After ts (x .1) (y .1) ((unify-states f s ts x y u v) .1) × Readable ((unify-states f s ts x y u v) .1)
 unfolding unify-states tailT term-size
 states-right f right s ts x y formed hx hy rx ry ne unknown v eu ev fr w = (bind-right ts x y formed hx hy rx ry ne (free-left eu) w, bind-keep ts formed (fr .0) (fr .1) x y hx hy rx ry ne (free-left eu) w)
@@ -242,7 +249,7 @@ states-right f right s ts x y formed hx hy rx ry ne (known i k d xs) (known j k�
     us = m .1
 
     jw : Won (m .0) × ((join-on-success m x y) .1 ≡ join (m .1) x y)
-    jw = joinIf-won m x y w
+    jw = join-won m x y w
 
     ax : AllIn (length ts) xs
     ax = children (x .1) (known i k d xs) hx rx eu
@@ -274,7 +281,7 @@ states-right f right s ts x y formed hx hy rx ry ne (known i k d xs) (known j k�
     fit : (θ : Sol) → Solves ts θ → (r : ℕ) → r < length ts → rep ts r ≡ r → (st : TypeState) → state-at ts r ≡ st → Fits θ r st
     fit θ sv r h rr st e = subst (Fits θ r) e (subst (λ n. Fits θ n (state-at ts n)) rr (sv r h .1))
 
-    -- and are roots still: what the children touched is smaller, in a solution of what they left
+    -- Both are roots still: what the children touched is smaller, in a solution of what they left.
     rx′ : rep us (x .1) ≡ x .1
     rx′ = q .quiet σ₁ s₁ (x .1) hx rx (omega (arith, ap term-size (fit σ₁ (q .out σ₁ s₁) (x .1) hx rx (known i k d xs) eu)))
 
@@ -317,6 +324,7 @@ roots-right f right s ts x y formed hx hy rx ry fr w = go (ℕ-discrete (x .1) (
     go (yes e) v = rw (eqb-true (x .1) (y .1) e, unify-roots) (record { len = refl; formed = formed; same = λ a b ha hb q. q; meet = ap (rep ts) e; fewer = λ r h q. q; kept = λ r h a b k. refl; quiet = λ θ sv r h rr l. rr; out = λ θ sv. sv; into = λ θ sv q. sv }, fr)
     go (no d) v = rw (eqb-false (x .1) (y .1) d, unify-roots) (states-right f right s ts x y formed hx hy rx ry d (state-at ts (x .1)) (state-at ts (y .1)) refl refl fr (rw (eqb-false (x .1) (y .1) d, unify-roots) at v))
 
+-- `unify` to any depth.
 pub unify-in-right : (n : ℕ) (s : Words) → Right (unify-in n s)
 unfolding unify-in find invert-if rep
 unify-in-right zero s ts a b formed ha hb fr w = absurd w

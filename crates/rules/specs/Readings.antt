@@ -24,6 +24,7 @@ abbrev pub Acyclic : Types → Type 0
 Acyclic ts = Ranked ts (rank ts)
 
 module _ (ts : Types) (formed : WellFormed ts) where
+  -- The rank of a table that can be read as terms falls, and no way down is longer than the table.
   pub readable-ranked : Readable ts → Ranked ts (rank ts)
   readable-ranked k = record { falls = rank-falls ts formed (k .0) (k .1 .solves) }
 

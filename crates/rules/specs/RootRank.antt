@@ -27,6 +27,7 @@ node-map f [] n d h = absurd (not-suc-le-zero h)
 node-map f (x ∷ l) zero d h = refl
 node-map f (x ∷ l) (suc n) d h = node-map f l n d (le-of-suc-le-suc h)
 
+-- It has as many nodes, with the children of their roots.
 pub rooted-length : (ts : Types) → length (rooted ts) ≡ length ts
 unfolding rooted
 rooted-length ts = map-length _ ts
@@ -41,6 +42,7 @@ child-size θ [] j h = absurd (not-suc-le-zero h)
 child-size θ (c ∷ cs) zero h = omega arith
 child-size θ (c ∷ cs) (suc j) h = omega (arith, child-size θ cs j (le-of-suc-le-suc h))
 
+-- One of some types that are nodes is a node.
 pub child-in : (N : ℕ) (cs : List Ty) (j : ℕ) → AllIn N cs → j < length cs → (getD cs j (false, 0)) .1 < N
 child-in N [] j a h = absurd (not-suc-le-zero h)
 child-in N (c ∷ cs) zero a h = a .0
@@ -54,6 +56,7 @@ module _ (ts : Types) (formed : WellFormed ts) where
     here : n < length ts
     here = has-kids n j l
 
+    -- What a node leads to is a node, and smaller in every solution.
     pub inside : child (rooted ts) n j < length (rooted ts)
     unfolding child children
     inside = subst (λ m. child (rooted ts) n j < m) (sym (rooted-length ts)) (go (state-at ts (rep ts n)) (rooted-children ts n here) (formed n here .2))

@@ -7,17 +7,15 @@ use mathlib.Core.Logic.{_≢_, _⊎_, inl, inr}
 use native.Mathlib.Nat.{lt-irrefl}
 use native.Mathlib.Omega.{arith}
 use native.Mathlib.Decide.{ℕ-discrete}
-use lib.Dec.{T, eqb, ltb}
-use lib.ListN.{length, length-set}
-use lib.Seq.{getD-set-same, getD-set-other}
+use lib.Dec.{T, eqb}
+use lib.ListN.{length}
 use Rattle.rules.specs.Lists.{Words}
 use Rattle.rules.specs.Layout.{kind·error}
 use Rattle.rules.specs.Sheet.{kind-flag, row·may-meet}
-use Rattle.rules.specs.Types.{Ty, TypeState, unknown, known, TypeNode, Types, node-at, xor, invert-if, invert-state, find, state-at, size-at, UnifyResult, success, failure, indeterminate, and, from-bool, relabel, or-else, hang, join, Unified, unify-each, unify-children, unify-known, join-on-success, occurs-in, self-inverse, bind-unknown, unify-states, unify-roots, unify-in, unify}
+use Rattle.rules.specs.Types.{Ty, TypeState, unknown, known, Types, xor, invert-if, find, state-at, UnifyResult, success, failure, indeterminate, and, from-bool, Unified, unify-each, unify-children, unify-known, join-on-success, occurs-in, self-inverse, bind-unknown, unify-states, unify-roots, unify-in, unify}
 use Rattle.rules.specs.Solutions.{Term, var, con, nil, cons, term-size, Sol, terms, rep, Fits, Solves, AllIn, ChildrenIn, WellFormed, eqb-true, eqb-false, Readable, Fuel, fuel-none, fuel-step, fuel-less, fuel-full}
-use Rattle.rules.specs.Joining.{map-at, map-length}
 use Rattle.rules.specs.UprightTables.{Upright, PlainState, UprightErrorFree, flip-upright, KeepsUpright, unify-in-upright}
-use Rattle.rules.specs.MostGeneral.{Won, occurs-size, Right, AfterAll, headT, tailT, flip-in, flip-terms, known-right, unify-in-right}
+use Rattle.rules.specs.MostGeneral.{Won, occurs-size, Right, headT, tailT, flip-in, flip-terms, unify-in-right}
 
 not-T→false : (b : Bool) → ¬ T b → b ≡ false
 not-T→false true h = absurd (h tt)

@@ -10,7 +10,7 @@ use lib.ListN.{length}
 use Rattle.rules.specs.Lists.{Words}
 use Rattle.rules.specs.Layout.{kind·closure, kind·error}
 use Rattle.rules.specs.Sheet.{kind-flag, row·may-meet}
-use Rattle.rules.specs.Types.{Ty, TypeState, unknown, known, Types, xor, invert-if, find, state-at, occurs-in, UnifyResult, success, failure, indeterminate, join, Unified, unify-each, unify-types, last-of, unify-children, unify-known, join-on-success, bind-unknown, unify-states, unify-roots, unify-in, unify, ImplType, unify-impl-type}
+use Rattle.rules.specs.Types.{Ty, TypeState, unknown, known, Types, xor, invert-if, find, state-at, occurs-in, UnifyResult, success, failure, indeterminate, Unified, unify-each, unify-types, last-of, unify-children, unify-known, join-on-success, bind-unknown, unify-states, unify-roots, unify-in, unify, ImplType, unify-impl-type}
 use Rattle.rules.specs.Solutions.{Sol, rep, Solves, AllIn, ChildrenIn, WellFormed, Readable, eqb-true, eqb-false}
 use Rattle.rules.specs.MostGeneral.{Won, Right, flip-in, states-right, unify-in-right}
 use Rattle.rules.specs.RootRank.{rank}
@@ -37,18 +37,20 @@ still ts formed k = record { keeps = record { len = refl; formed = formed; kept 
 after : (ts us vs : Types) → Narrows ts us → Narrows us vs → Narrows ts vs
 after ts us vs p q = record { keeps = record { len = q .keeps .len ∙ p .keeps .len; formed = q .keeps .formed; kept = q .keeps .kept }; out = λ θ sv. p .out θ (q .out θ sv) }
 
--- won, or not
+-- Success, or not.
 won? : (v : UnifyResult) → Won v ⊎ (Won v → ⊥)
 won? success = inl tt
 won? failure = inr (λ h. h)
 won? indeterminate = inr (λ h. h)
 
+-- The last of some types is one of them.
 pub last-in : (N : ℕ) (xs : List Ty) → AllIn N xs → AllIn N (last-of xs)
 unfolding last-of
 last-in N [] a = tt
 last-in N (x ∷ []) a = a
 last-in N (x ∷ (y ∷ ys)) a = last-in N (y ∷ ys) (a .1)
 
+-- Where there is no success, nothing is joined.
 bind-lost : (ts : Types) (x y : Ty) → (Won ((bind-unknown ts x y) .0) → ⊥) → (bind-unknown ts x y) .1 ≡ ts
 unfolding bind-unknown
 bind-lost ts x y h = go (occurs-in (suc (length ts)) ts (x .1) y || occurs-in (suc (length ts)) ts (y .1) x) refl h
@@ -57,9 +59,9 @@ bind-lost ts x y h = go (occurs-in (suc (length ts)) ts (x .1) y || occurs-in (s
     go true e k = rw (e, bind-unknown)
     go false e k = absurd ((rw (e, bind-unknown) at k) tt)
 
-joinIf-lost : (m : Unified) (x y : Ty) → (Won ((join-on-success m x y) .0) → ⊥) → (join-on-success m x y) .1 ≡ m .1
+join-lost : (m : Unified) (x y : Ty) → (Won ((join-on-success m x y) .0) → ⊥) → (join-on-success m x y) .1 ≡ m .1
 unfolding join-on-success
-joinIf-lost m x y h = go (m .0) refl h
+join-lost m x y h = go (m .0) refl h
   where
     go : (v : UnifyResult) → m .0 ≡ v → (Won ((join-on-success m x y) .0) → ⊥) → (join-on-success m x y) .1 ≡ m .1
     go success e k = absurd ((rw (e, join-on-success) at k) tt)
@@ -67,6 +69,7 @@ joinIf-lost m x y h = go (m .0) refl h
     go indeterminate e k = rw (e, join-on-success)
 
 module _ (f : Types → Ty → Ty → Unified) (safe : NarrowsTables f) where
+  -- Layer by layer, whatever the verdict.
   pub all-safe : (ts : Types) (xs ys : List Ty) → WellFormed ts → AllIn (length ts) xs → AllIn (length ts) ys → Readable ts → Narrows ts ((unify-each f ts xs ys) .1)
   unfolding unify-each
   all-safe ts [] ys formed ax ay k = still ts formed k
@@ -103,7 +106,7 @@ module _ (f : Types → Ty → Ty → Unified) (safe : NarrowsTables f) where
     states-lost unknown v eu ev h = subst (Narrows ts) (sym (bind-lost ts x y h)) (still ts formed kp)
     states-lost (known i k d xs) unknown eu ev h = subst (Narrows ts) (sym (bind-lost ts x y h)) (still ts formed kp)
     states-lost (known i k d xs) (known j k′ d′ ys) eu ev h =
-        subst (Narrows ts) (sym (joinIf-lost (unify-known f s ts (xor (xor i (x .0)) (xor j (y .0))) k d xs k′ d′ ys) x y h))
+        subst (Narrows ts) (sym (join-lost (unify-known f s ts (xor (xor i (x .0)) (xor j (y .0))) k d xs k′ d′ ys) x y h))
         (known-safe s ts (xor (xor i (x .0)) (xor j (y .0))) k d xs k′ d′ ys formed (kids-in (x .1) (known i k d xs) hx rx eu) (kids-in (y .1) (known j k′ d′ ys) hy ry ev) kp)
 
     states-safe : x .1 ≢ y .1 → (u v : TypeState) → state-at ts (x .1) ≡ u → state-at ts (y .1) ≡ v → Narrows ts ((unify-states f s ts x y u v) .1)
@@ -119,6 +122,7 @@ module _ (f : Types → Ty → Ty → Unified) (safe : NarrowsTables f) where
         go (yes e) = rw (eqb-true (x .1) (y .1) e, unify-roots) (still ts formed kp)
         go (no d) = rw (eqb-false (x .1) (y .1) d, unify-roots) (states-safe d (state-at ts (x .1)) (state-at ts (y .1)) refl refl)
 
+-- `unify`, to any depth.
 pub unify-in-narrows : (n : ℕ) (s : Words) → NarrowsTables (unify-in n s)
 unfolding unify-in find invert-if rep
 unify-in-narrows zero s ts a b formed ha hb k = still ts formed k
@@ -147,6 +151,7 @@ impl-type-narrows s ts a b formed ax ay k = go (eqb (a .0) 0 || eqb (b .0) 0) re
     go false e true e′ true e″ = rw (e, e′, unify-impl-type) (rw (e″, unify-types) (all-safe (unify s) (unify-narrows s) ts (a .1) (b .1) formed ax ay k))
     go false e true e′ false e″ = rw (e, e′, unify-impl-type) (rw (e″, unify-types) (still ts formed k))
 
+-- It keeps a table as long, well formed and readable.
 pub impl-type-keeps : (s : Words) (ts : Types) (a b : ImplType) → WellFormed ts → AllIn (length ts) (a .1) → AllIn (length ts) (b .1) → Readable ts → Keeps ts ((unify-impl-type s ts a b) .1)
 impl-type-keeps s ts a b formed ax ay k = (impl-type-narrows s ts a b formed ax ay k) .keeps
 
@@ -163,8 +168,10 @@ stays ts us k = record { len = k .len; formed = k .formed; acyclic = readable-ra
 pub unify-in-acyclic : (n : ℕ) (s : Words) (ts : Types) (a b : Ty) → WellFormed ts → Acyclic ts → a .1 < length ts → b .1 < length ts → StaysAcyclic ts ((unify-in n s ts a b) .1)
 unify-in-acyclic n s ts a b formed e ha hb = stays ts _ ((unify-in-narrows n s ts a b formed ha hb (ranked-readable ts formed (rank ts) e)) .keeps)
 
+-- `unify` itself.
 pub unify-acyclic : (s : Words) (ts : Types) (a b : Ty) → WellFormed ts → Acyclic ts → a .1 < length ts → b .1 < length ts → StaysAcyclic ts ((unify s ts a b) .1)
 unify-acyclic s ts a b formed e ha hb = stays ts _ (unify-keeps s ts a b formed ha hb (ranked-readable ts formed (rank ts) e))
 
+-- `unify_impl_type` likewise.
 pub impl-type-acyclic : (s : Words) (ts : Types) (a b : ImplType) → WellFormed ts → Acyclic ts → AllIn (length ts) (a .1) → AllIn (length ts) (b .1) → StaysAcyclic ts ((unify-impl-type s ts a b) .1)
 impl-type-acyclic s ts a b formed e ax ay = stays ts _ (impl-type-keeps s ts a b formed ax ay (ranked-readable ts formed (rank ts) e))
