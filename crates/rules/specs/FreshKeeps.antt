@@ -8,7 +8,8 @@ use lib.ListN.{length, replicate, length-append}
 use Rattle.rules.specs.Types.{Ty, TypeState, unknown, TypeNode, Types, new-node}
 use Rattle.rules.specs.Transfer.{new-nodes, param-for}
 use Rattle.rules.specs.Solutions.{WellFormed, Readable}
-use Rattle.rules.specs.Readings.{Ranked}
+use Rattle.rules.specs.RootRank.{rank}
+use Rattle.rules.specs.Readings.{Ranked, Acyclic, readable-ranked, ranked-readable}
 use Rattle.rules.specs.TransferKeeps.{begin, push, filled-formed, filled-readable}
 
 -- A table in order: well formed, and it can be read as terms (Readings: it is acyclic).
@@ -49,3 +50,7 @@ fresh-proper (suc n) ts d =
     let us : Types = ts ++ (new-node (length ts) unknown ∷ []) in
     let len : length us ≡ suc (length ts) = length-append ts (new-node (length ts) unknown ∷ []) ∙ add-suc (length ts) 0 ∙ ap suc (add-zero (length ts)) in
     subst Proper (ap (λ k. us ++ new-nodes k (replicate n unknown)) len ∙ snoc-append ts (new-node (length ts) unknown) (new-nodes (suc (length ts)) (replicate n unknown))) (fresh-proper n us (one-fresh ts d))
+
+-- The same, of acyclic tables.
+pub fresh-acyclic : (n : ℕ) (ts : Types) → WellFormed ts → Acyclic ts → WellFormed (ts ++ new-nodes (length ts) (replicate n unknown)) × Acyclic (ts ++ new-nodes (length ts) (replicate n unknown))
+fresh-acyclic n ts formed e = let p = fresh-proper n ts (record { formed = formed; kept = ranked-readable ts formed (rank ts) e }) in (p .formed, readable-ranked _ (p .formed) (p .kept))

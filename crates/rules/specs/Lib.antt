@@ -38,3 +38,4 @@ pub mod MostGeneral
 pub mod UnifierFound
 pub mod UnifyEnds
 pub mod UprightTables
+pub mod TypeFuel

@@ -14,9 +14,10 @@ use Rattle.rules.specs.UprightTables.{unify-upright}
 use Rattle.rules.specs.UnifierFound.{unify-found}
 -- The words of the theorem, passed on.
 unfoldable pub use Rattle.rules.specs.Solutions.{term-size, terms, rep, sub}
-pub use Rattle.rules.specs.Solutions.{Term, Sol, Fits, Solves, AllIn, ChildrenIn, WellFormed, Free, Readable, eqb-true, eqb-false}
+pub use Rattle.rules.specs.Solutions.{Term, var, con, nil, cons, Sol, Fits, Solves, AllIn, ChildrenIn, WellFormed, Free, Readable, eqb-true, eqb-false}
 unfoldable pub use Rattle.rules.specs.Readings.{reading}
 pub use Rattle.rules.specs.Readings.{Acyclic, reading-free, acyclic-iff-readable, acyclic-iff-none}
+pub use Rattle.rules.specs.MostGeneral.{flip-in}
 pub use Rattle.rules.specs.UprightTables.{Upright, PlainState, UprightErrorFree}
 
 -- The verdict is success,
