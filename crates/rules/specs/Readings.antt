@@ -85,6 +85,7 @@ module _ (ts : Types) (formed : WellFormed ts) (δ : ℕ → ℕ) (r : Ranked ts
               let c = child-in (length ts) cs j (subst (ChildrenIn (length ts)) q (g .2)) b in
               same _ _ _ _ c c refl (r .falls (rep ts n) (g .0) i kd d cs q′ j b) (le-refl _)))
 
+  -- Any rank that falls will do.
   pub ranked-readable : Readable ts
   ranked-readable = (_, ranked-free)
 
@@ -124,6 +125,7 @@ module _ (ts : Types) (formed : WellFormed ts) (flat : (n : ℕ) → n < length 
       (λ h. absurd (not-suc-le-zero (subst (λ (cs : List Ty). j < length cs) (no-children ts n h) l)))
       (lt-or n (length ts))
 
+  -- Children are nodes.
   pub flat-inside : (n j : ℕ) → j < length (children-at ts n) → child ts n j < length ts
   flat-inside = by-root (λ n m. m < length ts) (λ n j h l. subst (λ k. child (rooted ts) n j < k) (rooted-length ts) (inside ts formed n j l))
 

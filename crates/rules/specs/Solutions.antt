@@ -20,6 +20,7 @@ pub data Term : Type 0 where
   nil : Term
   cons : Term → Term → Term
 
+-- How many types stand in a term: a type is larger than each of its children.
 unfoldable pub term-size : Term → ℕ
 term-size (var n) = 0
 term-size (con k d t) = suc (term-size t)
@@ -59,6 +60,7 @@ abbrev pub AllIn : ℕ → List Ty → Type 0
 AllIn N [] = Unit {0}
 AllIn N (c ∷ cs) = (c .1 < N) × AllIn N cs
 
+-- The children of a state are.
 abbrev pub ChildrenIn : ℕ → TypeState → Type 0
 ChildrenIn N unknown = Unit {0}
 ChildrenIn N (known i k d cs) = AllIn N cs
@@ -136,6 +138,7 @@ unique-of (suc k) ts σ θ θ′ formed ss sv sv′ e n h l = go (state-at ts (r
         let whole : (ρ : Sol) → Solves ts ρ → ρ n ≡ con kd d (terms ρ cs) = λ ρ s. s n h .0 ∙ subst (Fits ρ (rep ts n)) q (s n h .1) in
         whole θ sv ∙ ap (con kd d) (inside cs (subst (ChildrenIn (length ts)) q (formed n h .2)) (omega (arith, ap term-size (whole σ ss))) ih) ∙ sym (whole θ′ sv′)
 
+-- The same, with no bound.
 pub unique : (ts : Types) (θ θ′ : Sol) → WellFormed ts → Readable ts → Solves ts θ → Solves ts θ′ → ((r : ℕ) → r < length ts → rep ts r ≡ r → state-at ts r ≡ unknown → θ r ≡ θ′ r) → (n : ℕ) → n < length ts → θ n ≡ θ′ n
 unique ts θ θ′ formed r sv sv′ e n h = unique-of (suc (term-size ((r .0) n))) ts (r .0) θ θ′ formed (r .1 .solves) sv sv′ e n h (le-refl _)
 
@@ -151,9 +154,11 @@ pub record Fuel (n N : ℕ) (θ : Sol) (sz : ℕ) : Type 0 where
   pub above : (r : ℕ) → T (marked ms r) → sz < term-size (θ r)
   pub left : N < n + count ms
 
+-- None cannot be enough.
 pub fuel-none : (N : ℕ) (θ : Sol) (sz : ℕ) → Fuel 0 N θ sz → ⊥
 fuel-none N θ sz f = omega (arith, count-le (f .ms), f .len, f .left)
 
+-- A step down to a smaller one takes one of it.
 pub fuel-step : (n N : ℕ) (θ : Sol) (sz sz′ x : ℕ) → x < N → term-size (θ x) ≡ sz → sz′ < sz → Fuel (suc n) N θ sz → Fuel n N θ sz′
 fuel-step n N θ sz sz′ x h e l f =
     record {
@@ -167,6 +172,7 @@ fuel-step n N θ sz sz′ x h e l f =
     go r (inl q) = subst (λ k. sz′ < term-size (θ k)) (sym q) (rw e l)
     go r (inr t) = omega (arith, f .above r t)
 
+-- What is enough for one is enough for a smaller one.
 pub fuel-less : (n N : ℕ) (θ : Sol) (sz sz′ : ℕ) → sz′ ≤ sz → Fuel n N θ sz → Fuel n N θ sz′
 fuel-less n N θ sz sz′ l f = record { ms = f .ms; len = f .len; above = λ r t. omega (arith, f .above r t); left = f .left }
 
