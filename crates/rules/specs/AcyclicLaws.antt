@@ -1,26 +1,26 @@
--- A table that passed 9 or 13 has a rank, computed from it, that falls from a node to its children; and it can be read as terms.
+-- A table that passed 9 or 13 has a rank, computed from it, that falls from a node to its children: no type reaches itself.
 use Prim.Native.Nat.{ℕ, zero, suc, _≤_, _<_, max}
 use mathlib.Core.Path.{_≡_, refl, sym, _∙_, ap, ap₂, subst}
-use mathlib.Core.Bool.{Bool, true, false, not}
+use mathlib.Core.Bool.{Bool, true, false}
 use mathlib.Core.List.{List, [], _∷_, map}
 use native.Mathlib.Nat.{le-trans, le-of-suc-le-suc, not-suc-le-zero, lt-irrefl, le-max-left, le-max-right}
 use native.Mathlib.Omega.{arith}
-use mathlib.Core.Logic.{_⊎_, inl, inr, ⊎-elim}
-use lib.Dec.{T, ltb, ltb→lt, nltb→le}
+use mathlib.Core.Logic.{⊎-elim}
+use lib.Dec.{T, ltb, ltb→lt}
 use lib.ListN.{length, getD, length-replicate}
 use Rattle.rules.specs.Lists.{Words, all}
 use Rattle.rules.specs.Types.{Ty, TypeState, unknown, known, TypeNode, Types, new-node, node-at, state-at}
 use Rattle.rules.specs.Acyclic.{children, above, heights, acyclic}
-use Rattle.rules.specs.Robinson.{var, con, cons, Sol, terms, rep, Fits, Free}
+pub use Rattle.rules.specs.Pigeonholes.{lt-or}
 
--- children of a node, by number
+-- The children of a node; child j of it.
 unfoldable pub children-at : Types → ℕ → List Ty
 children-at ts n = children (state-at ts n)
 
 unfoldable pub child : Types → ℕ → ℕ → ℕ
 child ts n j = (getD (children-at ts n) j (false, 0)) .1
 
--- the rank of a node: its height
+-- The rank of a node: its height, the length of the longest way down from it.
 unfoldable pub flat-rank : Types → ℕ → ℕ
 flat-rank ts n = getD (heights (length ts) ts) n 0
 
@@ -29,6 +29,7 @@ map-get f [] n a e = sym e
 map-get f (x ∷ l) zero a e = refl
 map-get f (x ∷ l) (suc n) a e = map-get f l n a e
 
+-- Lists: what is done to each leaves as many; what holds of all holds of the one at n; past the end stands the default.
 pub map-length : {A B : Type 0} (f : A → B) (l : List A) → length (map f l) ≡ length l
 map-length f [] = refl
 map-length f (x ∷ l) = ap suc (map-length f l)
@@ -43,6 +44,7 @@ all-at f (x ∷ l) n a t h = go (f x) refl n t h (λ m u k. all-at f l m a u k)
     go true e (suc m) u k ih = ih m (rw (e, all) at u) (le-of-suc-le-suc k)
     go false e m u k ih = absurd (rw (e, all) at u)
 
+-- Heights: one for each node; one more count asks the children.
 pub heights-length : (k : ℕ) (ts : Types) → length (heights k ts) ≡ length ts
 unfolding heights
 heights-length zero ts = length-replicate (length ts) 0
@@ -65,7 +67,7 @@ above-same hs us k same (c ∷ cs) h =
     ap₂ max (ap suc (same (c .1) (omega (arith, le-max-left (suc (getD hs (c .1) 0)) (above hs cs)))))
     (above-same hs us k same cs (omega (arith, le-max-right (suc (getD hs (c .1) 0)) (above hs cs))))
 
--- a height under the bound of the count is the height
+-- A height under the bound of the count is the height.
 height-stays : (k : ℕ) (ts : Types) (n : ℕ) → getD (heights k ts) n 0 < k → getD (heights (suc k) ts) n 0 ≡ getD (heights k ts) n 0
 height-stays zero ts n h = absurd (not-suc-le-zero h)
 height-stays (suc k) ts n h =
@@ -78,23 +80,18 @@ past-end [] n a h = refl
 past-end (x ∷ l) zero a h = absurd (not-suc-le-zero h)
 past-end (x ∷ l) (suc n) a h = past-end l n a (le-of-suc-le-suc h)
 
+-- What is no node has no children.
 pub no-children : (ts : Types) (n : ℕ) → length ts ≤ n → children-at ts n ≡ []
 unfolding children-at state-at node-at new-node children
 no-children ts n h = ap (λ (nd : TypeNode). children (nd .state)) (past-end ts n (new-node 0 unknown) h)
 
-pub lt-or : (m n : ℕ) → (m < n) ⊎ (n ≤ m)
-lt-or m n = go (ltb m n) refl
-  where
-    go : (b : Bool) → ltb m n ≡ b → (m < n) ⊎ (n ≤ m)
-    go true e = inl (ltb→lt m n (subst T (sym e) tt))
-    go false e = inr (nltb→le m n (subst (λ b. T (not b)) (sym e) tt))
-
 module _ (ts : Types) (e : T (acyclic ts)) where
+  -- Ranks are less than the count of nodes.
   pub flat-rank-below : (n : ℕ) → n < length ts → flat-rank ts n < length ts
   unfolding flat-rank acyclic
   flat-rank-below n h = ltb→lt _ (length ts) (all-at (λ k. ltb k (length ts)) (heights (length ts) ts) n 0 e (subst (λ m. n < m) (sym (heights-length (length ts) ts)) h))
 
-  -- the flat-rank falls range a node to its children
+  -- The rank falls from a node to its children,
   pub flat-rank-falls : (n j : ℕ) → j < length (children-at ts n) → flat-rank ts (child ts n j) < flat-rank ts n
   unfolding flat-rank child
   flat-rank-falls n j l = ⊎-elim inside outside (lt-or n (length ts))
@@ -109,7 +106,7 @@ module _ (ts : Types) (e : T (acyclic ts)) where
   unfolding flat-rank
   flat-rank-most n = ⊎-elim (λ h. omega (arith, flat-rank-below n h)) (λ h. omega (arith, past-end (heights (length ts) ts) n 0 (subst (λ m. m ≤ n) (sym (heights-length (length ts) ts)) h))) (lt-or n (length ts))
 
--- ways down a table
+-- Ways down a table from node x, of one or more steps, each from a node to one of its children: what node x reaches.
 pub data Down (ts : Types) (x : ℕ) : ℕ → Type 0 where
   one : (j : ℕ) → j < length (children-at ts x) → Down ts x (child ts x j)
   on : {y : ℕ} → Down ts x y → (j : ℕ) → j < length (children-at ts y) → Down ts x (child ts y j)
@@ -118,50 +115,12 @@ down-falls : (ts : Types) → T (acyclic ts) → (x y : ℕ) → Down ts x y →
 down-falls ts e x y (one j l) = flat-rank-falls ts e x j l
 down-falls ts e x y (on {y = z} d j l) = le-trans (flat-rank-falls ts e z j l) (omega (arith, down-falls ts e x z d))
 
--- no type reaches itself
+-- No type reaches itself.
 pub none-returns : (ts : Types) → T (acyclic ts) → (n : ℕ) → Down ts n n → ⊥
 none-returns ts e n d = lt-irrefl (flat-rank ts n) (down-falls ts e n n d)
 
--- a table read as terms over its unknowns, to k levels
-unfoldable pub flat-term : ℕ → Types → Sol
-flat-term zero ts n = var n
-flat-term (suc k) ts n = elim (state-at ts n) [ unknown ↦ var n | known i kd d cs ↦ con kd d (terms (flat-term k ts) cs) ]
-
-pub terms-same : (θ σ : Sol) (cs : List Ty) → ((j : ℕ) → j < length cs → θ ((getD cs j (false, 0)) .1) ≡ σ ((getD cs j (false, 0)) .1)) → terms θ cs ≡ terms σ cs
-unfolding terms
-terms-same θ σ [] h = refl
-terms-same θ σ (c ∷ cs) h = ap₂ cons (h 0 (omega arith)) (terms-same θ σ cs (λ j l. h (suc j) (omega arith)))
-
 module _ (ts : Types) (e : T (acyclic ts)) where
-  -- the same, where a node's state is known
+  -- the same where a node's state is known.
   pub child-low : (n : ℕ) (i : Bool) (kd d : ℕ) (cs : List Ty) → state-at ts n ≡ known i kd d cs → (j : ℕ) → j < length cs → flat-rank ts ((getD cs j (false, 0)) .1) < flat-rank ts n
   unfolding child children-at children
   child-low n i kd d cs q = subst (λ (st : TypeState). (j : ℕ) → j < length (children st) → flat-rank ts ((getD (children st) j (false, 0)) .1) < flat-rank ts n) q (flat-rank-falls ts e n)
-
-  term-same : (k m n : ℕ) → flat-rank ts n < k → flat-rank ts n < m → flat-term k ts n ≡ flat-term m ts n
-  unfolding flat-term
-  term-same zero m n h l = absurd (not-suc-le-zero h)
-  term-same (suc k) zero n h l = absurd (not-suc-le-zero l)
-  term-same (suc k) (suc m) n h l = go (state-at ts n) refl (λ i. term-same k m i)
-    where
-      go : (st : TypeState) → state-at ts n ≡ st → ((i : ℕ) → flat-rank ts i < k → flat-rank ts i < m → flat-term k ts i ≡ flat-term m ts i) → flat-term (suc k) ts n ≡ flat-term (suc m) ts n
-      go unknown q ih = rw (q, flat-term)
-      go (known i kd d cs) q ih = rw (q, flat-term) (ap (con kd d) (terms-same (flat-term k ts) (flat-term m ts) cs λ j b. ih _ (omega (arith, child-low n i kd d cs q j b)) (omega (arith, child-low n i kd d cs q j b))))
-
-  -- every node its own root, as in a table read range a slice: then the terms solve the table, and leave its unknowns free
-  pub terms-free : ((n : ℕ) → n < length ts → rep ts n ≡ n) → Free ts (flat-term (suc (length ts)) ts)
-  unfolding flat-term
-  terms-free flat = record { solves = λ n h. (ap (flat-term (suc (length ts)) ts) (sym (flat n h)), subst (λ r. Fits σ r (state-at ts r)) (sym (flat n h)) (check-nodes n)); vars = λ r h q u. free r u }
-    where
-      σ : Sol
-      σ = flat-term (suc (length ts)) ts
-
-      free : (r : ℕ) → state-at ts r ≡ unknown → σ r ≡ var r
-      free r u = rw (u, flat-term)
-
-      check-nodes : (n : ℕ) → Fits σ n (state-at ts n)
-      check-nodes n = go (state-at ts n) refl
-        where
-          go : (st : TypeState) → state-at ts n ≡ st → Fits σ n st
-          go unknown q = tt
-          go (known i kd d cs) q = rw (q, flat-term) (ap (con kd d) (terms-same (flat-term (length ts) ts) σ cs λ j b. term-same (length ts) (suc (length ts)) _ (omega (arith, child-low n i kd d cs q j b, flat-rank-most ts e n)) (omega (arith, child-low n i kd d cs q j b, flat-rank-most ts e n))))

@@ -1,35 +1,39 @@
--- What tables that passed 8 and 9 (12 and 13) promise, in the form in which Robinson's theorem wants it; and what a call that no check refused promises.
+-- The tables of a call that no check refused are well formed and acyclic, as Robinson's theorem wants them: the question's, and those of the sheet's generics and impls.
 use Prim.Native.Nat.{ℕ, zero, suc, _+_, _<_}
 use mathlib.Core.Path.{_≡_, refl, sym, _∙_, ap, subst}
 use mathlib.Core.Bool.{Bool, true, false, not}
 use mathlib.Core.List.{List, [], _∷_, map}
+use mathlib.Core.Logic.{_↔_}
 use mathlib.Core.Option.{none, Option·some-ne-none}
 use native.Mathlib.Nat.{le-of-suc-le-suc, not-suc-le-zero, zero-add, add-zero, add-suc, suc-add}
 use lib.Dec.{T, eqb, ltb, leb, ltb→lt}
 use lib.ListN.{length, getD}
 use Rattle.rules.specs.Lists.{Words, all, holds}
-use Rattle.rules.specs.Sheet.{at, chain, records, field, type-params, many}
+use Rattle.rules.specs.Layout.{header·edition, header·definitions, header·generics, header·impls, edition·1, generics·type-params, generics·table, impl·generics, impl·table, node·kind, node·children, question·table, kind·unknown}
+use Rattle.rules.specs.Sheet.{at, chain, records, field, type-params, generics-table, impl-table, many}
 use Rattle.rules.specs.Types.{Ty, TypeState, unknown, TypeNode, new-node, node-at, state-at}
 use Rattle.rules.specs.Transfer.{cell-types, node-state, new-nodes, table}
-use Rattle.rules.specs.Robinson.{rep, AllIn, ChildrenIn, WellFormed, Free, Readable}
+use Rattle.rules.specs.Solutions.{rep, AllIn, ChildrenIn, WellFormed, Readable}
 use Rattle.rules.specs.Search.{Finder}
 use Rattle.rules.specs.Chains.{sheet-keeps}
 use Rattle.rules.specs.Values.{is-id, in-table, node-fits, node-ok, table-ok, generics-ok, impl-ok, sheet-values, impl-question-values, flex-question-values}
 use Rattle.rules.specs.Acyclic.{acyclic, sheet-acyclic, question-acyclic}
 use Rattle.rules.specs.Check.{Checks, refusal, of-sheet, of-ids, of-impl-question, of-flex-question, impl-checks, flex-checks}
-use Rattle.rules.specs.AcyclicLaws.{all-at, map-length, flat-term, terms-free}
+use Rattle.rules.specs.AcyclicLaws.{Down, all-at, map-length}
+use Rattle.rules.specs.NoCycles.{acyclic-iff}
+use Rattle.rules.specs.Readings.{Acyclic, readable-ranked, flat-inside, flat-readable}
 use Rattle.rules.specs.CheckedSheet.{part, both, Valid, valid}
 
-freshAll-length : (i : ℕ) (sts : List TypeState) → length (new-nodes i sts) ≡ length sts
+new-nodes-length : (i : ℕ) (sts : List TypeState) → length (new-nodes i sts) ≡ length sts
 unfolding new-nodes
-freshAll-length i [] = refl
-freshAll-length i (st ∷ sts) = ap suc (freshAll-length (suc i) sts)
+new-nodes-length i [] = refl
+new-nodes-length i (st ∷ sts) = ap suc (new-nodes-length (suc i) sts)
 
-freshAll-get : (i : ℕ) (sts : List TypeState) (n : ℕ) → n < length sts → node-at (new-nodes i sts) n ≡ new-node (i + n) (getD sts n unknown)
+new-nodes-at : (i : ℕ) (sts : List TypeState) (n : ℕ) → n < length sts → node-at (new-nodes i sts) n ≡ new-node (i + n) (getD sts n unknown)
 unfolding new-nodes node-at
-freshAll-get i [] n h = absurd (not-suc-le-zero h)
-freshAll-get i (st ∷ sts) zero h = ap (λ k. new-node k st) (sym (add-zero i))
-freshAll-get i (st ∷ sts) (suc n) h = freshAll-get (suc i) sts n (le-of-suc-le-suc h) ∙ ap (λ k. new-node k (getD sts n unknown)) (suc-add i n ∙ sym (add-suc i n))
+new-nodes-at i [] n h = absurd (not-suc-le-zero h)
+new-nodes-at i (st ∷ sts) zero h = ap (λ k. new-node k st) (sym (add-zero i))
+new-nodes-at i (st ∷ sts) (suc n) h = new-nodes-at (suc i) sts n (le-of-suc-le-suc h) ∙ ap (λ k. new-node k (getD sts n unknown)) (suc-add i n ∙ sym (add-suc i n))
 
 map-at : (f : ℕ → TypeState) (l : Words) (n : ℕ) → n < length l → getD (map f l) n unknown ≡ f (getD l n 0)
 map-at f [] n h = absurd (not-suc-le-zero h)
@@ -48,14 +52,14 @@ all-in N (c ∷ cs) t = go (ltb (c .1) N) refl t (all-in N cs)
 module _ (w : Words) (h : ℕ) where
   pub table-length : length (table w h) ≡ length (chain w h)
   unfolding table
-  table-length = freshAll-length 0 (map (node-state w) (chain w h)) ∙ map-length (node-state w) (chain w h)
+  table-length = new-nodes-length 0 (map (node-state w) (chain w h)) ∙ map-length (node-state w) (chain w h)
 
-  -- node n of a table is the record n of its chain, its own root
+  -- Node n of a table is record n of its chain, and its own root.
   pub table-node : (n : ℕ) → n < length (table w h) → node-at (table w h) n ≡ new-node n (node-state w (at (chain w h) n))
   unfolding table
   table-node n l =
       let k = subst (λ m. n < m) table-length l in
-      freshAll-get 0 (map (node-state w) (chain w h)) n (subst (λ m. n < m) (sym (map-length (node-state w) (chain w h))) k)
+      new-nodes-at 0 (map (node-state w) (chain w h)) n (subst (λ m. n < m) (sym (map-length (node-state w) (chain w h))) k)
       ∙ ap (λ m. new-node m (getD (map (node-state w) (chain w h)) n unknown)) (zero-add n) ∙ ap (new-node n) (map-at (node-state w) (chain w h) n k)
 
   pub table-state : (n : ℕ) → n < length (table w h) → state-at (table w h) n ≡ node-state w (at (chain w h) n)
@@ -66,23 +70,27 @@ module _ (w : Words) (h : ℕ) where
   unfolding rep new-node
   table-flat n l = ap (λ (nd : TypeNode). nd .up .1) (table-node n l)
 
-  -- 8 or 12 passed: types are nodes of their table
+  -- 8 or 12 passed: the types of a table are nodes of it.
   pub table-formed : (s : Words) (params : ℕ) → T (table-ok s w params h) → WellFormed (table w h)
   unfolding table-ok node-ok node-fits node-state
   table-formed s params t n l = rw (table-flat n l) (l, table-flat n l, rw (table-state n l) (go (at (chain w h) n) (all-at (node-ok s w params (length (chain w h))) (chain w h) n 0 t (subst (λ m. n < m) table-length l))))
     where
       go : (p : ℕ) → T (node-ok s w params (length (chain w h)) p) → ChildrenIn (length (table w h)) (node-state w p)
-      go p u = at-kind (eqb (at w (p + 1)) 0) refl
+      go p u = at-kind (eqb (at w (p + node·kind)) kind·unknown) refl
         where
-          at-kind : (b : Bool) → eqb (at w (p + 1)) 0 ≡ b → ChildrenIn (length (table w h)) (node-state w p)
+          at-kind : (b : Bool) → eqb (at w (p + node·kind)) kind·unknown ≡ b → ChildrenIn (length (table w h)) (node-state w p)
           at-kind true e = rw (e, node-state) tt
-          at-kind false e = rw (e, node-state) (all-in _ _ (subst (λ m. T (in-table m (cell-types w (at w (p + 4))))) (sym table-length) (part _ u 6)))
+          at-kind false e = rw (e, node-state) (all-in _ _ (subst (λ m. T (in-table m (cell-types w (at w (p + node·children))))) (sym table-length) (part _ u 6)))
 
-  -- 9 or 13 passed: the table reads as terms over its unknowns
-  pub table-free : T (acyclic (table w h)) → Free (table w h) (flat-term (suc (length (table w h))) (table w h))
-  table-free e = terms-free (table w h) e table-flat
+  -- 9 and 13: a table that passed 8 (12) passes if and only if no type of it reaches itself.
+  pub table-acyclic-iff : (s : Words) (params : ℕ) → T (table-ok s w params h) → T (acyclic (table w h)) ↔ ((n : ℕ) → Down (table w h) n n → ⊥)
+  table-acyclic-iff s params t = acyclic-iff (table w h) (flat-inside (table w h) (table-formed s params t) table-flat)
 
--- no check refuses: each of its conditions fails
+  -- 8 and 9 (12 and 13) passed: the table reads as terms over its unknowns.
+  pub table-readable : WellFormed (table w h) → T (acyclic (table w h)) → Readable (table w h)
+  table-readable formed e = flat-readable (table w h) formed table-flat e
+
+-- No check refuses: the condition of each fails.
 pub unrefused : (cs : Checks) → refusal cs ≡ none → (n : ℕ) → T (not ((getD cs n (0, false)) .1))
 unfolding refusal
 unrefused [] e n = tt
@@ -97,29 +105,29 @@ pub not-not : (b : Bool) → T (not (not b)) → T b
 not-not true t = tt
 not-not false t = absurd t
 
--- what a call that passed 6 to 13 promises
+-- What a call that passed 6 to 13 promises.
 pub record Ready (a : Finder) (q : Words) : Type 0 where
-  pub edition : T (eqb (at (a .sheet) 0) 1)
+  pub edition : T (eqb (at (a .sheet) header·edition) edition·1)
   pub chains : T (sheet-keeps (a .sheet))
   pub values : Valid (a .sheet)
   pub end : T (sheet-acyclic (a .sheet))
-  pub source : a .source < many (a .sheet) 1
-  pub generics : a .generics < many (a .sheet) 2
-  pub typed : T (table-ok (a .sheet) q (type-params (a .sheet) (a .generics)) (at q 0))
-  pub asked : T (acyclic (table q (at q 0)))
+  pub source : a .source < many (a .sheet) header·definitions
+  pub generics : a .generics < many (a .sheet) header·generics
+  pub typed : T (table-ok (a .sheet) q (type-params (a .sheet) (a .generics)) (at q question·table))
+  pub asked : T (acyclic (table q (at q question·table)))
 
 pub impl-ready : (a : Finder) (basic : ℕ) (q : Words) → refusal (impl-checks a basic q) ≡ none → Ready a q
 unfolding impl-checks of-sheet of-ids of-impl-question impl-question-values question-acyclic is-id
 impl-ready a basic q e =
     let h = unrefused (impl-checks a basic q) e in
-    let i = part _ (not-not (holds (is-id (a .sheet) 1 (a .source) ∷ is-id (a .sheet) 2 (a .generics) ∷ leb basic 1 ∷ [])) (h 4)) in
+    let i = part _ (not-not (holds (is-id (a .sheet) header·definitions (a .source) ∷ is-id (a .sheet) header·generics (a .generics) ∷ leb basic 1 ∷ [])) (h 4)) in
     record {
-      edition = not-not (eqb (at (a .sheet) 0) 1) (h 0);
+      edition = not-not (eqb (at (a .sheet) header·edition) edition·1) (h 0);
       chains = not-not (sheet-keeps (a .sheet)) (h 1);
       values = valid (a .sheet) (not-not (sheet-values (a .sheet)) (h 2));
       end = not-not (sheet-acyclic (a .sheet)) (h 3);
-      source = ltb→lt (a .source) (many (a .sheet) 1) (i 0);
-      generics = ltb→lt (a .generics) (many (a .sheet) 2) (i 1);
+      source = ltb→lt (a .source) (many (a .sheet) header·definitions) (i 0);
+      generics = ltb→lt (a .generics) (many (a .sheet) header·generics) (i 1);
       typed = part _ (not-not (impl-question-values (a .sheet) (a .generics) q) (h 6)) 0;
       asked = not-not (question-acyclic q) (h 7);
     }
@@ -128,44 +136,72 @@ pub flex-ready : (a : Finder) (q : Words) → refusal (flex-checks a q) ≡ none
 unfolding flex-checks of-sheet of-ids of-flex-question flex-question-values question-acyclic is-id
 flex-ready a q e =
     let h = unrefused (flex-checks a q) e in
-    let i = part _ (not-not (holds (is-id (a .sheet) 1 (a .source) ∷ is-id (a .sheet) 2 (a .generics) ∷ leb 0 1 ∷ [])) (h 4)) in
+    let i = part _ (not-not (holds (is-id (a .sheet) header·definitions (a .source) ∷ is-id (a .sheet) header·generics (a .generics) ∷ leb 0 1 ∷ [])) (h 4)) in
     record {
-      edition = not-not (eqb (at (a .sheet) 0) 1) (h 0);
+      edition = not-not (eqb (at (a .sheet) header·edition) edition·1) (h 0);
       chains = not-not (sheet-keeps (a .sheet)) (h 1);
       values = valid (a .sheet) (not-not (sheet-values (a .sheet)) (h 2));
       end = not-not (sheet-acyclic (a .sheet)) (h 3);
-      source = ltb→lt (a .source) (many (a .sheet) 1) (i 0);
-      generics = ltb→lt (a .generics) (many (a .sheet) 2) (i 1);
+      source = ltb→lt (a .source) (many (a .sheet) header·definitions) (i 0);
+      generics = ltb→lt (a .generics) (many (a .sheet) header·generics) (i 1);
       typed = part _ (not-not (flex-question-values (a .sheet) (a .generics) q) (h 6)) 0;
       asked = not-not (question-acyclic q) (h 7);
     }
 
--- its tables: the question's, and those of each generics and each impl
+-- Its tables: the question's, and those of each generics and each impl.
 module _ (a : Finder) (q : Words) (r : Ready a q) where
-  pub question-formed : WellFormed (table q (at q 0))
-  question-formed = table-formed q (at q 0) (a .sheet) _ (r .typed)
+  pub question-formed : WellFormed (table q (at q question·table))
+  question-formed = table-formed q (at q question·table) (a .sheet) _ (r .typed)
 
-  pub question-free : Readable (table q (at q 0))
-  question-free = (_, table-free q (at q 0) (r .asked))
+  pub question-free : Readable (table q (at q question·table))
+  question-free = table-readable q (at q question·table) question-formed (r .asked)
 
-  abbrev tables-end : T (all (λ p. acyclic (table (a .sheet) (at (a .sheet) (p + 2)))) (records (a .sheet) 2)) × T (all (λ p. acyclic (table (a .sheet) (at (a .sheet) (p + 4)))) (records (a .sheet) 4))
+  -- 9 passed: the tables of all generics, and of all impls.
+  abbrev tables-end : T (all (λ p. acyclic (table (a .sheet) (at (a .sheet) (p + generics·table)))) (records (a .sheet) header·generics)) × T (all (λ p. acyclic (table (a .sheet) (at (a .sheet) (p + impl·table)))) (records (a .sheet) header·impls))
   unfolding sheet-acyclic
-  tables-end = both (all (λ p. acyclic (table (a .sheet) (at (a .sheet) (p + 2)))) (records (a .sheet) 2)) (all (λ p. acyclic (table (a .sheet) (at (a .sheet) (p + 4)))) (records (a .sheet) 4)) (r .end)
+  tables-end = both (all (λ p. acyclic (table (a .sheet) (at (a .sheet) (p + generics·table)))) (records (a .sheet) header·generics)) (all (λ p. acyclic (table (a .sheet) (at (a .sheet) (p + impl·table)))) (records (a .sheet) header·impls)) (r .end)
 
-  module _ (g : ℕ) (h : g < many (a .sheet) 2) where
-    pub generics-formed : WellFormed (table (a .sheet) (field (a .sheet) 2 g 2))
+  module _ (g : ℕ) (h : g < many (a .sheet) header·generics) where
+    pub generics-formed : WellFormed (table (a .sheet) (field (a .sheet) header·generics g generics·table))
     unfolding generics-ok field
-    generics-formed = table-formed (a .sheet) (field (a .sheet) 2 g 2) (a .sheet) (at (a .sheet) (at (records (a .sheet) 2) g + 1)) (part _ (r .values .generics g h) 1)
+    generics-formed = table-formed (a .sheet) (field (a .sheet) header·generics g generics·table) (a .sheet) (at (a .sheet) (at (records (a .sheet) header·generics) g + generics·type-params)) (part _ (r .values .generics g h) 1)
 
-    pub generics-free : Readable (table (a .sheet) (field (a .sheet) 2 g 2))
+    pub generics-free : Readable (table (a .sheet) (field (a .sheet) header·generics g generics·table))
     unfolding field many
-    generics-free = (_, table-free (a .sheet) (field (a .sheet) 2 g 2) (all-at (λ p. acyclic (table (a .sheet) (at (a .sheet) (p + 2)))) (records (a .sheet) 2) g 0 (tables-end .0) h))
+    generics-free = table-readable (a .sheet) (field (a .sheet) header·generics g generics·table) generics-formed (all-at (λ p. acyclic (table (a .sheet) (at (a .sheet) (p + generics·table)))) (records (a .sheet) header·generics) g 0 (tables-end .0) h)
 
-  module _ (i : ℕ) (h : i < many (a .sheet) 4) where
-    pub impl-formed : WellFormed (table (a .sheet) (field (a .sheet) 4 i 4))
+  module _ (i : ℕ) (h : i < many (a .sheet) header·impls) where
+    pub impl-formed : WellFormed (table (a .sheet) (field (a .sheet) header·impls i impl·table))
     unfolding impl-ok field
-    impl-formed = table-formed (a .sheet) (field (a .sheet) 4 i 4) (a .sheet) (type-params (a .sheet) (at (a .sheet) (at (records (a .sheet) 4) i + 1))) (part _ (r .values .impls i h) 2)
+    impl-formed = table-formed (a .sheet) (field (a .sheet) header·impls i impl·table) (a .sheet) (type-params (a .sheet) (at (a .sheet) (at (records (a .sheet) header·impls) i + impl·generics))) (part _ (r .values .impls i h) 2)
 
-    pub impl-free : Readable (table (a .sheet) (field (a .sheet) 4 i 4))
+    pub impl-free : Readable (table (a .sheet) (field (a .sheet) header·impls i impl·table))
     unfolding field many
-    impl-free = (_, table-free (a .sheet) (field (a .sheet) 4 i 4) (all-at (λ p. acyclic (table (a .sheet) (at (a .sheet) (p + 4)))) (records (a .sheet) 4) i 0 (tables-end .1) h))
+    impl-free = table-readable (a .sheet) (field (a .sheet) header·impls i impl·table) impl-formed (all-at (λ p. acyclic (table (a .sheet) (at (a .sheet) (p + impl·table)))) (records (a .sheet) header·impls) i 0 (tables-end .1) h)
+
+-- The tables of a call: each is well formed and acyclic.
+pub record CheckedTables (a : Finder) (q : Words) : Type 0 where
+  pub question-formed : WellFormed (table q (at q question·table))
+  pub question-acyclic : Acyclic (table q (at q question·table))
+  pub generics-formed : (g : ℕ) → g < many (a .sheet) header·generics → WellFormed (table (a .sheet) (generics-table (a .sheet) g))
+  pub generics-acyclic : (g : ℕ) → g < many (a .sheet) header·generics → Acyclic (table (a .sheet) (generics-table (a .sheet) g))
+  pub impl-formed : (i : ℕ) → i < many (a .sheet) header·impls → WellFormed (table (a .sheet) (impl-table (a .sheet) i))
+  pub impl-acyclic : (i : ℕ) → i < many (a .sheet) header·impls → Acyclic (table (a .sheet) (impl-table (a .sheet) i))
+
+checked-tables : (a : Finder) (q : Words) → Ready a q → CheckedTables a q
+unfolding generics-table impl-table
+checked-tables a q r = record {
+  question-formed = question-formed a q r;
+  question-acyclic = readable-ranked _ (question-formed a q r) (question-free a q r);
+  generics-formed = generics-formed a q r;
+  generics-acyclic = λ g h. readable-ranked _ (generics-formed a q r g h) (generics-free a q r g h);
+  impl-formed = impl-formed a q r;
+  impl-acyclic = λ i h. readable-ranked _ (impl-formed a q r i h) (impl-free a q r i h);
+}
+
+-- An impl call that no check refuses, and a flex call: all their tables are well formed and acyclic to start with.
+pub impl-tables : (a : Finder) (basic : ℕ) (q : Words) → refusal (impl-checks a basic q) ≡ none → CheckedTables a q
+impl-tables a basic q e = checked-tables a q (impl-ready a basic q e)
+
+pub flex-tables : (a : Finder) (q : Words) → refusal (flex-checks a q) ≡ none → CheckedTables a q
+flex-tables a q e = checked-tables a q (flex-ready a q e)

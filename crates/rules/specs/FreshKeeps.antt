@@ -1,17 +1,18 @@
--- Fresh unknowns for type parameters, behind a table: it stays as good as it was, and can be read as terms still.
-use Prim.Native.Nat.{ℕ, zero, suc, _+_, _<_}
+-- Fresh unknowns for type parameters, behind a table: it stays well formed, and can be read as terms still.
+use Prim.Native.Nat.{ℕ, zero, suc, _<_}
 use mathlib.Core.Path.{_≡_, refl, sym, _∙_, ap, subst}
-use mathlib.Core.List.{List, [], _∷_, _++_}
+use mathlib.Core.List.{[], _∷_, _++_}
 use mathlib.Core.Option.{none, some, Option·none-ne-some}
 use native.Mathlib.Nat.{not-suc-le-zero, add-zero, add-suc}
-use native.Mathlib.Omega.{arith}
 use lib.ListN.{length, replicate, length-append}
 use Rattle.rules.specs.Types.{Ty, TypeState, unknown, TypeNode, Types, new-node}
-use Rattle.rules.specs.Transfer.{new-nodes, Transfer, param-for}
-use Rattle.rules.specs.Robinson.{WellFormed, Readable}
-use Rattle.rules.specs.Readings.{Ranked}
-use Rattle.rules.specs.TransferKeeps.{Inv, begin, push, filled-formed, filled-readable}
+use Rattle.rules.specs.Transfer.{new-nodes, param-for}
+use Rattle.rules.specs.Solutions.{WellFormed, Readable}
+use Rattle.rules.specs.RootRank.{rank}
+use Rattle.rules.specs.Readings.{Ranked, Acyclic, readable-ranked, ranked-readable}
+use Rattle.rules.specs.TransferKeeps.{begin, push, filled-formed, filled-readable}
 
+-- A table in order: well formed, and it can be read as terms (Readings: it is acyclic).
 pub record Proper (ts : Types) : Type 0 where
   pub formed : WellFormed ts
   pub kept : Readable ts
@@ -24,6 +25,7 @@ module _ (dst : Types) where
   unfolding param-for
   no-params st u e = absurd (Option·none-ne-some u e)
 
+  -- One fresh unknown keeps a table in order,
   pub one-fresh : Proper dst → Proper (dst ++ (new-node (length dst) unknown ∷ []))
   one-fresh d =
       let p = push [] (λ n h. absurd (not-suc-le-zero h)) (λ n. 0) no-ranks (λ n h. absurd (not-suc-le-zero h)) none dst no-params ([], dst) (λ n. 0) 0 (begin [] (λ n h. absurd (not-suc-le-zero h)) (λ n. 0) no-ranks (λ n h. absurd (not-suc-le-zero h)) none dst no-params) in
@@ -36,6 +38,7 @@ snoc-append : (xs : Types) (y : TypeNode) (zs : Types) → (xs ++ (y ∷ [])) ++
 snoc-append [] y zs = refl
 snoc-append (x ∷ xs) y zs = ap (λ (l : Types). x ∷ l) (snoc-append xs y zs)
 
+-- and so do n of them.
 pub fresh-proper : (n : ℕ) (ts : Types) → Proper ts → Proper (ts ++ new-nodes (length ts) (replicate n unknown))
 unfolding new-nodes
 fresh-proper zero ts d = subst Proper (sym (end ts)) d
@@ -47,3 +50,7 @@ fresh-proper (suc n) ts d =
     let us : Types = ts ++ (new-node (length ts) unknown ∷ []) in
     let len : length us ≡ suc (length ts) = length-append ts (new-node (length ts) unknown ∷ []) ∙ add-suc (length ts) 0 ∙ ap suc (add-zero (length ts)) in
     subst Proper (ap (λ k. us ++ new-nodes k (replicate n unknown)) len ∙ snoc-append ts (new-node (length ts) unknown) (new-nodes (suc (length ts)) (replicate n unknown))) (fresh-proper n us (one-fresh ts d))
+
+-- The same, of acyclic tables.
+pub fresh-acyclic : (n : ℕ) (ts : Types) → WellFormed ts → Acyclic ts → WellFormed (ts ++ new-nodes (length ts) (replicate n unknown)) × Acyclic (ts ++ new-nodes (length ts) (replicate n unknown))
+fresh-acyclic n ts formed e = let p = fresh-proper n ts (record { formed = formed; kept = ranked-readable ts formed (rank ts) e }) in (p .formed, readable-ranked _ (p .formed) (p .kept))

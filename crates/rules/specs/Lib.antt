@@ -47,3 +47,12 @@ pub mod AncestorLaws
 pub mod Admission
 pub mod AdmissionLaws
 pub mod SheetFuel
+pub mod WalksEnd
+pub mod Pigeonholes
+pub mod Solutions
+pub mod Joining
+pub mod MostGeneral
+pub mod UnifierFound
+pub mod UnifyEnds
+pub mod UprightTables
+pub mod TypeFuel

@@ -1,4 +1,4 @@
--- 9 and 13 say what they say: a table ends if and only if no type reaches itself. And how code shows that one ends: by any rank that falls.
+-- 9 and 13 check what document 01 says: a table passes if and only if no type of it reaches itself. Code shows that one passes by any rank that falls.
 use Prim.Native.Nat.{ℕ, zero, suc, _≤_, _<_}
 use mathlib.Core.Path.{_≡_, refl, sym, _∙_, subst}
 use mathlib.Core.Bool.{Bool, true, false}
@@ -11,6 +11,7 @@ use lib.ListN.{length, getD, replicate, length-replicate, getD-replicate}
 use Rattle.rules.specs.Lists.{Words, all, any}
 use Rattle.rules.specs.Reach.{Marks, marked, grow, closure}
 use Rattle.rules.specs.ReachLaws.{count, count-le, From, here, then, closure-paths, grow-length, grow-from, grow-new, rounds-length}
+use Rattle.rules.specs.Pigeonholes.{none-marked}
 use Rattle.rules.specs.Sheet.{at}
 use Rattle.rules.specs.Types.{Ty, Types}
 use Rattle.rules.specs.Acyclic.{above, heights, acyclic}
@@ -39,12 +40,12 @@ module _ (ts : Types) (r : ℕ → ℕ) (falls : (n j : ℕ) → j < length (chi
   height-le zero n = subst (λ m. m ≤ r n) (sym (zeros (length ts) n)) (omega arith)
   height-le (suc k) n = subst (λ m. m ≤ r n) (sym (height-step k ts n)) (above-le (heights k ts) (children-at ts n) (r n) (λ j l. omega (arith, height-le k ((getD (children-at ts n) j (false, 0)) .1), falls n j l)))
 
-  -- a flat-rank that falls range each node to its children, and is less than the count of nodes
+  -- A table is acyclic if any rank falls from each node to its children, and is less than the count of nodes.
   pub acyclic-by-rank : ((n : ℕ) → n < length ts → r n < length ts) → T (acyclic ts)
   unfolding acyclic
   acyclic-by-rank low = all-intro (λ h. ltb h (length ts)) (heights (length ts) ts) (λ n l. lt→ltb _ (length ts) (omega (arith, height-le (length ts) n, low n (subst (λ m. n < m) (heights-length (length ts) ts) l))))
 
--- one count of marks under another
+-- One count of marks under another.
 count-miss : (ms : Marks) (n : ℕ) → n < length ms → (T (marked ms n) → ⊥) → count ms < length ms
 unfolding count
 count-miss [] n h f = absurd (not-suc-le-zero h)
@@ -73,12 +74,7 @@ count-more (false ∷ ms) (true ∷ us) e h c t f = omega (arith, count-up ms us
 count-more (false ∷ ms) (false ∷ us) e h zero t f = absurd t
 count-more (false ∷ ms) (false ∷ us) e h (suc c) t f = count-more ms us (omega arith) (λ y. h (suc y)) c t f
 
-none-marked : (N y : ℕ) → T (marked (replicate N false) y) → ⊥
-none-marked zero y t = t
-none-marked (suc N) zero t = t
-none-marked (suc N) (suc y) t = none-marked N y t
-
--- a node leads to a node
+-- A node leads to a node.
 unfoldable leads : Types → ℕ → ℕ → Bool
 leads ts x y = any (λ c. eqb (c .1) y) (children-at ts x)
 
@@ -113,7 +109,7 @@ module _ (ts : Types) (inside : (n j : ℕ) → j < length (children-at ts n) �
   unfolding R leads child
   bound y z t = let k = any-kid (children-at ts y) z t in subst (λ m. m < length ts) (k .2) (inside y (k .0) (k .1))
 
-  -- what node n leads to, and what that reaches
+  -- What node n leads to, and what that reaches.
   starts : ℕ → Marks
   starts n = grow (R n) 0 (replicate (length ts) false)
 
@@ -140,7 +136,7 @@ module _ (ts : Types) (inside : (n j : ℕ) → j < length (children-at ts n) �
   unfolding starts
   leads-start n y t = grow-new (R n) 0 (replicate (length ts) false) y (subst (λ m. y < m) (sym (length-replicate {A = Bool} (length ts) false)) (bound n y t)) (subst (λ m. T (R n m)) (sym (zero-add y)) t)
 
-  -- paths are ways down
+  -- Paths are ways down.
   step : (x y : ℕ) → T (R x y) → (j : ℕ) × (j < length (children-at ts x)) × (child ts x j ≡ y)
   unfolding R leads child
   step x y t = any-kid (children-at ts x) y t
@@ -154,6 +150,7 @@ module _ (ts : Types) (inside : (n j : ℕ) → j < length (children-at ts n) �
   onward n c z l (then {y} p t) = then (onward n c y l p) t
 
   module _ (none : (n : ℕ) → Down ts n n → ⊥) where
+    -- Where no type reaches itself, how many each reaches is a rank.
     pub acyclic-if-none : T (acyclic ts)
     unfolding R leads child
     acyclic-if-none = acyclic-by-rank ts (λ n. count (reached n))
@@ -164,6 +161,6 @@ module _ (ts : Types) (inside : (n j : ℕ) → j < length (children-at ts n) �
         ((paths n c) .1 (here (leads-start n c r))) (λ t. none c (down c c ((paths c c) .0 t))))
         (λ n l. subst (λ m. count (reached n) < m) (reached-length n) (count-miss (reached n) n (subst (λ m. n < m) (sym (reached-length n)) l) (λ t. none n (down n n ((paths n n) .0 t)))))
 
-  -- 9: a table acyclic if and only if no type reaches itself
+  -- 9 and 13: a table whose children are nodes of it passes if and only if no type reaches itself.
   pub acyclic-iff : T (acyclic ts) ↔ ((n : ℕ) → Down ts n n → ⊥)
   acyclic-iff = (none-returns ts, acyclic-if-none)

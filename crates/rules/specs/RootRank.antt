@@ -9,15 +9,16 @@ use native.Mathlib.Omega.{arith}
 use lib.Dec.{T}
 use lib.ListN.{length, getD}
 use Rattle.rules.specs.Types.{Ty, TypeState, unknown, known, TypeNode, Types, new-node, node-at, state-at}
-use Rattle.rules.specs.Robinson.{con, Sol, term-size, terms, rep, Fits, Solves, AllIn, ChildrenIn, WellFormed}
+use Rattle.rules.specs.Solutions.{con, Sol, term-size, terms, rep, Fits, Solves, AllIn, ChildrenIn, WellFormed}
 use Rattle.rules.specs.Acyclic.{children, acyclic}
 use Rattle.rules.specs.AcyclicLaws.{children-at, child, flat-rank, map-length, lt-or, no-children, Down, one, on, flat-rank-falls}
 use Rattle.rules.specs.NoCycles.{acyclic-if-none}
 
--- every node with what its root is
+-- The table in which every node is what its root is: there a way down leads from a type to the children of its root.
 unfoldable pub rooted : Types → Types
 rooted ts = map (λ nd. record { up = nd .up; state = state-at ts (nd .up .1); size = nd .size }) ts
 
+-- The rank of a node: how long the longest such way down from it is, counted up to the length of the table.
 unfoldable pub rank : Types → ℕ → ℕ
 rank ts n = flat-rank (rooted ts) n
 
@@ -26,6 +27,7 @@ node-map f [] n d h = absurd (not-suc-le-zero h)
 node-map f (x ∷ l) zero d h = refl
 node-map f (x ∷ l) (suc n) d h = node-map f l n d (le-of-suc-le-suc h)
 
+-- It has as many nodes, with the children of their roots.
 pub rooted-length : (ts : Types) → length (rooted ts) ≡ length ts
 unfolding rooted
 rooted-length ts = map-length _ ts
@@ -40,6 +42,7 @@ child-size θ [] j h = absurd (not-suc-le-zero h)
 child-size θ (c ∷ cs) zero h = omega arith
 child-size θ (c ∷ cs) (suc j) h = omega (arith, child-size θ cs j (le-of-suc-le-suc h))
 
+-- One of some types that are nodes is a node.
 pub child-in : (N : ℕ) (cs : List Ty) (j : ℕ) → AllIn N cs → j < length cs → (getD cs j (false, 0)) .1 < N
 child-in N [] j a h = absurd (not-suc-le-zero h)
 child-in N (c ∷ cs) zero a h = a .0
@@ -53,7 +56,8 @@ module _ (ts : Types) (formed : WellFormed ts) where
     here : n < length ts
     here = has-kids n j l
 
-    inside : child (rooted ts) n j < length (rooted ts)
+    -- What a node leads to is a node, and smaller in every solution.
+    pub inside : child (rooted ts) n j < length (rooted ts)
     unfolding child children
     inside = subst (λ m. child (rooted ts) n j < m) (sym (rooted-length ts)) (go (state-at ts (rep ts n)) (rooted-children ts n here) (formed n here .2))
       where
@@ -76,13 +80,17 @@ module _ (ts : Types) (formed : WellFormed ts) where
   down-size θ sv x y (one j l) = smaller x j l θ sv
   down-size θ sv x y (on {y = z} d j l) = omega (arith, smaller z j l θ sv, down-size θ sv x z d)
 
-  -- a table with a solution acyclic
+  -- No type reaches itself in a table that has a solution.
   pub solved-acyclic : (θ : Sol) → Solves ts θ → T (acyclic (rooted ts))
   solved-acyclic θ sv = acyclic-if-none (rooted ts) inside (λ n d. lt-irrefl _ (down-size θ sv n n d))
 
-  -- the measure of an occurs walk: it falls range a type to the children of its root
-  pub rank-falls : (θ : Sol) → Solves ts θ → (n : ℕ) → n < length ts → (i : Bool) (kd d : ℕ) (cs : List Ty) → state-at ts (rep ts n) ≡ known i kd d cs → (j : ℕ) → j < length cs → rank ts ((getD cs j (false, 0)) .1) < rank ts n
+  -- The measure of an occurs walk: it falls from a type to the children of its root, where no type reaches itself,
+  pub rooted-falls : T (acyclic (rooted ts)) → (n : ℕ) → n < length ts → (i : Bool) (kd d : ℕ) (cs : List Ty) → state-at ts (rep ts n) ≡ known i kd d cs → (j : ℕ) → j < length cs → rank ts ((getD cs j (false, 0)) .1) < rank ts n
   unfolding rank child children
-  rank-falls θ sv n h i kd d cs q j l =
+  rooted-falls e n h i kd d cs q j l =
       let same : children-at (rooted ts) n ≡ cs = rooted-children ts n h ∙ ap children q in
-      subst (λ (cs′ : List Ty). flat-rank (rooted ts) ((getD cs′ j (false, 0)) .1) < flat-rank (rooted ts) n) same (flat-rank-falls (rooted ts) (solved-acyclic θ sv) n j (subst (λ (cs′ : List Ty). j < length cs′) (sym same) l))
+      subst (λ (cs′ : List Ty). flat-rank (rooted ts) ((getD cs′ j (false, 0)) .1) < flat-rank (rooted ts) n) same (flat-rank-falls (rooted ts) e n j (subst (λ (cs′ : List Ty). j < length cs′) (sym same) l))
+
+  -- and so where there is a solution.
+  pub rank-falls : (θ : Sol) → Solves ts θ → (n : ℕ) → n < length ts → (i : Bool) (kd d : ℕ) (cs : List Ty) → state-at ts (rep ts n) ≡ known i kd d cs → (j : ℕ) → j < length cs → rank ts ((getD cs j (false, 0)) .1) < rank ts n
+  rank-falls θ sv = rooted-falls (solved-acyclic θ sv)

@@ -1,4 +1,4 @@
--- Moving types from a table that ends into one that ends leaves one that ends: import and export keep tables acyclic, and their fuel is never used up.
+-- Moving types from an acyclic table into an acyclic one leaves an acyclic one: `import` and `export` keep tables in order.
 use Prim.Native.Nat.{ℕ, zero, suc, _+_, _≤_, _<_}
 use mathlib.Core.Path.{_≡_, refl, sym, _∙_, ap, subst}
 use mathlib.Core.Bool.{Bool, true, false, true≢false}
@@ -13,12 +13,12 @@ use lib.ListN.{length, getD, set, length-append, length-set, List·getD-append}
 use lib.Seq.{getD-at, getD-set-same, getD-set-other}
 use Rattle.rules.specs.Types.{Ty, TypeState, unknown, known, TypeNode, Types, new-node, node-at, state-at, xor, invert-if, find}
 use Rattle.rules.specs.Transfer.{Transfer, mapped, param-for, transfer-each, transfer-in, transfer-types, import-types}
-use Rattle.rules.specs.Robinson.{rep, AllIn, ChildrenIn, WellFormed, Readable, eqb-true, eqb-false}
+use Rattle.rules.specs.Solutions.{rep, AllIn, ChildrenIn, WellFormed, Readable, eqb-true, eqb-false}
 use Rattle.rules.specs.AcyclicLaws.{lt-or}
 use Rattle.rules.specs.RootRank.{rank, child-in}
-use Rattle.rules.specs.Readings.{Ranked, readable-ranked, readable-most, rank-root, ranked-readable}
+use Rattle.rules.specs.Readings.{Ranked, Acyclic, readable-ranked, readable-most, rank-root, ranked-readable}
 
--- one place of a function changed
+-- One place of a function changed.
 unfoldable pub put : (ℕ → ℕ) → ℕ → ℕ → ℕ → ℕ
 put f n v k = elim (eqb k n) [ true ↦ v | false ↦ f k ]
 
@@ -58,18 +58,19 @@ unknown≢ : (i : Bool) (kd d : ℕ) (cs : List Ty) → unknown ≡ known i kd d
 unfolding isKnown
 unknown≢ i kd d cs e = true≢false (sym (ap isKnown e))
 
--- ρ ranks the source; L nodes stand in dst before
+-- ρ ranks the source; the nodes of dst stand there before.
 module _ (src : Types) (gs : WellFormed src) (ρ : ℕ → ℕ) (ranked : Ranked src ρ) (even : (n : ℕ) → n < length src → ρ n ≡ ρ (rep src n)) (ps : Option (List Ty)) (dst : Types) (low : (st : TypeState) (u : Ty) → param-for ps st ≡ some u → u .1 < length dst) where
-  -- where a type went: to an old node, or to a new one that stands for root r (ξ: which root of the source each new node stands for)
+  -- Where a type went: to an old node, or to a new one that stands for root r (ξ: which root of the source each new node stands for).
   pub record At (ξ : ℕ → ℕ) (len r : ℕ) (t : Ty) : Type 0 where
     pub in′ : t .1 < len
     pub by : (t .1 < length dst) ⊎ ((length dst ≤ t .1) × (ξ (t .1) ≡ r))
 
-  -- a child: old, or new and of lower flat-rank than b
+  -- A child: old, or new and of lower rank than b.
   pub record Low (ξ : ℕ → ℕ) (len b : ℕ) (t : Ty) : Type 0 where
     pub in′ : t .1 < len
     pub by : (t .1 < length dst) ⊎ ((length dst ≤ t .1) × (ρ (ξ (t .1)) < b))
 
+  -- What holds all along: old nodes are as they were; what went somewhere is there; new nodes are their own roots, and their children are of lower rank.
   pub record Inv (m : Transfer) (ξ : ℕ → ℕ) : Type 0 where
     pub long : length dst ≤ length (m .1)
     pub old : (n : ℕ) → n < length dst → node-at (m .1) n ≡ node-at dst n
@@ -77,6 +78,7 @@ module _ (src : Types) (gs : WellFormed src) (ρ : ℕ → ℕ) (ranked : Ranked
     pub flat : (n : ℕ) → length dst ≤ n → n < length (m .1) → rep (m .1) n ≡ n
     pub children : (n : ℕ) → length dst ≤ n → n < length (m .1) → (i : Bool) (kd d : ℕ) (cs : List Ty) → state-at (m .1) n ≡ known i kd d cs → (j : ℕ) → j < length cs → Low ξ (length (m .1)) (ρ (ξ n)) (getD cs j (false, 0))
 
+  -- It holds still, of no fewer nodes.
   pub record More (m : Transfer) (ξ : ℕ → ℕ) (m′ : Transfer) (ξ′ : ℕ → ℕ) : Type 0 where
     pub inv : Inv m′ ξ′
     pub with-first : length (m .1) ≤ length (m′ .1)
@@ -94,7 +96,7 @@ module _ (src : Types) (gs : WellFormed src) (ρ : ℕ → ℕ) (ranked : Ranked
   more-trans : (m m′ m″ : Transfer) (ξ ξ′ ξ″ : ℕ → ℕ) → More m ξ m′ ξ′ → More m′ ξ′ m″ ξ″ → More m ξ m″ ξ″
   more-trans m m′ m″ ξ ξ′ ξ″ p q = record { inv = q .inv; with-first = le-trans (p .with-first) (q .with-first); agree = λ n h. q .agree n (le-trans h (p .with-first)) ∙ p .agree n h }
 
-  -- a new node for root r, unknown as yet
+  -- A new node for root r, unknown as yet.
   abbrev pushed : Transfer → ℕ → Transfer
   pushed m r = ((r, (false, length (m .1))) ∷ m .0, m .1 ++ (new-node (length (m .1)) unknown ∷ []))
 
@@ -133,7 +135,7 @@ module _ (src : Types) (gs : WellFormed src) (ρ : ℕ → ℕ) (ranked : Ranked
           (low-up ξ (put ξ (length (m .1)) r) (length (m .1)) _ (ρ (ξ k)) _ (omega (arith, len)) same (v .children k l q i kd d cs (sym (ap (λ (nd : TypeNode). nd .state) (snoc-off (m .1) (new-node (length (m .1)) unknown) k q)) ∙ e) j b)))
           (eq-or-lt-of-le (let z : k ≤ length (m .1) = omega (arith, len) in z))
 
-  -- the new node n, once its children have gone
+  -- The new node n, once its children have gone.
   fill : (m : Transfer) (ξ : ℕ → ℕ) (n : ℕ) → length dst ≤ n → n < length (m .1) → (i : Bool) (kd d : ℕ) (qs : List Ty) → ((j : ℕ) → j < length qs → Low ξ (length (m .1)) (ρ (ξ n)) (getD qs j (false, 0))) → Inv m ξ → Inv (m .0, set (m .1) n (new-node n (known i kd d qs))) ξ
   unfolding rep state-at new-node
   fill m ξ n l h i kd d qs lows v = record {
@@ -160,6 +162,7 @@ module _ (src : Types) (gs : WellFormed src) (ρ : ℕ → ℕ) (ranked : Ranked
           subst (λ (x : List Ty). Low ξ (length (m .1)) (ρ (ξ k)) (getD x j (false, 0))) same (subst (λ x. Low ξ (length (m .1)) (ρ (ξ x)) (getD qs j (false, 0))) (sym q) (lows j (subst (λ (x : List Ty). j < length x) (sym same) c)))
       kids′ k a b i′ kd′ d′ cs e j c (no q) = v .children k a b i′ kd′ d′ cs (sym (ap (λ (x : TypeNode). x .state) (set-off (m .1) n k (new-node n (known i kd d qs)) q)) ∙ e) j c
 
+  -- A type that has gone over, and a list of them.
   pub record Arrives (m : Transfer) (ξ : ℕ → ℕ) (r : ℕ) (res : Ty × Transfer) : Type 0 where
     pub by : ℕ → ℕ
     pub grown : More m ξ (res .1) by
@@ -235,6 +238,7 @@ module _ (src : Types) (gs : WellFormed src) (ρ : ℕ → ℕ) (ranked : Ranked
       go none e none f unknown q ih = rw (e, f, q, transfer-in) (record { by = put ξ (length (m .1)) (rep src (t .1)); grown = p; at = record { in′ = omega (arith, long₁); by = inr (v .long, put-at ξ (length (m .1)) (rep src (t .1))) } })
       go none e none f (known i kd d cs) q ih = rw (e, f, q, transfer-in) (filled i kd d cs q ih _ (all-arrive k (λ c w. transfer-in k src ps c w) ih cs (λ j b. (child-in (length src) cs j (subst (ChildrenIn (length src)) q (gs (t .1) ht .2)) b, omega (arith, ranked .falls (t .1) ht i kd d cs q j b))) (pushed m (rep src (t .1))) (put ξ (length (m .1)) (rep src (t .1))) (p .inv)))
 
+  -- It holds before anything has gone.
   pub begin : Inv ([], dst) (λ n. 0)
   unfolding mapped
   begin = record {
@@ -245,7 +249,7 @@ module _ (src : Types) (gs : WellFormed src) (ρ : ℕ → ℕ) (ranked : Ranked
     children = λ n l h. absurd (omega arith);
   }
 
-  -- what a filled table is: as formed as dst was
+  -- What a filled table is: as well formed as dst was, and as acyclic.
   module _ (gd : WellFormed dst) (kd : Readable dst) (m : Transfer) (ξ : ℕ → ℕ) (v : Inv m ξ) where
     rep-old : (n : ℕ) → n < length dst → rep (m .1) n ≡ rep dst n
     unfolding rep
@@ -287,7 +291,7 @@ module _ (src : Types) (gs : WellFormed src) (ρ : ℕ → ℕ) (ranked : Ranked
             let e = v .flat n l h in
             (subst (λ x. x < length (m .1)) (sym e) h, ap (rep (m .1)) e, subst (λ x. ChildrenIn (length (m .1)) (state-at (m .1) x)) (sym e) (new-kids n l h (state-at (m .1) n) refl))
 
-    -- old nodes keep their flat-rank, new ones stand above them
+    -- Old nodes keep their rank, new ones stand above them.
     unfoldable rankNow : ℕ → ℕ
     rankNow n = elim (ltb n (length dst)) [ true ↦ rank dst n | false ↦ suc (length dst) + ρ (ξ n) ]
 
@@ -327,7 +331,7 @@ module _ (src : Types) (gs : WellFormed src) (ρ : ℕ → ℕ) (ranked : Ranked
                 (λ c. omega (arith, now-new ((getD cs j (false, 0)) .1) (c .0), now-new n l, c .1))
                 (w .by)
 
--- `import` of types from a table into another: both read as terms, and so does the table that it leaves
+-- `import` of types into a table: its nodes stay, what came stands behind them, and it is well formed and can be read as terms still.
 pub record Imported (src : Types) (dst : Types) (ts : List Ty) (res : List Ty × Types) : Type 0 where
   pub with-first : length dst ≤ length (res .1)
   pub old : (n : ℕ) → n < length dst → node-at (res .1) n ≡ node-at dst n
@@ -336,6 +340,7 @@ pub record Imported (src : Types) (dst : Types) (ts : List Ty) (res : List Ty ×
   pub len : length (res .0) ≡ length ts
   pub inside : (j : ℕ) → j < length ts → (getD (res .0) j (false, 0)) .1 < length (res .1)
 
+-- Where both tables are so, the import leaves one that is.
 pub imports : (src : Types) → WellFormed src → Readable src → (ps : Option (List Ty)) (dst : Types) → WellFormed dst → Readable dst → ((st : TypeState) (u : Ty) → param-for ps st ≡ some u → u .1 < length dst) → (ts : List Ty) → ((j : ℕ) → j < length ts → (getD ts j (false, 0)) .1 < length src) → Imported src dst ts (import-types src ps ts dst)
 unfolding import-types transfer-types
 imports src gs ks ps dst gd kd low ts h = record {
@@ -355,3 +360,7 @@ imports src gs ks ps dst gd kd low ts h = record {
 
     a : ArriveAll src gs (rank src) ranked even ps dst low ([], dst) (λ n. 0) ts (transfer-each (transfer-in (suc (length src)) src ps) ts ([], dst))
     a = all-arrive src gs (rank src) ranked even ps dst low (suc (length src)) (transfer-in (suc (length src)) src ps) (move-right src gs (rank src) ranked even ps dst low (suc (length src))) ts (λ j l. (h j l, omega (arith, readable-most src gs ks ((getD ts j (false, 0)) .1)))) ([], dst) (λ n. 0) (begin src gs (rank src) ranked even ps dst low)
+
+-- The same from and into acyclic tables: an import leaves the table acyclic.
+pub imports-acyclic : (src : Types) → WellFormed src → Acyclic src → (ps : Option (List Ty)) (dst : Types) → WellFormed dst → Acyclic dst → ((st : TypeState) (u : Ty) → param-for ps st ≡ some u → u .1 < length dst) → (ts : List Ty) → ((j : ℕ) → j < length ts → (getD ts j (false, 0)) .1 < length src) → WellFormed ((import-types src ps ts dst) .1) × Acyclic ((import-types src ps ts dst) .1)
+imports-acyclic src gs es ps dst gd ed low ts h = let i = imports src gs (ranked-readable src gs (rank src) es) ps dst gd (ranked-readable dst gd (rank dst) ed) low ts h in (i .formed, readable-ranked _ (i .formed) (i .kept))
