@@ -30,3 +30,7 @@ pub mod Readings
 pub mod TransferKeeps
 pub mod FreshKeeps
 pub mod Limit
+pub mod Carried
+pub mod TransferCount
+pub mod Yields
+pub mod Slim
