@@ -34,3 +34,4 @@ pub mod Carried
 pub mod TransferCount
 pub mod Yields
 pub mod Slim
+pub mod Neat

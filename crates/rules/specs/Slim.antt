@@ -12,7 +12,7 @@ use Rattle.rules.specs.Lists.{Words, all}
 use Rattle.rules.specs.Layout.{node·kind, node·id, kind·unknown, kind·param}
 use Rattle.rules.specs.Sheet.{at, chain, kinds, kind-row, row·most, row·length}
 use Rattle.rules.specs.Types.{Ty, TypeState, unknown, known, TypeNode, Types, new-node, node-at, xor, invert-state, state-at, size-at, relabel, or-else, hang, join}
-use Rattle.rules.specs.Transfer.{Transfer, param-for, transfer-types, node-state, new-nodes, table}
+use Rattle.rules.specs.Transfer.{Transfer, param-for, transfer-types, import-types, node-state, new-nodes, table}
 use Rattle.rules.specs.Values.{id-bound, node-fits, node-ok, table-ok}
 use Rattle.rules.specs.Acyclic.{children}
 use Rattle.rules.specs.Robinson.{AllIn, WellFormed}
@@ -74,11 +74,15 @@ slim-join ts a b h = go (ltb (size-at ts (b .1)) (size-at ts (a .1))) refl
     go false e = rw (e, join) (slim-hang ts a b h)
 
 -- Transfer.
-pub slim-transfer : (src : Types) → WellFormed src → Slim src → (ps : Option (List Ty)) (ts : List Ty) (m : Transfer) → AllIn (length src) ts → Slim (m .1) → Slim ((transfer-types src ps ts m) .1 .1)
+slim-transfer : (src : Types) → WellFormed src → Slim src → (ps : Option (List Ty)) (ts : List Ty) (m : Transfer) → AllIn (length src) ts → Slim (m .1) → Slim ((transfer-types src ps ts m) .1 .1)
 unfolding Slim new-node
 slim-transfer src formed slim ps = transfer-carries src formed ps (λ (m : Transfer). Slim (m .1))
     (λ m r l e h. every-append SlimNode (m .1) (new-node (length (m .1)) unknown ∷ []) h (tt, tt))
     (λ m n r i kd d cs qs e l h. every-set SlimNode (m .1) n (new-node n (known i kd d qs)) h (omega (arith, l, subst SlimState e (slim-at src slim r))))
+
+pub slim-import : (src : Types) → WellFormed src → Slim src → (ps : Option (List Ty)) (ts : List Ty) (dst : Types) → AllIn (length src) ts → Slim dst → Slim ((import-types src ps ts dst) .1)
+unfolding import-types
+slim-import src formed slim ps ts dst a h = slim-transfer src formed slim ps ts ([], dst) a h
 
 -- Tables of new nodes, by what their states are.
 every-new : (P : TypeState → Type 0) (i : ℕ) (sts : List TypeState) → Every P sts → Every (λ (nd : TypeNode). P (nd .state)) (new-nodes i sts)
