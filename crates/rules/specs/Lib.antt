@@ -35,3 +35,4 @@ pub mod TransferCount
 pub mod Yields
 pub mod Slim
 pub mod Neat
+pub mod SearchKeeps

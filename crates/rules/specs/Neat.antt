@@ -60,7 +60,7 @@ unfolding concat-map
 in-row n [] h = tt
 in-row n (q ∷ qs) h = in-append n (q .1) (row qs) (h .0) (in-row n qs (h .1))
 
-from-row : (n : ℕ) (qs : List ImplType) → AllIn n (row qs) → QueriesIn n qs
+pub from-row : (n : ℕ) (qs : List ImplType) → AllIn n (row qs) → QueriesIn n qs
 unfolding concat-map
 from-row n [] h = tt
 from-row n (q ∷ qs) h = let r = in-first n (q .1) (row qs) h in (r .0, from-row n qs (r .1))

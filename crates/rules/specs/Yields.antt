@@ -78,6 +78,11 @@ yields-bind P Q (done a) f h k = k a h
 yields-bind P Q (stop n) f h k = tt
 yields-bind P Q (asks r) f h k = yields-bind P Q r f h k
 
+pub yields-any : {A : Type 0} (r : Run A) → Yields (λ (a : A). Unit {0}) r
+yields-any (done a) = tt
+yields-any (stop n) = tt
+yields-any (asks r) = yields-any r
+
 -- It is read so with no step limit and with any.
 pub yields-free : {A : Type 0} (P : A → Type 0) (r : Run A) → Yields P r → Comes P (free r)
 unfolding free
