@@ -36,3 +36,4 @@ pub mod Yields
 pub mod Slim
 pub mod Neat
 pub mod SearchKeeps
+pub mod SubQuestions

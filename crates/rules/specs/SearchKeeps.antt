@@ -102,51 +102,55 @@ subimpls-keep ask keeps ts (q ∷ qs) n h =
     λ us l. every-map (Kept (r .0)) (Kept ts) (λ (u : Result). (u .0, before (r .1) (u .1))) (λ u w. record { neat = w .neat; grown = le-trans (m .grown) (w .grown) }) us l)
     rs [] k tt
 
+-- The tables of one candidate: how many fresh unknowns it takes, its signature's import behind them, the join with the question, and the import of its impl parameters.
+abbrev pub fresh-count : Words → ℕ → ℕ
+fresh-count s i = type-params s (impl-generics s i)
+
+abbrev pub signed : Words → Types → ℕ → ImplType × Types
+signed s ts i = import-impl-type ((impl-signature s i) .0) (some (fresh-params ts (fresh-count s i))) ((impl-signature s i) .1) (with-fresh ts (fresh-count s i))
+
+abbrev pub met : Words → Types → ImplType → ℕ → Unified
+met s ts q i = unify-impl-type s ((signed s ts i) .1) ((signed s ts i) .0) q
+
+abbrev pub needs : Words → Types → ImplType → ℕ → List ImplType × Types
+needs s ts q i = import-impl-types ((impl-params s (impl-generics s i)) .0) (some (fresh-params ts (fresh-count s i))) ((impl-params s (impl-generics s i)) .1) ((met s ts q i) .1)
+
 -- For a call that passed 6 to 13: a question, of a neat table and with types of it.
 module _ (a : Finder) (w₀ : Words) (ready : Ready a w₀) (ts : Types) (q : ImplType) (neat : Neat ts) (inside : AllIn (length ts) (q .1)) where
-  -- One candidate: the table after its signature's import, after the join, and after the import of its impl parameters.
+  -- One candidate.
   module _ (i : ℕ) (h : i < many (a .sheet) header·impls) where
     abbrev g : ℕ
     g = impl-generics (a .sheet) i
 
     abbrev n : ℕ
-    n = type-params (a .sheet) (impl-generics (a .sheet) i)
+    n = fresh-count (a .sheet) i
 
-    abbrev signed : ImplType × Types
-    signed = import-impl-type ((impl-signature (a .sheet) i) .0) (some (fresh-params ts n)) ((impl-signature (a .sheet) i) .1) (with-fresh ts n)
-
-    abbrev met : Unified
-    met = unify-impl-type (a .sheet) (signed .1) (signed .0) q
-
-    abbrev needs : List ImplType × Types
-    needs = import-impl-types ((impl-params (a .sheet) g) .0) (some (fresh-params ts n)) ((impl-params (a .sheet) g) .1) (met .1)
-
-    pub signature-brought : Brought (with-fresh ts n) (signed .0 .1) (signed .1)
+    pub signature-brought : Brought (with-fresh ts n) ((signed (a .sheet) ts i) .0 .1) ((signed (a .sheet) ts i) .1)
     signature-brought = query-under ((impl-signature (a .sheet) i) .0) (signature-neat a w₀ ready i h) ts n (signature-plain a w₀ ready i h) (with-fresh ts n) (fresh-neat ts n neat) (omega (arith, fresh-length ts n)) ((impl-signature (a .sheet) i) .1) (signature-in a w₀ ready i h)
 
-    pub signature-met : Neat (met .1) × (length (met .1) ≡ length (signed .1))
-    signature-met = unify-query-neat (a .sheet) (signed .1) (signed .0) q (signature-brought .neat) (signature-brought .inside) (in-more (length ts) (length (signed .1)) (omega (arith, fresh-length ts n, signature-brought .grown)) (q .1) inside)
+    pub signature-met : Neat ((met (a .sheet) ts q i) .1) × (length ((met (a .sheet) ts q i) .1) ≡ length ((signed (a .sheet) ts i) .1))
+    signature-met = unify-query-neat (a .sheet) ((signed (a .sheet) ts i) .1) ((signed (a .sheet) ts i) .0) q (signature-brought .neat) (signature-brought .inside) (in-more (length ts) (length ((signed (a .sheet) ts i) .1)) (omega (arith, fresh-length ts n, signature-brought .grown)) (q .1) inside)
 
-    pub needs-brought : Brought (met .1) (row (needs .0)) (needs .1)
-    needs-brought = queries-under ((impl-params (a .sheet) g) .0) (impl-params-neat a w₀ ready g (impl-generics-in a w₀ ready i h)) ts n (impl-params-plain a w₀ ready g (impl-generics-in a w₀ ready i h)) (met .1) (signature-met .0) (omega (arith, fresh-length ts n, signature-brought .grown, signature-met .1)) ((impl-params (a .sheet) g) .1) (impl-params-in a w₀ ready g (impl-generics-in a w₀ ready i h))
+    pub needs-brought : Brought ((met (a .sheet) ts q i) .1) (row ((needs (a .sheet) ts q i) .0)) ((needs (a .sheet) ts q i) .1)
+    needs-brought = queries-under ((impl-params (a .sheet) g) .0) (impl-params-neat a w₀ ready g (impl-generics-in a w₀ ready i h)) ts n (impl-params-plain a w₀ ready g (impl-generics-in a w₀ ready i h)) ((met (a .sheet) ts q i) .1) (signature-met .0) (omega (arith, fresh-length ts n, signature-brought .grown, signature-met .1)) ((impl-params (a .sheet) g) .1) (impl-params-in a w₀ ready g (impl-generics-in a w₀ ready i h))
 
-    needs-grown : length ts ≤ length (needs .1)
+    needs-grown : length ts ≤ length ((needs (a .sheet) ts q i) .1)
     needs-grown = omega (arith, fresh-length ts n, signature-brought .grown, signature-met .1, needs-brought .grown)
 
     pub candidate-keeps : (ask : Types → ImplType → Run (List Result)) → Asks ask → Yields (AllKept ts) (try-candidate ask (a .sheet) ts q i)
     unfolding try-candidate
-    candidate-keeps ask keeps = go (met .0) refl
+    candidate-keeps ask keeps = go ((met (a .sheet) ts q i) .0) refl
       where
-        go : (v : UnifyResult) → met .0 ≡ v → Yields (AllKept ts) (try-candidate ask (a .sheet) ts q i)
-        go failure e = rw (e, try-candidate) (nodes-keep (AllKept ts) (signed .1) _ tt)
-        go indeterminate e = rw (e, try-candidate) (nodes-keep (AllKept ts) (signed .1) _ tt)
+        go : (v : UnifyResult) → (met (a .sheet) ts q i) .0 ≡ v → Yields (AllKept ts) (try-candidate ask (a .sheet) ts q i)
+        go failure e = rw (e, try-candidate) (nodes-keep (AllKept ts) ((signed (a .sheet) ts i) .1) _ tt)
+        go indeterminate e = rw (e, try-candidate) (nodes-keep (AllKept ts) ((signed (a .sheet) ts i) .1) _ tt)
         go success e =
             rw (e, try-candidate)
-            (nodes-keep (AllKept ts) (signed .1) _
-            (nodes-keep (AllKept ts) (needs .1) _
-            (yields-bind (AllKept (needs .1)) (AllKept ts) (find-subimpls ask (needs .1) (needs .0)) _
-            (subimpls-keep ask keeps (needs .1) (needs .0) (needs-brought .neat) (from-row (length (needs .1)) (needs .0) (needs-brought .inside)))
-            (λ rs k. every-map (Kept (needs .1)) (Kept ts) (λ (r : Result). (r .0, tree tree·def i (r .1) end)) (λ r m. record { neat = m .neat; grown = le-trans needs-grown (m .grown) }) rs k))))
+            (nodes-keep (AllKept ts) ((signed (a .sheet) ts i) .1) _
+            (nodes-keep (AllKept ts) ((needs (a .sheet) ts q i) .1) _
+            (yields-bind (AllKept ((needs (a .sheet) ts q i) .1)) (AllKept ts) (find-subimpls ask ((needs (a .sheet) ts q i) .1) ((needs (a .sheet) ts q i) .0)) _
+            (subimpls-keep ask keeps ((needs (a .sheet) ts q i) .1) ((needs (a .sheet) ts q i) .0) (needs-brought .neat) (from-row (length ((needs (a .sheet) ts q i) .1)) ((needs (a .sheet) ts q i) .0) (needs-brought .inside)))
+            (λ rs k. every-map (Kept ((needs (a .sheet) ts q i) .1)) (Kept ts) (λ (r : Result). (r .0, tree tree·def i (r .1) end)) (λ r m. record { neat = m .neat; grown = le-trans needs-grown (m .grown) }) rs k))))
 
   -- The impl parameters of the caller's generics.
   params-keep : (n : ℕ) (ps : List ImplType) (fs : List Result) → QueriesIn (length ((impl-params (a .sheet) (a .generics)) .0)) ps → AllKept ts fs → Yields (AllKept ts) (from-impl-params a ts q n ps fs)

@@ -1,6 +1,6 @@
 -- What holds of every element of a list, of whatever a run comes to, and of what a call hands back.
 use Prim.Native.Nat.{ℕ, zero, suc, _<_}
-use mathlib.Core.Path.{_≡_, refl, sym, subst}
+use mathlib.Core.Path.{_≡_, refl, sym, ap, subst}
 use mathlib.Core.Bool.{Bool, true, false}
 use mathlib.Core.List.{List, [], _∷_, _++_, map}
 use native.Mathlib.Omega.{arith}
@@ -77,6 +77,13 @@ unfolding _>>=_
 yields-bind P Q (done a) f h k = k a h
 yields-bind P Q (stop n) f h k = tt
 yields-bind P Q (asks r) f h k = yields-bind P Q r f h k
+
+-- Two ways to go on that agree on all that a run can come to.
+pub bind-same : {A B : Type 0} (P : A → Type 0) (r : Run A) (f g : A → Run B) → Yields P r → ((a : A) → P a → f a ≡ g a) → (r >>= f) ≡ (r >>= g)
+unfolding _>>=_
+bind-same P (done a) f g h k = k a h
+bind-same P (stop n) f g h k = refl
+bind-same P (asks r) f g h k = ap asks (bind-same P r f g h k)
 
 pub yields-any : {A : Type 0} (r : Run A) → Yields (λ (a : A). Unit {0}) r
 yields-any (done a) = tt
