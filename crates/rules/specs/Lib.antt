@@ -37,3 +37,5 @@ pub mod Slim
 pub mod Neat
 pub mod SearchKeeps
 pub mod SubQuestions
+pub mod CallKeeps
+pub mod AnswerSize

@@ -207,7 +207,7 @@ module _ (src : Types) (ns : Neat src) (ts : Types) (n : ℕ) (plain : n ≡ 0 �
       (λ h. queries-brought src ns (some (fresh-params ts n)) dst nd (fresh-low h) qs a)
       (zero-or-more n)
 
-in-checked : (n : ℕ) (xs : List Ty) → T (in-table n xs) → AllIn n xs
+pub in-checked : (n : ℕ) (xs : List Ty) → T (in-table n xs) → AllIn n xs
 in-checked n xs t = go xs (every-all (λ (t : Ty). ltb (t .1) n) xs t)
   where
     go : (xs : List Ty) → Every (λ (t : Ty). T (ltb (t .1) n)) xs → AllIn n xs
