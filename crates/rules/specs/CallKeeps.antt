@@ -23,7 +23,7 @@ use Rattle.rules.specs.Robinson.{AllIn, flip-in}
 use Rattle.rules.specs.CheckedSheet.{part}
 use Rattle.rules.specs.CheckedTables.{table-length, unrefused, not-not, Ready, impl-ready, flex-ready}
 use Rattle.rules.specs.Yields.{Every, every-at, Yields, Comes}
-use Rattle.rules.specs.Neat.{Neat, in-more, in-checked, Brought, low-none, types-brought, query-brought, types-exported, query-exported, unify-neat, unify-query-neat, question-neat}
+use Rattle.rules.specs.Neat.{Neat, in-more, in-append, in-checked, Brought, low-none, types-brought, query-brought, types-exported, query-exported, unify-neat, unify-query-neat, question-neat}
 use Rattle.rules.specs.SearchKeeps.{Kept, AllKept, question-keeps}
 
 -- A table after a join: neat, and as long.
@@ -95,6 +95,13 @@ module _ {C : Type 0} (P : List Result → Type 0) (nothing : P []) (read : Run 
   in-turn-comes [] h c = tt
   in-turn-comes (r ∷ rs) h c = onward-comes (λ d. in-turn read rs d) (in-turn-comes rs (h .1)) (read r c) (reads r c (h .0))
 
+-- Types that may be absent, joined where both are there.
+first-joined : (s : Words) (ts : Types) (xs ys : List Ty) → Neat ts → AllIn (length ts) xs → AllIn (length ts) ys → Joined ts ((unify-first s ts xs ys) .1)
+unfolding unify-first
+first-joined s ts [] ys n h k = record { neat = n; len = refl }
+first-joined s ts (x ∷ xs) [] n h k = record { neat = n; len = refl }
+first-joined s ts (x ∷ xs) (y ∷ ys) n h k = let u = unify-neat s ts x y n (h .0) (k .0) in record { neat = u .0; len = u .1 }
+
 -- The flex call.
 module _ (a : Finder) (q : Words) (passed : refusal (flex-checks a q) ≡ none) where
   flex-ready′ : Ready a q
@@ -126,15 +133,37 @@ module _ (a : Finder) (q : Words) (passed : refusal (flex-checks a q) ≡ none) 
       each : (h : ℕ) (inv : Bool) → Yields (AllKept (exported .1)) (question limit·depth a false (exported .1) (at (a .sheet) h, map (invert-if inv) (exported .0)))
       each h inv = question-keeps a q flex-ready′ limit·depth false (exported .1) (at (a .sheet) h, map (invert-if inv) (exported .0)) (exported-neat .neat) (flip-in inv (length (exported .1)) (exported .0) (exported-neat .inside))
 
-  -- The last import of a question's results, into a neat table,
-  pub result-brought : (fs : List Result) (ts : Types) → AllKept (exported .1) fs → Neat ts → Brought ts ((import-result fs (exported .0) ts) .0) ((import-result fs (exported .0) ts) .1)
+  -- The last import of a question's results.
+  result-brought : (fs : List Result) (ts : Types) → AllKept (exported .1) fs → Neat ts → Brought ts ((import-result fs (exported .0) ts) .0) ((import-result fs (exported .0) ts) .1)
   unfolding import-result
   result-brought [] ts h n = record { neat = n; grown = le-refl (length ts); inside = tt }
   result-brought (f ∷ fs) ts h n = types-brought (f .0) (h .0 .neat) none ts n (low-none ts) (exported .0) (in-more (length (exported .1)) (length (f .0)) (h .0 .grown) (exported .0) (exported-neat .inside))
 
--- and the closing joins.
-pub first-joined : (s : Words) (ts : Types) (xs ys : List Ty) → Neat ts → AllIn (length ts) xs → AllIn (length ts) ys → Joined ts ((unify-first s ts xs ys) .1)
-unfolding unify-first
-first-joined s ts [] ys n h k = record { neat = n; len = refl }
-first-joined s ts (x ∷ xs) [] n h k = record { neat = n; len = refl }
-first-joined s ts (x ∷ xs) (y ∷ ys) n h k = let u = unify-neat s ts x y n (h .0) (k .0) in record { neat = u .0; len = u .1 }
+  -- The last import of a fork and a drop result, where there are any, their join, and the closing join.
+  module _ (fork drop : List Result) (f : AllKept (exported .1) fork) (d : AllKept (exported .1) drop) where
+    abbrev forked : List Ty × Types
+    forked = import-result fork (exported .0) (question-types q)
+
+    abbrev dropped : List Ty × Types
+    dropped = import-result drop (exported .0) (forked .1)
+
+    abbrev joined : Unified
+    joined = unify-first (a .sheet) (dropped .1) (forked .0) (dropped .0)
+
+    pub fork-brought : Brought (question-types q) (forked .0) (forked .1)
+    fork-brought = result-brought fork (question-types q) f flex-caller-neat
+
+    pub drop-brought : Brought (forked .1) (dropped .0) (dropped .1)
+    drop-brought = result-brought drop (forked .1) d (fork-brought .neat)
+
+    forked-in : AllIn (length (dropped .1)) (forked .0)
+    forked-in = in-more (length (forked .1)) (length (dropped .1)) (drop-brought .grown) (forked .0) (fork-brought .inside)
+
+    pub flex-joined : Joined (dropped .1) (joined .1)
+    flex-joined = first-joined (a .sheet) (dropped .1) (forked .0) (dropped .0) (drop-brought .neat) forked-in (drop-brought .inside)
+
+    pub flex-closed : Joined (joined .1) ((unify-first (a .sheet) (joined .1) (asked-type ∷ []) (forked .0 ++ dropped .0)) .1)
+    flex-closed =
+        first-joined (a .sheet) (joined .1) (asked-type ∷ []) (forked .0 ++ dropped .0) (flex-joined .neat)
+        (omega (arith, flex-joined .len, drop-brought .grown, fork-brought .grown, type-in), tt)
+        (subst (λ k. AllIn k (forked .0 ++ dropped .0)) (sym (flex-joined .len)) (in-append (length (dropped .1)) (forked .0) (dropped .0) forked-in (drop-brought .inside)))

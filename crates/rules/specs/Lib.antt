@@ -38,4 +38,5 @@ pub mod Neat
 pub mod SearchKeeps
 pub mod SubQuestions
 pub mod CallKeeps
+pub mod ResultLimits
 pub mod AnswerSize

@@ -47,7 +47,7 @@ in-from : (n : ℕ) (xs : List Ty) → ((j : ℕ) → j < length xs → (getD xs
 in-from n [] f = tt
 in-from n (x ∷ xs) f = (f 0 (omega arith), in-from n xs (λ j l. f (suc j) (omega arith)))
 
-in-append : (n : ℕ) (xs ys : List Ty) → AllIn n xs → AllIn n ys → AllIn n (xs ++ ys)
+pub in-append : (n : ℕ) (xs ys : List Ty) → AllIn n xs → AllIn n ys → AllIn n (xs ++ ys)
 in-append n [] ys a b = b
 in-append n (x ∷ xs) ys a b = (a .0, in-append n xs ys (a .1) b)
 

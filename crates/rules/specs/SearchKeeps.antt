@@ -43,7 +43,7 @@ module _ (P : Result → Type 0) where
       yields-bind (Every P) (Every P) (f b) (λ gs. add-results fs gs >>= λ hs. collect f bs hs) (each b (h .0)) λ gs m.
       yields-bind (Every P) (Every P) (add-results fs gs) (λ hs. collect f bs hs) (add-keeps fs gs k m) λ hs n. collect-keeps Q f each bs hs (h .1) n
 
-nodes-keep : {B : Type 0} (P : B → Type 0) (ts : Types) (r : Run B) → Yields P r → Yields P (check-nodes ts r)
+pub nodes-keep : {B : Type 0} (P : B → Type 0) (ts : Types) (r : Run B) → Yields P r → Yields P (check-nodes ts r)
 unfolding check-nodes
 nodes-keep P ts r h = go (ltb limit·nodes (length ts)) refl
   where

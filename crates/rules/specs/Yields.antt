@@ -78,6 +78,11 @@ yields-bind P Q (done a) f h k = k a h
 yields-bind P Q (stop n) f h k = tt
 yields-bind P Q (asks r) f h k = yields-bind P Q r f h k
 
+pub yields-both : {A : Type 0} (P Q : A → Type 0) (r : Run A) → Yields P r → Yields Q r → Yields (λ (a : A). P a × Q a) r
+yields-both P Q (done a) h k = (h, k)
+yields-both P Q (stop n) h k = tt
+yields-both P Q (asks r) h k = yields-both P Q r h k
+
 -- Two ways to go on that agree on all that a run can come to.
 pub bind-same : {A B : Type 0} (P : A → Type 0) (r : Run A) (f g : A → Run B) → Yields P r → ((a : A) → P a → f a ≡ g a) → (r >>= f) ≡ (r >>= g)
 unfolding _>>=_
