@@ -1,34 +1,35 @@
 -- An answer has at most 10,240 words, so that entry check 3 is enough for every answer.
-use Prim.Native.Nat.{ℕ, zero, suc, _+_, _*_, _≤_, _<_}
-use mathlib.Core.Path.{_≡_, refl, sym, _∙_, ap, subst}
+-- Six words, two trees of at most 256 records of 4 words (17), at most 256 nodes of 5 words and 8 cells of 2 (14, 8 and 12), and a type word for each node asked: 6 + 2,048 + 5,376 + 256 = 7,686.
+use Prim.Native.Nat.{ℕ, zero, suc, _+_, _*_, _≤_}
+use mathlib.Core.Path.{_≡_, refl, sym, ap, subst}
 use mathlib.Core.Bool.{Bool, true, false, not, _&&_, _||_}
 use mathlib.Core.List.{List, [], _∷_, _++_, map}
 use mathlib.Core.Option.{Option, none, some, Option·some-ne-none}
 use native.Mathlib.Nat.{le-refl, le-trans}
 use native.Mathlib.Omega.{arith}
-use lib.Dec.{T, eqb, ltb, ltb→lt, nltb→le}
+use lib.Dec.{T, eqb, ltb, nltb→le}
 use lib.ListN.{length, getD, length-append}
-use Rattle.rules.specs.Lists.{Words, any, range, bit}
-use Rattle.rules.specs.Limits.{limit·answer, limit·nodes, limit·results, limit·tree-nodes, limit·depth}
-use Rattle.rules.specs.Layout.{header·fork, header·drop, question·type, answer·length, tree·length, node·length, cell·length, tree·param}
+use Rattle.rules.specs.Lists.{Words, any, range}
+use Rattle.rules.specs.Limits.{limit·answer, limit·nodes, limit·tree-nodes, limit·depth}
+use Rattle.rules.specs.Layout.{header·fork, header·drop, question·type, answer·length, tree·length, node·length, cell·length}
 use Rattle.rules.specs.Sheet.{at}
-use Rattle.rules.specs.Types.{Ty, TypeState, unknown, known, TypeNode, Types, UnifyResult, success, failure, indeterminate, Unified, ImplType, invert-if, self-inverse, unify-impl-type, approx-eq}
+use Rattle.rules.specs.Types.{Ty, TypeState, unknown, known, Types, UnifyResult, success, failure, indeterminate, Unified, ImplType, invert-if, self-inverse, unify-impl-type}
 use Rattle.rules.specs.Transfer.{transfer-in, transfer-types, import-types, import-impl-type, export-types, export-impl-type, type-of-word}
-use Rattle.rules.specs.Run.{Run, done, stop, asks, Out, got, refused, _>>=_, free, within}
-use Rattle.rules.specs.Search.{Finder, Trees, end, tree, tree-size, leaf, Result, add-results, collect, check-nodes, impl-params, find-auto-impls, from-impl-params, find-impl-candidates, try-candidate, before-candidates, question}
-use Rattle.rules.specs.Answer.{pack-trees, tree-head, word-of-type, pack-cells, head-or-zero, pack-nodes, answer}
+use Rattle.rules.specs.Run.{Out, got, refused, free, within}
+use Rattle.rules.specs.Search.{Finder, Trees, end, tree, tree-size, Result, question}
+use Rattle.rules.specs.Answer.{pack-trees, word-of-type, pack-cells, pack-nodes, answer}
 use Rattle.rules.specs.Check.{Checks, refusal, of-length, entry, impl-checks, flex-checks}
 use Rattle.rules.specs.Calls.{question-types, impl-query, impl-search, impl-outcome, impl-free, impl-within, in-turn, flex-searches, first-tree, is-found, import-result, unify-first, flex-results, flex-outcome, unset, plainly, flex-free, flex-within, free-find-impl, free-find-flex, try-find-impl, find-flex}
 use Rattle.rules.specs.AcyclicLaws.{map-length}
 use Rattle.rules.specs.CheckedTables.{unrefused}
-use Rattle.rules.specs.Yields.{Every, every-append, every-at, Yields, yields-both, yields-free, yields-within, Comes, came}
+use Rattle.rules.specs.Yields.{Every, every-at, Yields, yields-both, yields-free, yields-within, Comes, came}
 use Rattle.rules.specs.Carried.{each-length}
 use Rattle.rules.specs.TransferCount.{export-most}
 use Rattle.rules.specs.Slim.{Slim, SlimState, most-children}
-use Rattle.rules.specs.Neat.{Neat, Brought, range-in, types-exported}
-use Rattle.rules.specs.SearchKeeps.{Kept, AllKept}
+use Rattle.rules.specs.Neat.{Neat, Brought, Joined, range-in, types-exported}
+use Rattle.rules.specs.SearchKeeps.{AllKept}
 use Rattle.rules.specs.ResultLimits.{Few, few-none, question-few}
-use Rattle.rules.specs.CallKeeps.{Joined, impl-search-keeps, impl-last, impl-closed, in-turn-comes, flex-searches-keep, fork-brought, drop-brought, flex-joined, flex-closed}
+use Rattle.rules.specs.CallKeeps.{impl-search-keeps, impl-last, impl-closed, in-turn-comes, flex-searches-keep, fork-brought, drop-brought, flex-joined, flex-closed}
 
 -- Words of trees, cells and nodes.
 trees-words : (p : ℕ) (t : Trees) → length (pack-trees p t) ≡ tree·length * tree-size t
@@ -79,7 +80,8 @@ answer-words t u inv self n ts neat h l ht hu =
     let drops = pack-trees (answer·length + length forks) u in
     let p = answer·length + length forks + length drops in
     let nodes = pack-nodes p (w .1) in
-    omega (arith,
+    omega (
+      arith,
       length-append (forks ++ drops ++ nodes) (map word-of-type (w .0)),
       length-append (forks ++ drops) nodes,
       length-append forks drops,
@@ -90,7 +92,8 @@ answer-words t u inv self n ts neat h l ht hu =
       map-length word-of-type (w .0),
       exported-length ts row,
       map-length {B = Ty} (λ k. (false, k)) (range 0 n),
-      range-length 0 n)
+      range-length 0 n,
+    )
 
 small-end : tree-size end ≤ limit·tree-nodes
 unfolding tree-size
@@ -266,7 +269,7 @@ module _ (a : Finder) (q : Words) (passed : refusal (flex-checks a q) ≡ none) 
       go (some n) e = rw (e, flex-within) tt
       go none e = rw (e, flex-within) (outcome-sized _ ((in-turn (within over) (flex-searches a q) c) .0) (in-turn-comes FlexFound (tt, few-none) (within over) (λ r d h. yields-within FlexFound over r d h) (flex-searches a q) flex-found c))
 
--- An answer of the search without a step limit has at most 10,240 words, whatever the call.
+-- An answer of the search without a step limit has at most 10,240 words, whatever the call: of impl,
 pub free-impl-answer : (a : Finder) (basic : ℕ) (q ws : Words) → free-find-impl a basic q ≡ got ws → length ws ≤ limit·answer
 unfolding free-find-impl
 free-impl-answer a basic q ws = came Sized (free-find-impl a basic q) ws (go (refusal (impl-checks a basic q)) refl)
@@ -275,6 +278,7 @@ free-impl-answer a basic q ws = came Sized (free-find-impl a basic q) ws (go (re
     go (some n) e = rw (e, free-find-impl) tt
     go none e = rw (e, free-find-impl) (impl-free-sized a basic q e (eqb basic 1))
 
+-- and of flex.
 pub free-flex-answer : (a : Finder) (q ws : Words) → free-find-flex a q ≡ got ws → length ws ≤ limit·answer
 unfolding free-find-flex
 free-flex-answer a q ws = came Sized (free-find-flex a q) ws (go (refusal (flex-checks a q)) refl)
@@ -293,7 +297,6 @@ refusal-rest (x ∷ xs) ys e = go (x .1) refl e (refusal-rest xs ys)
     go true q f ih = absurd (Option·some-ne-none (x .0) (rw (q, refusal) at f))
     go false q f ih = rw (q, refusal) (ih (rw (q, refusal) at f))
 
--- The whole calls: an answer fits into every answer buffer that entry check 3 lets pass.
 buffer-holds : (s q : Words) (answer work c : ℕ) → refusal (entry s q answer work c) ≡ none → limit·answer ≤ answer
 unfolding entry of-length
 buffer-holds s q answer work c e = nltb→le answer limit·answer (unrefused (entry s q answer work c) e 2)
@@ -302,6 +305,7 @@ fitting : (answer : ℕ) → limit·answer ≤ answer → (o : Out Words) → Co
 fitting answer h (got ws) k = (k, le-trans k h)
 fitting answer h (refused n) k = tt
 
+-- The whole calls, under any step limit: an answer has at most 10,240 words, and fits into every answer buffer that entry check 3 lets pass. Of impl,
 pub impl-answer : (L : ℕ) (a : Finder) (basic : ℕ) (q : Words) (answer work c : ℕ) (ws : Words) → (try-find-impl L a basic q answer work c) .0 ≡ got ws → (length ws ≤ limit·answer) × (length ws ≤ answer)
 unfolding try-find-impl
 impl-answer L a basic q answer work c ws = came (λ (ws : Words). (length ws ≤ limit·answer) × (length ws ≤ answer)) ((try-find-impl L a basic q answer work c) .0) ws (go (refusal (entry (a .sheet) q answer work c ++ impl-checks a basic q)) refl)
@@ -312,6 +316,7 @@ impl-answer L a basic q answer work c ws = came (λ (ws : Words). (length ws ≤
         let p = refusal-rest (entry (a .sheet) q answer work c) (impl-checks a basic q) e in
         rw (e, try-find-impl) (fitting answer (buffer-holds (a .sheet) q answer work c (p .0)) ((impl-within (ltb L) a (eqb basic 1) q c) .0) (impl-within-sized a basic q (p .1) (ltb L) (eqb basic 1) c))
 
+-- and of flex.
 pub flex-answer : (L : ℕ) (a : Finder) (q : Words) (answer work c : ℕ) (ws : Words) → (find-flex L a q answer work c) .0 ≡ got ws → (length ws ≤ limit·answer) × (length ws ≤ answer)
 unfolding find-flex
 flex-answer L a q answer work c ws = came (λ (ws : Words). (length ws ≤ limit·answer) × (length ws ≤ answer)) ((find-flex L a q answer work c) .0) ws (go (refusal (entry (a .sheet) q answer work c ++ flex-checks a q)) refl)

@@ -1,19 +1,19 @@
 -- Tables stay neat through the whole calls: the search of each, its last import and its closing joins, for every call that no check from 6 to 13 refuses.
-use Prim.Native.Nat.{ℕ, zero, suc, _/_, _≤_, _<_}
-use mathlib.Core.Path.{_≡_, refl, sym, _∙_, ap, subst}
+use Prim.Native.Nat.{ℕ, _/_, _<_}
+use mathlib.Core.Path.{_≡_, refl, sym, subst}
 use mathlib.Core.Bool.{Bool, true, false, _||_}
 use mathlib.Core.List.{List, [], _∷_, _++_, map}
 use mathlib.Core.Option.{none}
-use native.Mathlib.Nat.{le-refl, le-trans}
+use native.Mathlib.Nat.{le-refl}
 use native.Mathlib.Omega.{arith}
 use lib.Dec.{T, eqb, ltb→lt}
-use lib.ListN.{length, getD}
+use lib.ListN.{length}
 use Rattle.rules.specs.Lists.{Words}
 use Rattle.rules.specs.Limits.{limit·depth}
 use Rattle.rules.specs.Layout.{header·fork, header·drop, question·table, question·args, question·type}
 use Rattle.rules.specs.Sheet.{at, chain}
-use Rattle.rules.specs.Types.{Ty, Types, Unified, ImplType, invert-if, unify, unify-impl-type}
-use Rattle.rules.specs.Transfer.{import-types, import-impl-type, export-types, export-impl-type, type-of-word, cell-types, table}
+use Rattle.rules.specs.Types.{Ty, Types, Unified, ImplType, invert-if, unify-impl-type}
+use Rattle.rules.specs.Transfer.{import-impl-type, export-types, export-impl-type, type-of-word, cell-types}
 use Rattle.rules.specs.Run.{Run, Out, got, refused}
 use Rattle.rules.specs.Search.{Finder, Result, question}
 use Rattle.rules.specs.Values.{in-table, args-ok, impl-question-values, flex-question-values}
@@ -22,14 +22,9 @@ use Rattle.rules.specs.Calls.{question-types, impl-query, impl-search, o
 use Rattle.rules.specs.Robinson.{AllIn, flip-in}
 use Rattle.rules.specs.CheckedSheet.{part}
 use Rattle.rules.specs.CheckedTables.{table-length, unrefused, not-not, Ready, impl-ready, flex-ready}
-use Rattle.rules.specs.Yields.{Every, every-at, Yields, Comes}
-use Rattle.rules.specs.Neat.{Neat, in-more, in-append, in-checked, Brought, low-none, types-brought, query-brought, types-exported, query-exported, unify-neat, unify-query-neat, question-neat}
+use Rattle.rules.specs.Yields.{Every, Yields, Comes}
+use Rattle.rules.specs.Neat.{Neat, in-more, in-append, in-checked, Brought, Joined, low-none, types-brought, query-brought, types-exported, query-exported, unify-neat, unify-query-neat, question-neat}
 use Rattle.rules.specs.SearchKeeps.{Kept, AllKept, question-keeps}
-
--- A table after a join: neat, and as long.
-pub record Joined (ts us : Types) : Type 0 where
-  pub neat : Neat us
-  pub len : length us ≡ length ts
 
 -- The impl call.
 module _ (a : Finder) (basic : ℕ) (q : Words) (passed : refusal (impl-checks a basic q) ≡ none) where
@@ -56,18 +51,20 @@ module _ (a : Finder) (basic : ℕ) (q : Words) (passed : refusal (impl-checks a
   unfolding impl-search
   impl-search-keeps b = question-keeps a q impl-ready′ limit·depth b (asked .1) (asked .0) (asked-neat .neat) (asked-neat .inside)
 
-  -- The last import of a result, and the closing join.
+  -- Of a result:
   module _ (r : Result) (k : Kept (asked .1) r) where
     abbrev last : ImplType × Types
     last = import-impl-type (r .0) none (asked .0) (question-types q)
 
+    -- the last import,
     pub impl-last : Brought (question-types q) (last .0 .1) (last .1)
     impl-last = query-brought (r .0) (k .neat) none (question-types q) caller-neat (low-none (question-types q)) (asked .0) (in-more (length (asked .1)) (length (r .0)) (k .grown) (asked .0 .1) (asked-neat .inside))
 
+    -- and the closing join.
     pub impl-closed : Joined (last .1) ((unify-impl-type (a .sheet) (last .1) (impl-query q) (last .0)) .1)
-    impl-closed = let u = unify-query-neat (a .sheet) (last .1) (impl-query q) (last .0) (impl-last .neat) (in-more (length (question-types q)) (length (last .1)) (impl-last .grown) ((impl-query q) .1) query-in) (impl-last .inside) in record { neat = u .0; len = u .1 }
+    impl-closed = unify-query-neat (a .sheet) (last .1) (impl-query q) (last .0) (impl-last .neat) (in-more (length (question-types q)) (length (last .1)) (impl-last .grown) ((impl-query q) .1) query-in) (impl-last .inside)
 
--- Searches read in turn: what each yields, all come to.
+-- Searches read in turn.
 module _ {C : Type 0} (P : List Result → Type 0) (nothing : P []) (read : Run (List Result) → C → Out (List Result) × C) (reads : (r : Run (List Result)) (c : C) → Yields P r → Comes P ((read r c) .0)) where
   nothing-comes : (o : Out (List Result)) → Comes P o → Comes P (or-nothing o)
   unfolding or-nothing
@@ -90,6 +87,7 @@ module _ {C : Type 0} (P : List Result → Type 0) (nothing : P []) (read : Run 
       go (refused n) e l = rw (e, onward) tt
       go (got fs) e l = rw (e, onward) (first-comes fs ((rest (o .1)) .0) l (h (o .1)))
 
+  -- What each yields, all come to; nothing, where 18 or 19 ended one.
   pub in-turn-comes : (rs : List (Run (List Result))) → Every (Yields P) rs → (c : C) → Comes (Every P) ((in-turn read rs c) .0)
   unfolding in-turn
   in-turn-comes [] h c = tt
@@ -100,7 +98,7 @@ first-joined : (s : Words) (ts : Types) (xs ys : List Ty) → Neat ts → AllIn 
 unfolding unify-first
 first-joined s ts [] ys n h k = record { neat = n; len = refl }
 first-joined s ts (x ∷ xs) [] n h k = record { neat = n; len = refl }
-first-joined s ts (x ∷ xs) (y ∷ ys) n h k = let u = unify-neat s ts x y n (h .0) (k .0) in record { neat = u .0; len = u .1 }
+first-joined s ts (x ∷ xs) (y ∷ ys) n h k = unify-neat s ts x y n (h .0) (k .0)
 
 -- The flex call.
 module _ (a : Finder) (q : Words) (passed : refusal (flex-checks a q) ≡ none) where
@@ -139,7 +137,7 @@ module _ (a : Finder) (q : Words) (passed : refusal (flex-checks a q) ≡ none) 
   result-brought [] ts h n = record { neat = n; grown = le-refl (length ts); inside = tt }
   result-brought (f ∷ fs) ts h n = types-brought (f .0) (h .0 .neat) none ts n (low-none ts) (exported .0) (in-more (length (exported .1)) (length (f .0)) (h .0 .grown) (exported .0) (exported-neat .inside))
 
-  -- The last import of a fork and a drop result, where there are any, their join, and the closing join.
+  -- Of the results of the fork and the drop question that count:
   module _ (fork drop : List Result) (f : AllKept (exported .1) fork) (d : AllKept (exported .1) drop) where
     abbrev forked : List Ty × Types
     forked = import-result fork (exported .0) (question-types q)
@@ -150,18 +148,22 @@ module _ (a : Finder) (q : Words) (passed : refusal (flex-checks a q) ≡ none) 
     abbrev joined : Unified
     joined = unify-first (a .sheet) (dropped .1) (forked .0) (dropped .0)
 
+    -- the last import of the fork result, where there is one,
     pub fork-brought : Brought (question-types q) (forked .0) (forked .1)
     fork-brought = result-brought fork (question-types q) f flex-caller-neat
 
+    -- and of the drop result,
     pub drop-brought : Brought (forked .1) (dropped .0) (dropped .1)
     drop-brought = result-brought drop (forked .1) d (fork-brought .neat)
 
     forked-in : AllIn (length (dropped .1)) (forked .0)
     forked-in = in-more (length (forked .1)) (length (dropped .1)) (drop-brought .grown) (forked .0) (fork-brought .inside)
 
+    -- their join,
     pub flex-joined : Joined (dropped .1) (joined .1)
     flex-joined = first-joined (a .sheet) (dropped .1) (forked .0) (dropped .0) (drop-brought .neat) forked-in (drop-brought .inside)
 
+    -- and the closing join.
     pub flex-closed : Joined (joined .1) ((unify-first (a .sheet) (joined .1) (asked-type ∷ []) (forked .0 ++ dropped .0)) .1)
     flex-closed =
         first-joined (a .sheet) (joined .1) (asked-type ∷ []) (forked .0 ++ dropped .0) (flex-joined .neat)

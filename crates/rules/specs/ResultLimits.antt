@@ -11,7 +11,7 @@ use Rattle.rules.specs.Limits.{limit·results, limit·tree-nodes}
 use Rattle.rules.specs.Layout.{tree·param}
 use Rattle.rules.specs.Types.{Types, UnifyResult, success, failure, indeterminate, Unified, ImplType, unify-impl-type, approx-eq}
 use Rattle.rules.specs.Transfer.{import-impl-type}
-use Rattle.rules.specs.Run.{Run, done, _>>=_}
+use Rattle.rules.specs.Run.{Run}
 use Rattle.rules.specs.Search.{Finder, Trees, tree-size, leaf, Result, add-results, collect, impl-params, find-auto-impls, from-impl-params, find-impl-candidates, try-candidate, before-candidates, question}
 use Rattle.rules.specs.Yields.{Every, every-append, Yields, yields-bind, yields-any}
 use Rattle.rules.specs.SearchKeeps.{nodes-keep}
@@ -25,6 +25,7 @@ pub record Few (fs : List Result) : Type 0 where
   pub count : length fs ≤ limit·results
   pub small : Every Small fs
 
+-- None at all are.
 pub few-none : Few []
 few-none = record { count = omega arith; small = tt }
 
@@ -78,6 +79,7 @@ before-few a false ts q =
     yields-bind Few Few (add-results [] autos) _ (add-few [] autos few-none) λ fs h.
     params-few a ts q 0 ((impl-params (a .sheet) (a .generics)) .1) fs h
 
+-- Whatever a question comes to, on any sheet, of any table.
 pub question-few : (d : ℕ) (a : Finder) (basic : Bool) (ts : Types) (q : ImplType) → Yields Few (question d a basic ts q)
 unfolding question
 question-few zero a basic ts q = tt

@@ -1,28 +1,28 @@
--- Tables stay neat through the whole search: for a call that no check from 6 to 13 refuses, every table of every result of every question is neat, and no smaller than the table asked;
--- and sub-questions are only asked of neat tables, with types that are nodes of them.
+-- Tables stay neat through the whole search: for a call that no check from 6 to 13 refuses, every table of every result of every question is neat, and no smaller than the table asked,
+-- so that all its types are still nodes of it. One lemma for each definition of the search; `ask`, the question one level down, is a parameter with a hypothesis.
 use Prim.Native.Nat.{ℕ, zero, suc, _+_, _≤_, _<_}
-use mathlib.Core.Path.{_≡_, refl, sym, _∙_, ap, subst}
-use mathlib.Core.Bool.{Bool, true, false, _&&_}
+use mathlib.Core.Path.{_≡_, refl}
+use mathlib.Core.Bool.{Bool, true, false}
 use mathlib.Core.List.{List, [], _∷_, _++_, map}
 use mathlib.Core.Option.{Option, none, some}
 use native.Mathlib.Nat.{le-refl, le-trans}
 use native.Mathlib.Omega.{arith}
 use lib.Dec.{ltb}
 use lib.ListN.{length, take}
-use Rattle.rules.specs.Lists.{Words, any, range, optional}
+use Rattle.rules.specs.Lists.{Words, range, optional}
 use Rattle.rules.specs.Limits.{limit·nodes, limit·results, limit·tree-nodes}
-use Rattle.rules.specs.Layout.{header·generics, header·impls, tree·param, tree·def}
+use Rattle.rules.specs.Layout.{header·impls, tree·param, tree·def}
 use Rattle.rules.specs.Sheet.{many, type-params, trait-def, inherent-params, impl-generics}
-use Rattle.rules.specs.Types.{Ty, Types, UnifyResult, success, failure, indeterminate, Unified, ImplType, unify-impl-type, approx-eq}
+use Rattle.rules.specs.Types.{Types, UnifyResult, success, failure, indeterminate, Unified, ImplType, unify-impl-type, approx-eq}
 use Rattle.rules.specs.Transfer.{import-impl-type, import-impl-types}
 use Rattle.rules.specs.Candidates.{within-def, within-ancestors, admitted, get-candidates}
-use Rattle.rules.specs.Run.{Run, done, stop, asks, _>>=_}
+use Rattle.rules.specs.Run.{Run, _>>=_}
 use Rattle.rules.specs.Search.{Finder, Trees, end, tree, tree-size, leaf, Result, add-results, collect, check-nodes, impl-signature, impl-params, find-auto-impls, from-impl-params, inherent-mods, find-impl-candidates, before, find-subimpls, fresh-params, with-fresh, try-candidate, before-candidates, question}
 use Rattle.rules.specs.Robinson.{AllIn}
 use Rattle.rules.specs.CheckedTables.{Ready}
 use Rattle.rules.specs.Yields.{Every, every-append, every-map, every-weaken, every-select, Yields, yields-bind, yields-any}
 use Rattle.rules.specs.TransferCount.{row}
-use Rattle.rules.specs.Neat.{Neat, QueriesIn, in-more, from-row, Brought, low-none, query-brought, query-under, queries-under, unify-query-neat, fresh-neat, fresh-length, impl-generics-in, signature-neat, signature-in, signature-plain, impl-params-neat, impl-params-in, impl-params-plain}
+use Rattle.rules.specs.Neat.{Neat, QueriesIn, in-more, from-row, Brought, Joined, low-none, query-brought, query-under, queries-under, unify-query-neat, fresh-neat, fresh-length, impl-generics-in, signature-neat, signature-in, signature-plain, impl-params-neat, impl-params-in, impl-params-plain}
 
 -- Adding results, and collecting them list by list, adds nothing that was not there.
 module _ (P : Result → Type 0) where
@@ -43,6 +43,7 @@ module _ (P : Result → Type 0) where
       yields-bind (Every P) (Every P) (f b) (λ gs. add-results fs gs >>= λ hs. collect f bs hs) (each b (h .0)) λ gs m.
       yields-bind (Every P) (Every P) (add-results fs gs) (λ hs. collect f bs hs) (add-keeps fs gs k m) λ hs n. collect-keeps Q f each bs hs (h .1) n
 
+-- Where 14 does not end it, a run goes on.
 pub nodes-keep : {B : Type 0} (P : B → Type 0) (ts : Types) (r : Run B) → Yields P r → Yields P (check-nodes ts r)
 unfolding check-nodes
 nodes-keep P ts r h = go (ltb limit·nodes (length ts)) refl
@@ -56,13 +57,10 @@ pub record Kept (ts : Types) (r : Result) : Type 0 where
   pub neat : Neat (r .0)
   pub grown : length ts ≤ length (r .0)
 
+-- So are all of some results.
 abbrev pub AllKept : Types → List Result → Type 0
 AllKept ts fs = Every (Kept ts) fs
 
-kept-up : (ts us : Types) → length ts ≤ length us → (r : Result) → Kept us r → Kept ts r
-kept-up ts us h r k = record { neat = k .neat; grown = le-trans h (k .grown) }
-
--- Candidates are impls of the sheet.
 range-below : (i n N : ℕ) → i + n ≤ N → Every (λ k. k < N) (range i n)
 unfolding range
 range-below i zero N h = tt
@@ -74,6 +72,7 @@ get-in s src nodes t b =
     every-select (λ i. i < many s header·impls) _ (admitted s src nodes)
     (every-select (λ i. i < many s header·impls) _ (range 0 (many s header·impls)) (range-below 0 (many s header·impls) (many s header·impls) (omega arith)))
 
+-- Candidates are impls of the sheet.
 pub candidates-in : (a : Finder) (ts : Types) (q : ImplType) (basic : Bool) → Yields (Every (λ i. i < many (a .sheet) header·impls)) (find-impl-candidates a ts q basic)
 unfolding find-impl-candidates
 candidates-in a ts q basic = go (optional (q .0)) refl
@@ -125,18 +124,22 @@ module _ (a : Finder) (w₀ : Words) (ready : Ready a w₀) (ts : Types) (q : Im
     abbrev n : ℕ
     n = fresh-count (a .sheet) i
 
+    -- Its signature comes into a neat table,
     pub signature-brought : Brought (with-fresh ts n) ((signed (a .sheet) ts i) .0 .1) ((signed (a .sheet) ts i) .1)
     signature-brought = query-under ((impl-signature (a .sheet) i) .0) (signature-neat a w₀ ready i h) ts n (signature-plain a w₀ ready i h) (with-fresh ts n) (fresh-neat ts n neat) (omega (arith, fresh-length ts n)) ((impl-signature (a .sheet) i) .1) (signature-in a w₀ ready i h)
 
-    pub signature-met : Neat ((met (a .sheet) ts q i) .1) × (length ((met (a .sheet) ts q i) .1) ≡ length ((signed (a .sheet) ts i) .1))
+    -- the join with the question leaves one, whatever it comes to,
+    pub signature-met : Joined ((signed (a .sheet) ts i) .1) ((met (a .sheet) ts q i) .1)
     signature-met = unify-query-neat (a .sheet) ((signed (a .sheet) ts i) .1) ((signed (a .sheet) ts i) .0) q (signature-brought .neat) (signature-brought .inside) (in-more (length ts) (length ((signed (a .sheet) ts i) .1)) (omega (arith, fresh-length ts n, signature-brought .grown)) (q .1) inside)
 
+    -- and so does the import of its impl parameters, whose types are nodes of it: the sub-questions.
     pub needs-brought : Brought ((met (a .sheet) ts q i) .1) (row ((needs (a .sheet) ts q i) .0)) ((needs (a .sheet) ts q i) .1)
-    needs-brought = queries-under ((impl-params (a .sheet) g) .0) (impl-params-neat a w₀ ready g (impl-generics-in a w₀ ready i h)) ts n (impl-params-plain a w₀ ready g (impl-generics-in a w₀ ready i h)) ((met (a .sheet) ts q i) .1) (signature-met .0) (omega (arith, fresh-length ts n, signature-brought .grown, signature-met .1)) ((impl-params (a .sheet) g) .1) (impl-params-in a w₀ ready g (impl-generics-in a w₀ ready i h))
+    needs-brought = queries-under ((impl-params (a .sheet) g) .0) (impl-params-neat a w₀ ready g (impl-generics-in a w₀ ready i h)) ts n (impl-params-plain a w₀ ready g (impl-generics-in a w₀ ready i h)) ((met (a .sheet) ts q i) .1) (signature-met .neat) (omega (arith, fresh-length ts n, signature-brought .grown, signature-met .len)) ((impl-params (a .sheet) g) .1) (impl-params-in a w₀ ready g (impl-generics-in a w₀ ready i h))
 
     needs-grown : length ts ≤ length ((needs (a .sheet) ts q i) .1)
-    needs-grown = omega (arith, fresh-length ts n, signature-brought .grown, signature-met .1, needs-brought .grown)
+    needs-grown = omega (arith, fresh-length ts n, signature-brought .grown, signature-met .len, needs-brought .grown)
 
+    -- Its results.
     pub candidate-keeps : (ask : Types → ImplType → Run (List Result)) → Asks ask → Yields (AllKept ts) (try-candidate ask (a .sheet) ts q i)
     unfolding try-candidate
     candidate-keeps ask keeps = go ((met (a .sheet) ts q i) .0) refl
@@ -167,7 +170,7 @@ module _ (a : Finder) (w₀ : Words) (ready : Ready a w₀) (ts : Types) (q : Im
       m : Unified
       m = unify-impl-type (a .sheet) (w .1) (w .0) q
 
-      u : Neat (m .1) × (length (m .1) ≡ length (w .1))
+      u : Joined (w .1) (m .1)
       u = unify-query-neat (a .sheet) (w .1) (w .0) q (b .neat) (b .inside) (in-more (length ts) (length (w .1)) (b .grown) (q .1) inside)
 
       go : (c : Bool) → approx-eq q p ≡ c → (v : UnifyResult) → m .0 ≡ v → ((gs : List Result) → QueriesIn (length ((impl-params (a .sheet) (a .generics)) .0)) ps → AllKept ts gs → Yields (AllKept ts) (from-impl-params a ts q (suc n) ps gs)) → Yields (AllKept ts) (from-impl-params a ts q n (p ∷ ps) fs)
@@ -178,9 +181,10 @@ module _ (a : Finder) (w₀ : Words) (ready : Ready a w₀) (ts : Types) (q : Im
           rw (e, e′, from-impl-params)
           (nodes-keep (AllKept ts) (w .1) _
           (yields-bind (AllKept ts) (AllKept ts) (add-results fs ((m .1, leaf tree·param n) ∷ [])) (λ gs. from-impl-params a ts q (suc n) ps gs)
-          (add-keeps (Kept ts) fs ((m .1, leaf tree·param n) ∷ []) k (record { neat = u .0; grown = omega (arith, u .1, b .grown) }, tt))
+          (add-keeps (Kept ts) fs ((m .1, leaf tree·param n) ∷ []) k (record { neat = u .neat; grown = omega (arith, u .len, b .grown) }, tt))
           (λ gs l. ih gs (h .1) l)))
 
+  -- Built-ins leave the table as it is.
   before-keeps : (basic : Bool) → Yields (AllKept ts) (before-candidates a basic ts q)
   unfolding before-candidates
   before-keeps true = tt
@@ -193,7 +197,7 @@ module _ (a : Finder) (w₀ : Words) (ready : Ready a w₀) (ts : Types) (q : Im
       each [] = tt
       each (t ∷ us) = (record { neat = neat; grown = le-refl (length ts) }, each us)
 
--- Tables stay neat through the whole search.
+-- Tables stay neat through the whole search: whatever a question of a neat table, with types of it, comes to, at whatever depth.
 pub question-keeps : (a : Finder) (w₀ : Words) → Ready a w₀ → (d : ℕ) (basic : Bool) (ts : Types) (q : ImplType) → Neat ts → AllIn (length ts) (q .1) → Yields (AllKept ts) (question d a basic ts q)
 unfolding question
 question-keeps a w₀ ready zero basic ts q neat inside = tt

@@ -1,5 +1,5 @@
 -- Sub-questions are asked of neat tables only, with types that are nodes of them: a question comes to the same by any two ways to ask that agree on those.
-use Prim.Native.Nat.{ℕ, zero, suc, _<_}
+use Prim.Native.Nat.{ℕ, suc, _<_}
 use mathlib.Core.Path.{_≡_, refl, _∙_, ap, fun-ext}
 use mathlib.Core.Bool.{Bool, false}
 use mathlib.Core.List.{List, [], _∷_, map}
@@ -14,7 +14,7 @@ use Rattle.rules.specs.Robinson.{AllIn}
 use Rattle.rules.specs.CheckedTables.{Ready}
 use Rattle.rules.specs.Yields.{Every, every-weaken, yields-any, bind-same}
 use Rattle.rules.specs.Neat.{Neat, QueriesIn, in-more, from-row}
-use Rattle.rules.specs.SearchKeeps.{Kept, AllKept, Asks, candidates-in, signed, met, needs, needs-brought}
+use Rattle.rules.specs.SearchKeeps.{Kept, AllKept, Asks, candidates-in, signed, met, needs, needs-brought, question-keeps}
 
 -- A question, where `ask` is the question one level down.
 unfoldable pub question-by : (Types → ImplType → Run (List Result)) → Finder → Bool → Types → ImplType → Run (List Result)
@@ -23,6 +23,7 @@ question-by ask a basic ts q =
     find-impl-candidates a ts q basic >>= λ is.
     collect (try-candidate ask (a .sheet) ts q) is fs
 
+-- That is what a question is.
 pub question-is : (d : ℕ) (a : Finder) (basic : Bool) (ts : Types) (q : ImplType) → question (suc d) a basic ts q ≡ asks (question-by (λ us r. question d a false us r) a basic ts q)
 unfolding question question-by
 question-is d a basic ts q = refl
@@ -63,9 +64,15 @@ module _ (ask ask′ : Types → ImplType → Run (List Result)) (keeps : Asks a
             (ap (λ (x : Run (List Result)). check-nodes ((signed (a .sheet) ts i) .1) (check-nodes (needed .1) (x >>= λ rs. done (map (λ (r : Result). (r .0, tree tree·def i (r .1) end)) rs))))
             (subimpls-same (needed .1) (needed .0) (b .neat) (from-row (length (needed .1)) (needed .0) (b .inside))))
 
-    pub asked-neat : (basic : Bool) → question-by ask a basic ts q ≡ question-by ask′ a basic ts q
+    asked-same : (basic : Bool) → question-by ask a basic ts q ≡ question-by ask′ a basic ts q
     unfolding question-by
-    asked-neat basic =
+    asked-same basic =
         bind-same (λ (fs : List Result). Unit {0}) (before-candidates a basic ts q) _ _ (yields-any (before-candidates a basic ts q)) λ fs u.
         bind-same (Every (λ i. i < many (a .sheet) header·impls)) (find-impl-candidates a ts q basic) _ _ (candidates-in a ts q basic) λ is h.
         collect-same (λ i. i < many (a .sheet) header·impls) (try-candidate ask (a .sheet) ts q) (try-candidate ask′ (a .sheet) ts q) candidate-same is h fs
+
+-- A question, of a neat table and with types of it: whatever another way to ask says of other tables and types, by it the question comes to the same.
+pub sub-questions-neat : (a : Finder) (w₀ : Words) → Ready a w₀ → (d : ℕ) (basic : Bool) (ts : Types) (q : ImplType) → Neat ts → AllIn (length ts) (q .1) →
+    (ask : Types → ImplType → Run (List Result)) → ((us : Types) (r : ImplType) → Neat us → AllIn (length us) (r .1) → question d a false us r ≡ ask us r) → question (suc d) a basic ts q ≡ asks (question-by ask a basic ts q)
+sub-questions-neat a w₀ ready d basic ts q neat inside ask agree =
+    question-is d a basic ts q ∙ ap asks (asked-same (λ us r. question d a false us r) ask (question-keeps a w₀ ready d false) agree a w₀ ready ts q neat inside basic)

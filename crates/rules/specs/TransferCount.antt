@@ -1,7 +1,7 @@
 -- How many nodes an export makes: at most one for each node of its source. And an import of a list of impl types is the import of all their arguments in one row.
 use Prim.Native.Nat.{ℕ, zero, suc, _+_, _≤_, _<_}
-use mathlib.Core.Path.{_≡_, refl, sym, _∙_, ap, subst}
-use mathlib.Core.Bool.{Bool, true, false}
+use mathlib.Core.Path.{_≡_, refl, _∙_, ap, subst}
+use mathlib.Core.Bool.{false}
 use mathlib.Core.List.{List, [], _∷_, _++_}
 use mathlib.Core.Option.{Option, none, some}
 use mathlib.Core.Logic.{_≢_}
@@ -10,10 +10,10 @@ use native.Mathlib.Omega.{arith}
 use native.Mathlib.Decide.{ℕ-discrete}
 use lib.ListN.{length, length-append, length-set}
 use Rattle.rules.specs.Lists.{concat-map}
-use Rattle.rules.specs.Types.{Ty, TypeState, unknown, known, Types, new-node, ImplType}
+use Rattle.rules.specs.Types.{Ty, unknown, known, Types, new-node, ImplType}
 use Rattle.rules.specs.Transfer.{Transfer, mapped, transfer-each, transfer-in, transfer-types, import-types, transfer-impl-types, export-types}
 use Rattle.rules.specs.Robinson.{AllIn, WellFormed, eqb-true, eqb-false}
-use Rattle.rules.specs.Carried.{pushed, transfer-carries}
+use Rattle.rules.specs.Carried.{transfer-carries}
 
 -- 1 for none.
 unfoldable absent : Option Ty → ℕ

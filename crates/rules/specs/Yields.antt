@@ -1,11 +1,10 @@
 -- What holds of every element of a list, of whatever a run comes to, and of what a call hands back.
-use Prim.Native.Nat.{ℕ, zero, suc, _<_}
+use Prim.Native.Nat.{ℕ, zero, suc}
 use mathlib.Core.Path.{_≡_, refl, sym, ap, subst}
 use mathlib.Core.Bool.{Bool, true, false}
 use mathlib.Core.List.{List, [], _∷_, _++_, map}
-use native.Mathlib.Omega.{arith}
 use lib.Dec.{T}
-use lib.ListN.{length, getD, set}
+use lib.ListN.{getD, set}
 use Rattle.rules.specs.Lists.{all, select}
 use Rattle.rules.specs.Run.{Run, done, stop, asks, Out, got, refused, _>>=_, free, within}
 
@@ -16,6 +15,7 @@ module _ {A : Type 0} where
   Every P (x ∷ xs) = P x × Every P xs
 
   module _ (P : A → Type 0) where
+    -- How that goes on: for lists in a row, a place changed, an element or what stands for it past the end, and some of them.
     pub every-append : (xs ys : List A) → Every P xs → Every P ys → Every P (xs ++ ys)
     every-append [] ys h k = k
     every-append (x ∷ xs) ys h k = (h .0, every-append xs ys (h .1) k)
@@ -29,10 +29,6 @@ module _ {A : Type 0} where
     every-at [] n d h k = k
     every-at (x ∷ xs) zero d h k = h .0
     every-at (x ∷ xs) (suc n) d h k = every-at xs n d (h .1) k
-
-    pub every-from : (xs : List A) (d : A) → ((n : ℕ) → n < length xs → P (getD xs n d)) → Every P xs
-    every-from [] d f = tt
-    every-from (x ∷ xs) d f = (f 0 (omega arith), every-from xs d (λ n h. f (suc n) (omega arith)))
 
     pub every-select : (p : A → Bool) (xs : List A) → Every P xs → Every P (select p xs)
     unfolding select
@@ -53,6 +49,7 @@ module _ {A : Type 0} where
       go true e u ih = (subst T (sym e) tt, ih (rw (e, all) at u))
       go false e u ih = absurd (rw (e, all) at u)
 
+  -- What follows for each, and what holds of the image of each.
   pub every-weaken : (P Q : A → Type 0) → ((x : A) → P x → Q x) → (xs : List A) → Every P xs → Every Q xs
   every-weaken P Q f [] h = tt
   every-weaken P Q f (x ∷ xs) h = (f x (h .0), every-weaken P Q f xs (h .1))
@@ -72,6 +69,7 @@ abbrev pub Comes : {A : Type 0} → (A → Type 0) → Out A → Type 0
 Comes P (got a) = P a
 Comes P (refused n) = Unit {0}
 
+-- One thing after another; two properties; none.
 pub yields-bind : {A B : Type 0} (P : A → Type 0) (Q : B → Type 0) (r : Run A) (f : A → Run B) → Yields P r → ((a : A) → P a → Yields Q (f a)) → Yields Q (r >>= f)
 unfolding _>>=_
 yields-bind P Q (done a) f h k = k a h
@@ -112,5 +110,6 @@ yields-within P over (asks r) c h = go (over (suc c)) refl (yields-within P over
     go true e k = rw (e, within) tt
     go false e k = rw (e, within) k
 
+-- What is got has it.
 pub came : {A : Type 0} (P : A → Type 0) (o : Out A) (a : A) → Comes P o → o ≡ got a → P a
 came P o a h e = subst (Comes P) e h
