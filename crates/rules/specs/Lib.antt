@@ -56,3 +56,13 @@ pub mod UnifierFound
 pub mod UnifyEnds
 pub mod UprightTables
 pub mod TypeFuel
+pub mod Carried
+pub mod TransferCount
+pub mod Yields
+pub mod Slim
+pub mod Neat
+pub mod SearchKeeps
+pub mod SubQuestions
+pub mod CallKeeps
+pub mod ResultLimits
+pub mod AnswerSize
