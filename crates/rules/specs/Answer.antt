@@ -1,11 +1,11 @@
 -- Document 01, "Turning a call away", last part: the answer's words.
-use Prim.Native.Nat.{ℕ, zero, suc, _+_, _*_}
-use mathlib.Core.Bool.{Bool, true, false}
+use Prim.Native.Nat.{ℕ, _+_, _*_}
+use mathlib.Core.Bool.{Bool, false}
 use mathlib.Core.List.{List, [], _∷_, _++_, map}
 use lib.ListN.{length}
 use Rattle.rules.specs.Lists.{Words, range, bit}
 use Rattle.rules.specs.Layout.{answer·length, tree·length, node·length, cell·length}
-use Rattle.rules.specs.Types.{Ty, TypeState, unknown, known, Types}
+use Rattle.rules.specs.Types.{Ty, unknown, known, Types}
 use Rattle.rules.specs.Transfer.{export-types}
 use Rattle.rules.specs.Search.{Trees, end, tree, tree-size}
 

@@ -21,7 +21,7 @@ use Rattle.rules.specs.Answer.{pack-trees, word-of-type, pack-cells, pac
 use Rattle.rules.specs.Check.{Checks, refusal, of-length, entry, impl-checks, flex-checks}
 use Rattle.rules.specs.Calls.{question-types, impl-query, impl-search, impl-outcome, impl-free, impl-within, in-turn, flex-searches, first-tree, is-found, import-result, unify-first, flex-results, flex-outcome, unset, plainly, flex-free, flex-within, free-find-impl, free-find-flex, try-find-impl, find-flex}
 use Rattle.rules.specs.AcyclicLaws.{map-length}
-use Rattle.rules.specs.CheckedTables.{unrefused}
+use Rattle.rules.specs.CheckLaws.{unrefused}
 use Rattle.rules.specs.Yields.{Every, every-at, Yields, yields-both, yields-free, yields-within, Comes, came}
 use Rattle.rules.specs.Carried.{each-length}
 use Rattle.rules.specs.TransferCount.{export-most}

@@ -21,7 +21,8 @@ use Rattle.rules.specs.Check.{refusal, of-sheet, of-ids, of-impl-questio
 use Rattle.rules.specs.Calls.{question-types, impl-query, impl-search, or-nothing, with-first, onward, in-turn, flex-searches, import-result, unify-first}
 use Rattle.rules.specs.Robinson.{AllIn, flip-in}
 use Rattle.rules.specs.CheckedSheet.{part}
-use Rattle.rules.specs.CheckedTables.{table-length, unrefused, not-not, Ready, impl-ready, flex-ready}
+use Rattle.rules.specs.CheckLaws.{unrefused, not-not}
+use Rattle.rules.specs.CheckedTables.{table-length, Ready, impl-ready, flex-ready}
 use Rattle.rules.specs.Yields.{Every, Yields, Comes}
 use Rattle.rules.specs.Neat.{Neat, in-more, in-append, in-checked, Brought, Joined, low-none, types-brought, query-brought, types-exported, query-exported, unify-neat, unify-query-neat, question-neat}
 use Rattle.rules.specs.SearchKeeps.{Kept, AllKept, question-keeps}

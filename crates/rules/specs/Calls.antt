@@ -1,6 +1,6 @@
 -- The two calls, `try_find_impl` and `find_flex`: outcomes 20 to 26 in their order, the last import and the closing joins;
 -- then each whole call: the number or the answer's words, the count after, and what answer buffer and workspace then hold.
-use Prim.Native.Nat.{ℕ, zero, suc, _+_}
+use Prim.Native.Nat.{ℕ}
 use mathlib.Core.Bool.{Bool, true, false, not, _&&_, _||_}
 use mathlib.Core.List.{List, [], _∷_, _++_, map}
 use mathlib.Core.Option.{Option, none, some}
@@ -10,7 +10,7 @@ use Rattle.rules.specs.Lists.{Words, any}
 use Rattle.rules.specs.Limits.{limit·workspace, limit·nodes, limit·depth}
 use Rattle.rules.specs.Layout.{header·fork, header·drop, question·table, question·trait, question·args, question·type}
 use Rattle.rules.specs.Sheet.{at}
-use Rattle.rules.specs.Types.{Ty, Types, UnifyResult, success, failure, indeterminate, Unified, ImplType, invert-if, self-inverse, unify, unify-impl-type}
+use Rattle.rules.specs.Types.{Ty, Types, success, failure, indeterminate, Unified, ImplType, invert-if, self-inverse, unify, unify-impl-type}
 use Rattle.rules.specs.Transfer.{import-types, import-impl-type, export-types, export-impl-type, type-of-word, cell-types, table}
 use Rattle.rules.specs.Run.{Run, Out, got, refused, free, within}
 use Rattle.rules.specs.Search.{Finder, Trees, end, Result, question}

@@ -1,11 +1,11 @@
 -- Small sheets and questions written by what they hold, for the witnesses: one definition, which binds every impl, publicly and unnamed.
-use Prim.Native.Nat.{ℕ, zero, suc, _+_, _*_}
-use mathlib.Core.Bool.{Bool, true, false}
+use Prim.Native.Nat.{ℕ, suc, _+_}
+use mathlib.Core.Bool.{false}
 use mathlib.Core.List.{List, [], _∷_, _++_, map}
 use lib.ListN.{length}
 use Rattle.rules.specs.Lists.{Words}
 use Rattle.rules.specs.Layout.{header·length, definition·length, trait·length, struct·length, closure·length, generics·length, impl·length, binding·length, impl-param·length, question·length, kind·param, kind·tuple, kind·struct}
-use Rattle.rules.specs.Types.{Ty, TypeState, unknown, known, ImplType}
+use Rattle.rules.specs.Types.{Ty, TypeState, known, ImplType}
 use Rattle.rules.specs.Transfer.{new-nodes}
 use Rattle.rules.specs.Answer.{head-or-zero, word-of-type, pack-cells, pack-nodes}
 

@@ -1,10 +1,10 @@
 -- The tables of a call that no check refused are well formed and acyclic, as Robinson's theorem wants them: the question's, and those of the sheet's generics and impls.
 use Prim.Native.Nat.{ℕ, zero, suc, _+_, _<_}
 use mathlib.Core.Path.{_≡_, refl, sym, _∙_, ap, subst}
-use mathlib.Core.Bool.{Bool, true, false, not}
+use mathlib.Core.Bool.{Bool, true, false}
 use mathlib.Core.List.{List, [], _∷_, map}
 use mathlib.Core.Logic.{_↔_}
-use mathlib.Core.Option.{none, Option·some-ne-none}
+use mathlib.Core.Option.{none}
 use native.Mathlib.Nat.{le-of-suc-le-suc, not-suc-le-zero, zero-add, add-zero, add-suc, suc-add}
 use lib.Dec.{T, eqb, ltb, leb, ltb→lt}
 use lib.ListN.{length, getD}
@@ -18,11 +18,12 @@ use Rattle.rules.specs.Search.{Finder}
 use Rattle.rules.specs.Chains.{sheet-keeps}
 use Rattle.rules.specs.Values.{is-id, in-table, node-fits, node-ok, table-ok, generics-ok, impl-ok, sheet-values, impl-question-values, flex-question-values}
 use Rattle.rules.specs.Acyclic.{acyclic, sheet-acyclic, question-acyclic}
-use Rattle.rules.specs.Check.{Checks, refusal, of-sheet, of-ids, of-impl-question, of-flex-question, impl-checks, flex-checks}
+use Rattle.rules.specs.Check.{refusal, of-sheet, of-ids, of-impl-question, of-flex-question, impl-checks, flex-checks}
 use Rattle.rules.specs.AcyclicLaws.{Down, all-at, map-length}
 use Rattle.rules.specs.NoCycles.{acyclic-iff}
 use Rattle.rules.specs.Readings.{Acyclic, readable-ranked, flat-inside, flat-readable}
-use Rattle.rules.specs.CheckedSheet.{part, both, Valid, valid}
+use Rattle.rules.specs.CheckLaws.{part, both, unrefused, not-not}
+use Rattle.rules.specs.CheckedSheet.{Valid, valid}
 
 new-nodes-length : (i : ℕ) (sts : List TypeState) → length (new-nodes i sts) ≡ length sts
 unfolding new-nodes
@@ -89,21 +90,6 @@ module _ (w : Words) (h : ℕ) where
   -- 8 and 9 (12 and 13) passed: the table reads as terms over its unknowns.
   pub table-readable : WellFormed (table w h) → T (acyclic (table w h)) → Readable (table w h)
   table-readable formed e = flat-readable (table w h) formed table-flat e
-
--- No check refuses: the condition of each fails.
-pub unrefused : (cs : Checks) → refusal cs ≡ none → (n : ℕ) → T (not ((getD cs n (0, false)) .1))
-unfolding refusal
-unrefused [] e n = tt
-unrefused (c ∷ cs) e n = go (c .1) e n (unrefused cs)
-  where
-    go : (b : Bool) → refusal ((c .0, b) ∷ cs) ≡ none → (m : ℕ) → (refusal cs ≡ none → (i : ℕ) → T (not ((getD cs i (0, false)) .1))) → T (not ((getD {A = ℕ × Bool} ((c .0, b) ∷ cs) m (0, false)) .1))
-    go true k m ih = absurd (Option·some-ne-none (c .0) k)
-    go false k zero ih = tt
-    go false k (suc m) ih = ih k m
-
-pub not-not : (b : Bool) → T (not (not b)) → T b
-not-not true t = tt
-not-not false t = absurd t
 
 -- What a call that passed 6 to 13 promises.
 pub record Ready (a : Finder) (q : Words) : Type 0 where

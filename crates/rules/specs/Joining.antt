@@ -6,10 +6,10 @@ use mathlib.Core.List.{List, [], _∷_, map}
 use mathlib.Core.Logic.{_≢_, _⊎_, inl, inr}
 use native.Mathlib.Nat.{le-of-suc-le-suc, not-suc-le-zero, lt-irrefl}
 use native.Mathlib.Decide.{ℕ-discrete}
-use lib.Dec.{eqb, ltb}
+use lib.Dec.{eqb}
 use lib.ListN.{length, getD, length-set}
 use lib.Seq.{getD-set-same, getD-set-other}
-use Rattle.rules.specs.Types.{Ty, TypeState, unknown, known, TypeNode, Types, node-at, xor, invert-if, invert-state, state-at, size-at, relabel, or-else, hang, join}
+use Rattle.rules.specs.Types.{Ty, TypeState, unknown, known, TypeNode, Types, node-at, xor, invert-if, invert-state, state-at, larger, relabel, or-else, hang, join}
 use Rattle.rules.specs.Solutions.{Term, var, con, nil, cons, term-size, Sol, terms, rep, Fits, Solves, AllIn, ChildrenIn, WellFormed, eqb-true, eqb-false, known≢, sub, solves-sub, Free}
 
 -- What is done to each node is done to node n.
@@ -339,9 +339,9 @@ module _ (ts : Types) (formed : WellFormed ts) where
   -- Joining two such roots, the smaller class under the larger, leaves just that.
   pub join-mates : (x y : Ty) → x .1 < length ts → y .1 < length ts → rep ts (x .1) ≡ x .1 → rep ts (y .1) ≡ y .1 → x .1 ≢ y .1 → Mates ts (x .1) (y .1) → After ts (x .1) (y .1) (join ts x y)
   unfolding join
-  join-mates x y hx hy rx ry ne m = go (ltb (size-at ts (y .1)) (size-at ts (x .1))) refl
+  join-mates x y hx hy rx ry ne m = go (larger ts x y) refl
     where
-      go : (b : Bool) → ltb (size-at ts (y .1)) (size-at ts (x .1)) ≡ b → After ts (x .1) (y .1) (join ts x y)
+      go : (b : Bool) → larger ts x y ≡ b → After ts (x .1) (y .1) (join ts x y)
       go true e = rw (e, join) (flip-after ts (hang ts y x) (y .1) (x .1) hy hx (hang-mates y x hy hx ry rx (λ q. ne (sym q)) (mates-flip ts (x .1) (y .1) m)))
       go false e = rw (e, join) (hang-mates x y hx hy rx ry ne m)
 
@@ -461,8 +461,8 @@ module _ (ts : Types) (formed : WellFormed ts) (σ : Sol) (free : Free ts σ) wh
   -- Joining two such roots, of which none is an unknown that stands in the other, leaves a table that can be read with its unknowns free.
   pub join-keep : (x y : Ty) → x .1 < length ts → y .1 < length ts → rep ts (x .1) ≡ x .1 → rep ts (y .1) ≡ y .1 → x .1 ≢ y .1 → Mates ts (x .1) (y .1) → (state-at ts (x .1) ≡ unknown → NotIn (x .1) (σ (y .1))) → (state-at ts (y .1) ≡ unknown → NotIn (y .1) (σ (x .1))) → (σ′ : Sol) × Free (join ts x y) σ′
   unfolding join
-  join-keep x y hx hy rx ry ne m nx ny = go (ltb (size-at ts (y .1)) (size-at ts (x .1))) refl
+  join-keep x y hx hy rx ry ne m nx ny = go (larger ts x y) refl
     where
-      go : (b : Bool) → ltb (size-at ts (y .1)) (size-at ts (x .1)) ≡ b → (σ′ : Sol) × Free (join ts x y) σ′
+      go : (b : Bool) → larger ts x y ≡ b → (σ′ : Sol) × Free (join ts x y) σ′
       go true e = rw (e, join) (keep ts y x hy hx ry rx (λ q. ne (sym q)) formed σ free (mates-flip ts (x .1) (y .1) m) ny nx)
       go false e = rw (e, join) (keep ts x y hx hy rx ry ne formed σ free m nx ny)

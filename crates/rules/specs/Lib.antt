@@ -1,3 +1,4 @@
+-- Document 01, section by section: what a reader must believe.
 pub mod Lists
 pub mod Limits
 pub mod Layout
@@ -15,47 +16,51 @@ pub mod Check
 pub mod Answer
 pub mod Calls
 pub mod Listing
-pub mod ReachLaws
-pub mod Robinson
-pub mod SheetLaws
-pub mod AcyclicLaws
-pub mod Components
-pub mod CheckedSheet
-pub mod ChainLaws
-pub mod CheckedTables
-pub mod NoCycles
-pub mod RootRank
-pub mod UnifyKeeps
-pub mod Readings
-pub mod TransferKeeps
-pub mod FreshKeeps
+-- Computed from it: the pinned cases, and a witness for each number and each wrong turn.
+pub mod Rules
+pub mod Pinned
+pub mod Charts
+pub mod Witnesses
+-- Demand 3, and which numbers come from where.
 pub mod RunLaws
 pub mod CheckNumbers
 pub mod Stops
 pub mod FlexLaws
 pub mod Limit
-pub mod Rules
-pub mod Pinned
-pub mod Charts
-pub mod Witnesses
-pub mod WordLaws
 pub mod Outcomes
 pub mod Refusals
+-- What the checks promise: ids, edges and chains.
 pub mod Members
 pub mod CheckLaws
-pub mod AncestorLaws
-pub mod Admission
-pub mod AdmissionLaws
+pub mod CheckedSheet
+pub mod ChainLaws
 pub mod SheetFuel
-pub mod WalksEnd
-pub mod Pigeonholes
+-- Components against Tarjan (1972), and what a set admits.
+pub mod ReachLaws
+pub mod Admission
+pub mod Components
+pub mod AncestorLaws
+pub mod AdmissionLaws
+-- The type table: Robinson (1965), acyclicity, fuel.
 pub mod Solutions
 pub mod Joining
 pub mod MostGeneral
-pub mod UnifierFound
-pub mod UnifyEnds
+pub mod AcyclicLaws
+pub mod NoCycles
+pub mod RootRank
+pub mod Readings
+pub mod UnifyKeeps
 pub mod UprightTables
+pub mod UnifierFound
+pub mod Robinson
+pub mod TransferKeeps
+pub mod FreshKeeps
+pub mod CheckedTables
+pub mod Pigeonholes
+pub mod WalksEnd
+pub mod UnifyEnds
 pub mod TypeFuel
+-- Tables through the whole search, and the size of an answer.
 pub mod Carried
 pub mod TransferCount
 pub mod Yields
@@ -66,3 +71,5 @@ pub mod SubQuestions
 pub mod CallKeeps
 pub mod ResultLimits
 pub mod AnswerSize
+-- Laws in the form in which code asks for them.
+pub mod WordLaws

@@ -5,12 +5,11 @@ use mathlib.Core.List.{List, [], _∷_, _++_, map}
 use lib.ListN.{set}
 use Rattle.rules.specs.Rules.{rules}
 use Rattle.rules.specs.Lists.{Words}
-use Rattle.rules.specs.Layout.{header·traits, header·fork, header·drop, header·duplicate, header·erase, binding·vis, definition·bindings, trait·inherent, node·kind, kind·unknown, kind·fn}
+use Rattle.rules.specs.Layout.{header·fork, header·drop, header·duplicate, header·erase, kind·unknown, kind·fn}
 use Rattle.rules.specs.Limits.{limit·answer, limit·workspace, limit·steps}
 use Rattle.rules.specs.Run.{Out, got, refused}
-use Rattle.rules.specs.Search.{Finder}
 use Rattle.rules.specs.Calls.{try-find-impl, find-flex}
-use Rattle.rules.specs.Listing.{listing, list-bytes}
+use Rattle.rules.specs.Listing.{listing}
 
 -- Sheet Pin, 68 words.
 unfoldable pub pin : Words

@@ -1,6 +1,6 @@
 -- A search, as the questions that it asks and what it comes to. There is no count in it: `asks` stands wherever a count would rise.
 -- It is read without a step limit (`free`, `asked`) or with one (`within`).
-use Prim.Native.Nat.{ℕ, zero, suc}
+use Prim.Native.Nat.{ℕ, suc}
 use mathlib.Core.Bool.{Bool, true, false}
 
 pub data Run (A : Type 0) : Type 0 where

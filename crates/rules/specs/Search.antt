@@ -6,10 +6,10 @@ use mathlib.Core.Option.{Option, none, some}
 use lib.Dec.{eqb, ltb}
 use lib.ListN.{length, getD, take, replicate}
 use Rattle.rules.specs.Lists.{Words, range, optional, optional-list}
-use Rattle.rules.specs.Limits.{limit·nodes, limit·depth, limit·results, limit·tree-nodes}
+use Rattle.rules.specs.Limits.{limit·nodes, limit·results, limit·tree-nodes}
 use Rattle.rules.specs.Layout.{header·opaques, header·structs, header·enums, header·unions, header·closures, header·fork, header·drop, header·duplicate, header·erase, impl-param·trait, impl-param·args, owner·definition, closure·flex, flex·fork, flex·drop, tree·param, tree·def, tree·fork-closure, tree·drop-closure, kind·opaque, kind·struct, kind·enum, kind·union, kind·fn, kind·closure, kind·ref, kind·default, kind·error}
 use Rattle.rules.specs.Sheet.{at, field, type-params, generics-table, impl-param-records, trait-def, inherent-params, impl-generics, impl-trait, impl-table, impl-args}
-use Rattle.rules.specs.Types.{Ty, TypeState, unknown, known, Types, UnifyResult, success, failure, indeterminate, ImplType, kind, unify-impl-type, approx-eq}
+use Rattle.rules.specs.Types.{Ty, TypeState, unknown, known, Types, success, failure, indeterminate, ImplType, kind, unify-impl-type, approx-eq}
 use Rattle.rules.specs.Transfer.{import-impl-type, import-impl-types, cell-types, new-nodes, table}
 use Rattle.rules.specs.Candidates.{within-def, within-ancestors, get-candidates}
 use Rattle.rules.specs.Run.{Run, done, stop, asks, _>>=_}

@@ -11,7 +11,7 @@ use lib.ListN.{length, replicate}
 use Rattle.rules.specs.Lists.{Words, all}
 use Rattle.rules.specs.Layout.{node·kind, node·id, kind·unknown, kind·param}
 use Rattle.rules.specs.Sheet.{at, chain, kinds, row·most, row·length}
-use Rattle.rules.specs.Types.{Ty, TypeState, unknown, known, TypeNode, Types, new-node, node-at, xor, invert-state, state-at, size-at, relabel, or-else, hang, join}
+use Rattle.rules.specs.Types.{Ty, TypeState, unknown, known, TypeNode, Types, new-node, node-at, xor, invert-state, state-at, larger, relabel, or-else, hang, join}
 use Rattle.rules.specs.Transfer.{Transfer, param-for, transfer-types, import-types, node-state, new-nodes, table}
 use Rattle.rules.specs.Values.{id-bound, node-fits, node-ok, table-ok}
 use Rattle.rules.specs.Robinson.{AllIn, WellFormed}
@@ -68,9 +68,9 @@ slim-hang ts lo hi h =
 -- A join keeps it.
 pub slim-join : (ts : Types) (a b : Ty) → Slim ts → Slim (join ts a b)
 unfolding join
-slim-join ts a b h = go (ltb (size-at ts (b .1)) (size-at ts (a .1))) refl
+slim-join ts a b h = go (larger ts a b) refl
   where
-    go : (c : Bool) → ltb (size-at ts (b .1)) (size-at ts (a .1)) ≡ c → Slim (join ts a b)
+    go : (c : Bool) → larger ts a b ≡ c → Slim (join ts a b)
     go true e = rw (e, join) (slim-hang ts b a h)
     go false e = rw (e, join) (slim-hang ts a b h)
 

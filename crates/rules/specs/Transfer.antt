@@ -1,6 +1,6 @@
 -- `TypeTransfer` of the Rust: moving types from one table to another, by `transfer`, `import` and `export`; and a table as the words of a slice have it.
 use Prim.Native.Nat.{ℕ, zero, suc, _+_, _/_, _%_}
-use mathlib.Core.Bool.{Bool, true, false}
+use mathlib.Core.Bool.{true, false}
 use mathlib.Core.List.{List, [], _∷_, _++_, map}
 use mathlib.Core.Option.{Option, none, some}
 use lib.Dec.{eqb}

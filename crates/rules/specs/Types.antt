@@ -115,9 +115,13 @@ hang ts lo hi =
     set (map (relabel (lo .1) (b, hi .1)) ts) (hi .1)
     (record { up = (false, hi .1); state = or-else (state-at ts (hi .1)) (invert-state b (state-at ts (lo .1))); size = size-at ts (hi .1) + size-at ts (lo .1) })
 
+-- The class of root a is larger than that of root b.
+unfoldable pub larger : Types → Ty → Ty → Bool
+larger ts a b = ltb (size-at ts (b .1)) (size-at ts (a .1))
+
 -- Joining puts the smaller class under the larger, on a tie the first under the second.
 unfoldable pub join : Types → Ty → Ty → Types
-join ts a b = elim (ltb (size-at ts (b .1)) (size-at ts (a .1))) [ true ↦ hang ts b a | false ↦ hang ts a b ]
+join ts a b = elim (larger ts a b) [ true ↦ hang ts b a | false ↦ hang ts a b ]
 
 -- What a join comes to, and the table that it leaves.
 abbrev pub Unified : Type 0

@@ -5,13 +5,13 @@ use mathlib.Core.Bool.{Bool, true, false, not, _&&_, _||_}
 use mathlib.Core.List.{List, [], _∷_, map}
 use mathlib.Core.Logic.{_≢_}
 use native.Mathlib.Decide.{ℕ-discrete}
-use lib.Dec.{eqb, ltb}
+use lib.Dec.{eqb}
 use lib.ListN.{length, length-set}
 use lib.Seq.{getD-set-same, getD-set-other}
 use Rattle.rules.specs.Lists.{Words}
 use Rattle.rules.specs.Layout.{kind·closure, kind·error}
 use Rattle.rules.specs.Sheet.{kind-flag, row·may-meet}
-use Rattle.rules.specs.Types.{Ty, TypeState, unknown, known, TypeNode, Types, node-at, xor, invert-if, invert-state, find, state-at, size-at, UnifyResult, success, failure, indeterminate, occurs-in, relabel, or-else, hang, join, Unified, unify-each, last-of, unify-children, unify-known, join-on-success, bind-unknown, unify-states, unify-roots, unify-in, unify}
+use Rattle.rules.specs.Types.{Ty, TypeState, unknown, known, TypeNode, Types, node-at, xor, invert-if, invert-state, find, state-at, larger, UnifyResult, success, failure, indeterminate, occurs-in, relabel, or-else, hang, join, Unified, unify-each, last-of, unify-children, unify-known, join-on-success, bind-unknown, unify-states, unify-roots, unify-in, unify}
 use Rattle.rules.specs.Solutions.{rep, AllIn, ChildrenIn, WellFormed, Readable}
 use Rattle.rules.specs.Joining.{map-at, map-length}
 use Rattle.rules.specs.MostGeneral.{flip-in}
@@ -68,9 +68,9 @@ hang-plain ts lo hi hlo hhi l₀ h₀ plain n h′ = go (ℕ-discrete n (hi .1))
 
 join-plain : (ts : Types) (x y : Ty) → x .1 < length ts → y .1 < length ts → x .0 ≡ false → y .0 ≡ false → UprightErrorFree ts → UprightErrorFree (join ts x y)
 unfolding join
-join-plain ts x y hx hy x₀ y₀ plain = go (ltb (size-at ts (y .1)) (size-at ts (x .1))) refl
+join-plain ts x y hx hy x₀ y₀ plain = go (larger ts x y) refl
   where
-    go : (b : Bool) → ltb (size-at ts (y .1)) (size-at ts (x .1)) ≡ b → UprightErrorFree (join ts x y)
+    go : (b : Bool) → larger ts x y ≡ b → UprightErrorFree (join ts x y)
     go true e = rw (e, join) (hang-plain ts y x hy hx y₀ x₀ plain)
     go false e = rw (e, join) (hang-plain ts x y hx hy x₀ y₀ plain)
 

@@ -1,17 +1,16 @@
 -- A witness for each number: a call that gets it; and for each of document 01's wrong turns a call that tells the right turn from the wrong one. One table and one statement.
 use Prim.Native.Nat.{ℕ, zero, suc}
 use mathlib.Core.Path.{_≡_, refl}
-use mathlib.Core.Bool.{Bool, true, false}
+use mathlib.Core.Bool.{true, false}
 use mathlib.Core.List.{List, [], _∷_, _++_, map}
 use lib.ListN.{replicate}
 use Rattle.rules.specs.Rules.{rules}
 use Rattle.rules.specs.Lists.{Words}
 use Rattle.rules.specs.Limits.{limit·answer, limit·workspace, limit·steps}
-use Rattle.rules.specs.Layout.{header·edition, header·fork, header·drop, node·kind, kind·fn, kind·closure, kind·default, kind·error}
-use Rattle.rules.specs.Types.{Ty, TypeState, unknown, known}
-use Rattle.rules.specs.Run.{Out, got, refused}
-use Rattle.rules.specs.Search.{Finder}
-use Rattle.rules.specs.Calls.{try-find-impl, find-flex}
+use Rattle.rules.specs.Layout.{header·edition, header·fork, kind·fn, kind·closure, kind·default, kind·error}
+use Rattle.rules.specs.Types.{TypeState, unknown, known}
+use Rattle.rules.specs.Run.{got, refused}
+use Rattle.rules.specs.Calls.{try-find-impl}
 use Rattle.rules.specs.Charts.{Impl, rows, pack-needs, pack-impls, sheet-of, no-builtins, impl-question, flex-question, node, param, tuple, struct}
 use Rattle.rules.specs.Pinned.{pin, Q, put, flex-pin, flex-of, End, ask-impl, ask-flex, found, Case}
 

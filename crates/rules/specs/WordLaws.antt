@@ -1,12 +1,10 @@
 -- Laws of words and records, in the form in which code that reads them asks for them.
 use Prim.Native.Nat.{ℕ, zero, suc, _+_, _-_, _≤_, _<_}
 use mathlib.Core.Path.{_≡_, refl, sym, _∙_, ap}
-use mathlib.Core.Bool.{Bool, true, false}
-use mathlib.Core.List.{[], _∷_}
+use mathlib.Core.List.{[]}
 use mathlib.Core.Logic.{_≢_}
 use native.Mathlib.Nat.{add-sub-cancel-left, suc-sub-suc, sub-zero}
 use native.Mathlib.Omega.{arith}
-use lib.Dec.{T, leb, leb→le, nleb→lt, le→leb}
 use lib.ListN.{length, take, drop, List·getD-eq-default}
 use Rattle.rules.specs.Lists.{Words}
 use Rattle.rules.specs.Sheet.{at, record-words, chain, chain-of}
