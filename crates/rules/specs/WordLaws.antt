@@ -14,6 +14,12 @@ use borrow.Author.Tests.{le-leb, lt-leb}
 pub word-past : (s : Words) (i : ℕ) → length s ≤ i → 0 ≡ at s i
 word-past s i h = sym (List·getD-eq-default s 0 {n = i} h)
 
+pub offset-past : (s : Words) (p k : ℕ) → length s ≤ k → 0 ≡ at s (p + k)
+offset-past s p k h = word-past s (p + k) (omega arith)
+
+pub offset-long : (s : Words) (p k : ℕ) → length s - k ≤ p → 0 ≡ at s (p + k)
+offset-long s p k h = word-past s (p + k) (omega arith)
+
 -- A record that ends within the slice is a part of it; another has no words.
 pub record-in : (s : Words) (p len : ℕ) → p ≤ length s → len ≤ length s - p → take (p + len - p) (drop p s) ≡ record-words s p len
 unfolding record-words

@@ -1,6 +1,7 @@
 // Words of a lent slice: the word at a place, a record as a part of the slice, the records of a chain by their position,
 // clearing and copying. Every reader is total: past the end a word is 0 and a record is empty.
 ghost use mathlib.Core.Path.{_≡_};
+ghost use Prim.Native.Nat.{_+_};
 ghost use lib.ListN.{length};
 ghost use Rattle.rules.specs.Sheet.{at, record-words, chain};
 ghost use Rattle.rules.specs.Layout.{node·length};
@@ -14,6 +15,18 @@ pub fn word(s: &[u32], i: usize) -> u32
     ensures { λ r. ⌜ r ≡ at (now (s .entry)) i ⌝ }
 {
     if i < s.len() { s[i] } else { 0 }
+}
+
+// The word k places past a place; 0 past the end.
+pub fn offset(s: &[u32], p: usize, k: usize) -> u32
+    ensures { λ r. ⌜ r ≡ at (now (s .entry)) (p + k) ⌝ }
+{
+    if k < s.len() {
+        if p < s.len() - k {
+            return s[p + k];
+        }
+    }
+    0
 }
 
 // The place that the word at a place names, as a head or a next does.
