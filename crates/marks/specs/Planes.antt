@@ -45,3 +45,6 @@ module _ (b : ℕ) (f : ℕ → ℕ) (ws us : Words) where
 -- Fewer places.
 pub noted-from : (b : ℕ) (f : ℕ → ℕ) (lo lo′ hi : ℕ) (ws us : Words) → Noted b f lo hi ws us → lo ≤ lo′ → Noted b f lo′ hi ws us
 noted-from b f lo lo′ hi ws us n h = record { long = n .long; is = λ i l k. n .is i (omega arith) k; below = n .below }
+
+pub noted-to : (b : ℕ) (f : ℕ → ℕ) (lo hi hi′ : ℕ) (ws us : Words) → Noted b f lo hi ws us → hi′ ≤ hi → Noted b f lo hi′ ws us
+noted-to b f lo hi hi′ ws us n h = record { long = n .long; is = λ i l k. n .is i l (omega arith); below = n .below }

@@ -9,9 +9,6 @@ use native.Mathlib.Omega.{arith}
 use borrow.Author.Needs.{needs}
 use Rattle.marks.proofs.mark_keeps.Statement.{statement}
 use Rattle.marks.proofs.mark_keeps.Tie as tie
-use Rattle.marks.proofs.mark_keeps.Reads as reads
-use Rattle.marks.proofs.mark_keeps.Lts as lts
-use Rattle.marks.proofs.keep_at.Reads as keep-at-reads
 
 abbrev Inv-loop : tie.InvT-loop
 Inv-loop s len ws₀ h b i₀ ws i = (i ≤ length s) × Noted b (λ j. bit (chain-keeps s len (flag ws₀ h) j)) i (length s) ws₀ ws
@@ -19,53 +16,41 @@ Inv-loop s len ws₀ h b i₀ ws i = (i ≤ length s) × Noted b (λ j. bit (cha
 abbrev μ-loop : tie.MeasureT-loop
 μ-loop s len ws₀ h b i₀ ws i = i
 
--- src/lib.rt:63:5
 loop-holds : tie.Need-loop-holds Inv-loop μ-loop
 loop-holds c = search (needs, noted-none)
 
--- src/lib.rt:64:43
 sub-keep-at : tie.Need-sub-keep-at Inv-loop μ-loop
 sub-keep-at c = search needs
 
--- src/lib.rt:64:13
 keep-at-requires : tie.Need-keep-at-requires Inv-loop μ-loop
 keep-at-requires c κs = search needs
 
--- src/lib.rt:65:17
 sub-ws : tie.Need-sub-ws Inv-loop μ-loop
 sub-ws c = search needs
 
--- src/lib.rt:65:12
 add-ws : tie.Need-add-ws Inv-loop μ-loop
 add-ws c = search needs
 
--- src/lib.rt:65:9
 mul-ws : tie.Need-mul-ws Inv-loop μ-loop
 mul-ws c = search needs
 
--- src/lib.rt:65:9
 slice-write-ws : tie.Need-slice-write-ws Inv-loop μ-loop
 slice-write-ws c = search needs
 
--- src/lib.rt:66:9
 sub-i : tie.Need-sub-i Inv-loop μ-loop
 sub-i c = search needs
 
--- src/lib.rt:63:5
 loop-less : tie.Need-loop-less Inv-loop μ-loop
 loop-less c = search needs
 
--- src/lib.rt:63:5
 loop-again : tie.Need-loop-again Inv-loop μ-loop
 loop-again c =
     let v = c .before .before .before .loop .inv in
     (omega arith, keep-more _ _ (omega arith) _ _ _ _ (omega arith) _ _ (omega arith) (omega arith) (omega arith) (v .1) (c .keep-at .ensures))
 
--- src/lib.rt:58:1
 same-length : tie.Need-same-length Inv-loop μ-loop
 same-length c = search needs
 
--- src/lib.rt:58:1
 returns : tie.Need-returns Inv-loop μ-loop
 returns c = search (needs, noted-from)
 

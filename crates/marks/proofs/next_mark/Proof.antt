@@ -3,28 +3,19 @@ use Rattle.marks.specs.Keeping.{next-none, next-past, next-noted}
 use borrow.Author.Needs.{needs}
 use Rattle.marks.proofs.next_mark.Statement.{statement}
 use Rattle.marks.proofs.next_mark.Tie as tie
-use Rattle.marks.proofs.next_mark.Reads as reads
-use Rattle.marks.proofs.next_mark.Lts as lts
-use Rattle.words.proofs.next.Reads as next-reads
-use Rattle.words.proofs.offset.Reads as offset-reads
 
--- src/lib.rt:32:9
 next-requires : tie.Need-next-requires
 next-requires c κs = search needs
 
--- src/lib.rt:34:9
 returns : tie.Need-returns
 returns c = search (needs, next-none)
 
--- src/lib.rt:37:9
 returns-2 : tie.Need-returns-2
 returns-2 c = search (needs, next-past)
 
--- src/lib.rt:39:5
 offset-requires : tie.Need-offset-requires
 offset-requires c κs = search needs
 
--- src/lib.rt:29:1
 returns-3 : tie.Need-returns-3
 returns-3 c = search (needs, next-noted)
 
