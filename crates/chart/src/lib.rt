@@ -15,13 +15,7 @@ pub mod scope; // scope.rt: `get_member`, `visible`
 pub fn field_at(s: &[u32], p: usize, k: usize) -> usize
     ensures { λ r. ⌜ r ≡ at (now (s .entry)) (p + k) ⌝ }
 {
-    wide(words::offset(s, p, k))
-}
-
-fn wide(w: u32) -> usize
-    ensures { λ r. ⌜ r ≡ w ⌝ }
-{
-    w as usize
+    words::wide(words::offset(s, p, k))
 }
 
 // Word k of record `id` of the chain that header word h heads.
@@ -236,7 +230,7 @@ pub fn index_chain(s: &[u32], head: u32, ws: &mut [u32], b: usize) -> usize
             return n;
         }
         ws[b + n] = i;
-        i = words::word(s, wide(i));
+        i = words::word(s, words::wide(i));
         n += 1;
     }
     n

@@ -1,0 +1,5 @@
+pub mod Folds
+pub mod NodeLaws
+pub mod Tests
+pub mod Known
+pub mod Value
