@@ -3,3 +3,4 @@ pub mod NodeLaws
 pub mod Tests
 pub mod Known
 pub mod Value
+pub mod Tables

@@ -4,4 +4,5 @@
 pub mod fits; // fits.rt: the tests of one record
 pub mod folds; // folds.rt: what is noted of a chain, and the pass from the slice's end
 pub mod limits; // limits.rt: the limits of document 01, and the size of a plane
-pub mod planes; // planes.rt: what is noted of each place, and the planes of a table
+pub mod planes; // planes.rt: what is noted of each place
+pub mod prepare; // prepare.rt: the planes that 8 and 12 read
