@@ -4,3 +4,5 @@ pub mod Tests
 pub mod Known
 pub mod Value
 pub mod Tables
+pub mod Kept
+pub mod Verdict

@@ -113,3 +113,12 @@ pub fn prepare_sheet(s: &[u32], ws: &mut [u32])
     prepare_tables(s, s, ws);
     prepare_links(s, ws);
 }
+
+// The planes of a question's tables.
+pub fn prepare_question(s: &[u32], q: &[u32], ws: &mut [u32])
+    requires { ⌜ (length (now s) ≤ limit·sheet) × (length (now q) ≤ limit·sheet) × (planes·room ≤ length (now ws)) ⌝ }
+    ensures { λ _. ⌜ Tables (now (s .entry)) (now (q .entry)) (now (ws .exit)) ⌝ }
+{
+    prepare_known(s, ws);
+    prepare_tables(s, q, ws);
+}
