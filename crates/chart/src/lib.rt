@@ -3,7 +3,7 @@
 ghost use mathlib.Core.Path.{_≡_};
 ghost use Prim.Native.Nat.{_+_, _<_, _≤_};
 ghost use lib.ListN.{length};
-ghost use Rattle.rules.specs.Sheet.{at, chain, records, many, field, impl-flag};
+ghost use Rattle.rules.specs.Sheet.{at, chain, many, field, impl-flag};
 ghost use Rattle.rules.specs.Layout.{header·definitions, header·generics, header·traits, header·impls, header·opaques, header·structs, header·enums, header·unions, header·closures, header·imports, definition·parent, definition·trait-vis, definition·trait, definition·bindings, definition·named, definition·implicit, import·definition, generics·type-params, generics·table, generics·impl-params, trait·definition, trait·arity, trait·inherent, impl·generics, impl·flags, impl·trait, impl·table, impl·args, owner·definition, owner·self-dual, closure·flex};
 ghost use Rattle.chart.specs.Index.{Indexed};
 

@@ -5,16 +5,16 @@ use mathlib.Core.Bool.{Bool, true, false}
 use mathlib.Core.List.{[], _∷_}
 use mathlib.Core.Logic.{_≢_, _⊎_, inl, inr, ⊎-elim, _↔_}
 use native.Mathlib.Decide.{ℕ-discrete, decLe, decLt}
-use native.Mathlib.Nat.{not-suc-le-zero, le-of-suc-le-suc}
+use native.Mathlib.Nat.{not-suc-le-zero}
 use native.Mathlib.Omega.{arith}
 use borrow.Author.Tests.{le-leb, lt-leb, lt-ltb, le-ltb}
-use lib.Dec.{T, eqb, leb, ltb, leb→le, le→leb}
+use lib.Dec.{T, leb, ltb, leb→le, le→leb}
 use lib.ListN.{length, set, length-set}
 use lib.Seq.{getD-set-same, getD-set-other}
 use Rattle.rules.specs.Lists.{Words, all}
 use Rattle.rules.specs.Limits.{limit·sheet}
 use Rattle.rules.specs.Sheet.{at, chain, chain-of}
-use Rattle.rules.specs.Chains.{no-heads, chain-keeps}
+use Rattle.rules.specs.Chains.{no-heads}
 use Rattle.rules.specs.ChainLaws.{Keeps, at-end, at-record, chain-rule, chain-step}
 use Rattle.rules.specs.Members.{same-test, all-cons, In, first, later}
 

@@ -1,8 +1,8 @@
 -- What 7 and 11 promise of the heads in records: their chains go forward.
-use Prim.Native.Nat.{ℕ, zero, suc, _+_, _≤_, _<_}
-use mathlib.Core.Path.{_≡_, refl, sym, subst}
+use Prim.Native.Nat.{ℕ, _+_, _<_}
+use mathlib.Core.Path.{_≡_, refl}
 use mathlib.Core.Bool.{Bool, true, false, _&&_}
-use mathlib.Core.List.{List, [], _∷_}
+use mathlib.Core.List.{[], _∷_}
 use mathlib.Core.Logic.{_⊎_, inl, inr}
 use native.Mathlib.Omega.{arith}
 use lib.Dec.{T}
@@ -11,7 +11,7 @@ use Rattle.rules.specs.Lists.{Words, holds}
 use Rattle.rules.specs.Layout.{header·definitions, header·generics, header·impls, header·length, definition·bindings, definition·named, definition·implicit, definition·length, generics·table, generics·impl-params, generics·length, impl·table, impl·args, impl·length, impl-param·args, impl-param·length, binding·length, member·length, node·children, node·length, cell·length, question·table, question·args, question·length}
 use Rattle.rules.specs.Sheet.{at, chain, records}
 use Rattle.rules.specs.Chains.{zero-or-from, chain-keeps, head-keeps, no-heads, cells-keep, nodes-keep, plain-keep, definitions-keep, impl-params-keep, generics-keep, impls-keep, sheet-keeps, impl-question-keeps, flex-question-keeps}
-use Rattle.rules.specs.ChainLaws.{Keeps, chain-rule, keeps-heads}
+use Rattle.rules.specs.ChainLaws.{chain-rule, keeps-heads}
 use Rattle.rules.specs.CheckLaws.{both, part}
 use Rattle.rules.specs.Members.{In}
 use Rattle.values.specs.Folds.{Forward, keeps-forward}

@@ -1,25 +1,23 @@
 -- The planes that 8 and 12 read, one word for each chain: how long it is, and the most that its cells, nodes, bindings, members or impl parameters ask for.
-use Prim.Native.Nat.{ℕ, zero, suc, _+_, _*_, _≤_, _<_}
-use mathlib.Core.Path.{_≡_, refl, sym, _∙_, ap, subst}
+use Prim.Native.Nat.{ℕ, _+_, _*_, _≤_, _<_}
+use mathlib.Core.Path.{_≡_, sym, _∙_, ap, subst}
 use mathlib.Core.Bool.{Bool, true, false, not}
-use mathlib.Core.List.{[], _∷_}
-use mathlib.Core.Logic.{_≢_, _⊎_, inl, inr, ⊎-elim}
-use native.Mathlib.Nat.{not-suc-le-zero}
+use mathlib.Core.Logic.{_⊎_, inl, inr}
 use native.Mathlib.Omega.{arith}
 use native.Mathlib.Decide.{ℕ-discrete}
-use lib.ListN.{length, set, length-set}
+use lib.ListN.{length, set}
 use lib.Seq.{getD-set-same, getD-set-other}
 use Rattle.rules.specs.Lists.{Words, bit}
 use Rattle.rules.specs.Limits.{limit·sheet}
 use Rattle.rules.specs.Layout.{header·traits, header·length, node·children, node·kind, node·inverted, node·id, impl-param·args, impl-param·trait}
-use Rattle.rules.specs.Sheet.{at, chain, records, many}
+use Rattle.rules.specs.Sheet.{at, chain, many}
 use Rattle.rules.specs.ChainLaws.{at-end, at-record}
-use Rattle.rules.specs.Members.{In, first, later, in-cases, in-empty}
+use Rattle.rules.specs.Members.{In, in-cases, in-empty}
 use Rattle.rules.specs.Values.{binding-ok, member-ok}
 use Rattle.chart.specs.Index.{Indexed, indexed-record, indexed-many, many-within, chain-within}
 use Rattle.marks.specs.Planes.{Noted}
 use Rattle.values.specs.Folds.{Forward, forward-step, chain-none, chain-mark, mark-same, plane, fold, most, fold-count, fold-same, Folded, folded, head-noted}
-use Rattle.values.specs.NodeLaws.{bad, bound, cell-need, core, args-core, node-core, node-need, node-child, param-core, param-child}
+use Rattle.values.specs.NodeLaws.{bad, bound, core, args-core, node-core, node-need, node-child, param-core, param-child}
 use Rattle.values.specs.Known.{Known, known-same}
 use Rattle.values.specs.Value.{value, table-value, link-value, node-mark, param-mark}
 
@@ -81,11 +79,8 @@ counted-more s us h c r m n lm lr lh e f = record { is = λ j k. go j k (ℕ-dis
 pub counted-all : (s us : Words) (h : ℕ) → Counted s h us → header·length ≤ h → Counted s header·length us
 counted-all s us h n l = record { is = λ j k. n .is j (omega arith) }
 
-pub traits-room : (s ws : Words) → length s ≤ limit·sheet → planes·room ≤ length ws → limit·sheet + many s header·traits ≤ length ws
-traits-room s ws small room = omega (arith, many-within s header·traits)
-
-pub traits-room-kept : (s ws us : Words) → length s ≤ limit·sheet → planes·room ≤ length ws → length us ≡ length ws → limit·sheet + many s header·traits ≤ length us
-traits-room-kept s ws us small room e = omega (arith, many-within s header·traits)
+pub traits-room : (s ws us : Words) → length s ≤ limit·sheet → planes·room ≤ length ws → length us ≡ length ws → limit·sheet + many s header·traits ≤ length us
+traits-room s ws us small room e = omega (arith, many-within s header·traits)
 
 pub known-made : (s ws us : Words) (n : ℕ) → Counted s header·length ws → Indexed s (at s header·traits) ws us limit·sheet n → Known s us
 known-made s ws us n c x = record {
@@ -303,6 +298,3 @@ charted s ws us small t l = record {
   };
   links = l .links;
 }
-
-pub space-tables : (s w ws us : Words) → length s ≤ limit·sheet → length w ≤ limit·sheet → planes·room ≤ length us → Tables s w us → Space s w us
-space-tables s w ws us small part room t = record { known = t .known; small = small; part = part; room = room }

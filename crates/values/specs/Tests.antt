@@ -1,11 +1,11 @@
 -- Two, three or six tests together, as the code that makes them asks for them.
 use mathlib.Core.Path.{_≡_, refl, sym, _∙_, ap}
-use mathlib.Core.Bool.{Bool, true, false, not, _||_}
+use mathlib.Core.Bool.{Bool, true, false, _||_}
 use mathlib.Core.List.{[], _∷_}
 use Prim.Native.Nat.{ℕ, _<_, _≤_}
 use borrow.Author.Tests.{lt-ltb, le-ltb}
 use lib.Dec.{eqb, ltb}
-use Rattle.rules.specs.Lists.{holds, bit}
+use Rattle.rules.specs.Lists.{holds}
 
 one : (x : Bool) → x ≡ holds (x ∷ [])
 unfolding holds
@@ -47,13 +47,6 @@ four a b c d x y r p q h = h ∙ (λ t. holds (p t ∷ q t ∷ [])) ∙ go a b
     go false b = refl
     go true false = refl
     go true true = sym (one (holds (c ∷ d ∷ [])))
-
--- A mark of a test that fails.
-pub bit-ok : (b : Bool) → b ≡ true → 0 ≡ bit (not b)
-bit-ok b e = ap (λ x. bit (not x)) (sym e)
-
-pub bit-bad : (b : Bool) → b ≡ false → 1 ≡ bit (not b)
-bit-bad b e = ap (λ x. bit (not x)) (sym e)
 
 -- An unknown is not inverted.
 pub known-either : (k inv : ℕ) → 0 < k → true ≡ (ltb 0 k || eqb inv 0)

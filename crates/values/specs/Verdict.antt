@@ -1,25 +1,25 @@
 -- 8 and 12 as they are read off the planes: tables, arguments, each kind of record, the records of a chain, the chains of the header.
-use Prim.Native.Nat.{ℕ, zero, suc, _+_, _-_, _/_, _≤_, _<_}
+use Prim.Native.Nat.{ℕ, zero, suc, _+_, _-_, _/_, _≤_}
 use mathlib.Core.Path.{_≡_, refl, sym, _∙_, ap, subst}
 use mathlib.Core.Bool.{Bool, true, false, _&&_, _||_}
 use mathlib.Core.List.{List, [], _∷_, _++_}
 use mathlib.Core.Logic.{_≢_}
-use native.Mathlib.Nat.{sub-zero, suc-sub-suc, zero-add}
+use native.Mathlib.Nat.{zero-add}
 use native.Mathlib.Omega.{arith}
 use borrow.Author.Tests.{eq-eqb, ne-eqb, le-leb}
 use lib.Dec.{T, eqb, ltb, leb, eqb→eq}
 use lib.ListN.{length}
 use Rattle.rules.specs.Lists.{Words, all, holds, range}
-use Rattle.rules.specs.Limits.{limit·sheet, limit·definitions, limit·impls, limit·type-params, limit·impl-params, limit·arity}
+use Rattle.rules.specs.Limits.{limit·definitions, limit·impls, limit·type-params, limit·impl-params, limit·arity}
 use Rattle.rules.specs.Layout.{header·definitions, header·generics, header·traits, header·impls, header·opaques, header·structs, header·enums, header·unions, header·closures, header·imports, header·prelude, header·fork, header·drop, header·duplicate, header·erase, definition·parent, definition·trait-vis, definition·trait, definition·bindings, definition·named, definition·implicit, import·definition, generics·type-params, generics·table, generics·impl-params, impl-param·trait, impl-param·args, trait·definition, trait·arity, trait·inherent, impl·generics, impl·flags, impl·trait, impl·table, impl·args, flag·all, owner·definition, owner·self-dual, closure·flex, flex·both, node·children, question·table, question·trait, question·args, question·type, question·zero}
 use Rattle.rules.specs.Sheet.{at, chain, chain-of, records, many, field, type-params}
 use Rattle.rules.specs.Members.{In, first, later, same-test}
 use Rattle.rules.specs.Values.{is-id, is-optional, is-vis, arity, binding-ok, member-ok, table-ok, args-ok, definition-ok, definitions-ok, generics-ok, trait-ok, impl-ok, opaque-ok, struct-ok, closure-ok, import-ok, flex-trait-ok, sheet-values, impl-question-values, flex-question-values}
 use Rattle.values.specs.Folds.{Forward, chain-mark}
-use Rattle.values.specs.NodeLaws.{word·most, bad, all-bad, args-core, table-whole, args-whole, params-whole}
+use Rattle.values.specs.NodeLaws.{word·most, all-bad, args-core, table-whole, args-whole, params-whole}
 use Rattle.values.specs.Known.{Known}
-use Rattle.values.specs.Tables.{plane·lengths, plane·bounds, plane·cores, plane·needs, plane·kids, plane·bindings, plane·members, plane·params, plane·args, Rows, Tables, Links, Charted}
-use Rattle.values.specs.Kept.{Definition, Generics, Impl, Kept, asked, flex-asked}
+use Rattle.values.specs.Tables.{plane·lengths, plane·bounds, plane·cores, plane·needs, plane·kids, plane·bindings, plane·members, plane·params, plane·args, Rows, Tables, Charted}
+use Rattle.values.specs.Kept.{Kept, asked, flex-asked}
 use Rattle.rules.specs.Chains.{impl-question-keeps, flex-question-keeps}
 
 one-whole : (b : Bool) → holds (b ∷ []) ≡ b

@@ -1,8 +1,6 @@
 // The values of each record, read off the planes, and of all records of a sheet.
 ghost use mathlib.Core.Path.{_≡_};
-ghost use mathlib.Core.List.{[], _∷_};
-ghost use lib.ListN.{length};
-ghost use Prim.Native.Nat.{_+_, _≤_};
+ghost use Prim.Native.Nat.{_≤_};
 ghost use Rattle.rules.specs.Lists.{all, range};
 ghost use Rattle.rules.specs.Sheet.{type-params};
 ghost use Rattle.rules.specs.Layout.{node·children, impl-param·args, header·definitions, header·generics, header·impls};

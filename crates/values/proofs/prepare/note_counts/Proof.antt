@@ -1,5 +1,5 @@
 -- `note_counts`: so many header words are counted.
-use Prim.Native.Nat.{_≤_, _-_}
+use Prim.Native.Nat.{_-_}
 use mathlib.Core.Path.{_≡_}
 use lib.ListN.{length}
 use Rattle.rules.specs.Layout.{header·length}

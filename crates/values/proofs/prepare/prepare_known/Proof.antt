@@ -1,5 +1,5 @@
 -- `prepare_known`: counts, then the index of traits.
-use Rattle.values.specs.Tables.{traits-room-kept, known-made}
+use Rattle.values.specs.Tables.{traits-room, known-made}
 use borrow.Author.Needs.{needs}
 use Rattle.values.proofs.prepare.prepare_known.Statement.{statement}
 use Rattle.values.proofs.prepare.prepare_known.Tie as tie
@@ -8,7 +8,7 @@ note-counts-requires : tie.Need-note-counts-requires
 note-counts-requires c κs = search needs
 
 index-requires : tie.Need-index-requires
-index-requires c κs = search (needs, traits-room-kept)
+index-requires c κs = search (needs, traits-room)
 
 same-length : tie.Need-same-length
 same-length c = search needs
