@@ -1,0 +1,65 @@
+//! The oracle: Vine's impl finder, the Rust of docs/src unchanged, run on the sheets and questions of document 01.
+//!
+//! `components`, `features` and `structures` hold the six files of docs/src, included byte for byte, and shims for what
+//! those files name. Everything else is ours.
+
+// The Rust names vine_util's index vectors and macros; here they are this crate's own.
+extern crate self as vine_util;
+
+#[path = "shim/idx.rs"]
+pub mod idx;
+
+pub mod answer;
+pub mod answers;
+pub mod case;
+pub mod checks;
+pub mod rust;
+pub mod sheet;
+pub mod worker;
+
+#[allow(dead_code)]
+pub mod components {
+  pub mod finder {
+    include!(concat!(env!("OUT_DIR"), "/finder.rs"));
+    include!("access/finder.rs");
+  }
+  pub mod loader {
+    include!("shim/loader.rs");
+  }
+  pub mod synthesizer {
+    include!("shim/synthesizer.rs");
+  }
+}
+
+#[allow(dead_code)]
+pub mod features {
+  pub mod flex {
+    include!(concat!(env!("OUT_DIR"), "/flex.rs"));
+  }
+  pub mod builtin {
+    include!("shim/builtin.rs");
+  }
+}
+
+#[allow(dead_code)]
+pub mod structures {
+  pub mod chart {
+    include!(concat!(env!("OUT_DIR"), "/chart.rs"));
+  }
+  pub mod signatures {
+    include!(concat!(env!("OUT_DIR"), "/signatures.rs"));
+  }
+  pub mod types {
+    include!(concat!(env!("OUT_DIR"), "/types.rs"));
+    include!("access/types.rs");
+  }
+  pub mod ast {
+    include!("shim/ast.rs");
+  }
+  pub mod diag {
+    include!("shim/diag.rs");
+  }
+  pub mod tir {
+    include!("shim/tir.rs");
+  }
+}
