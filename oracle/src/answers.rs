@@ -1,11 +1,11 @@
-//! What a case line is answered with: checks first, then the Rust.
+//! What a case line is answered with: checks first, then the Rust; the model too where limits 14 to 17 are asked for.
 
 use std::time::Duration;
 
 use crate::{
   case::{Answer, Case},
   checks::{check_call, check_list},
-  rust,
+  model, rust,
 };
 
 #[derive(Debug, Clone)]
@@ -14,20 +14,23 @@ pub struct Options {
   pub limit: u32,
   /// The workspace's constant.
   pub work: u32,
+  /// Whether limits 14 to 17 hold, as document 01 has them; the Rust alone has none.
+  pub limits: bool,
   /// How long one case may take.
   pub timeout: Duration,
 }
 
 impl Default for Options {
   fn default() -> Self {
-    Options { limit: rust::STEPS_LIMIT, work: 1_048_576, timeout: Duration::from_secs(1) }
+    let timeout = Duration::from_secs(1);
+    Options { limit: rust::STEPS_LIMIT, work: 1_048_576, limits: false, timeout }
   }
 }
 
 impl Options {
   /// Takes the options out of a command's arguments.
   pub fn take(args: &mut Vec<String>) -> Result<Options, String> {
-    let mut options = Options::default();
+    let mut options = Options { limits: take_flag(args, "--limits"), ..Options::default() };
     if let Some(limit) = take_number(args, "--limit")? {
       if limit > u64::from(rust::STEPS_LIMIT) {
         return Err("a limit over 2,000 cannot be had of the Rust".into());
@@ -44,7 +47,10 @@ impl Options {
   }
 
   pub fn to_args(&self) -> Vec<String> {
-    vec!["--limit".into(), self.limit.to_string(), "--workspace".into(), self.work.to_string()]
+    let mut args =
+      vec!["--limit".into(), self.limit.to_string(), "--workspace".into(), self.work.to_string()];
+    args.extend(self.limits.then(|| "--limits".into()));
+    args
   }
 }
 
@@ -66,20 +72,55 @@ pub fn take_flag(args: &mut Vec<String>, name: &str) -> bool {
 
 pub fn answer_line(line: &str, options: &Options) -> String {
   match Case::parse(line) {
-    Ok(case) => answer(&case, options).to_string(),
+    Ok(case) => answer(&case, options),
     Err(why) => format!("error {why}"),
   }
 }
 
-pub fn answer(case: &Case, options: &Options) -> Answer {
+pub fn answer(case: &Case, options: &Options) -> String {
+  match (refused(case, options.work), options.limits) {
+    (Some(refused), _) => refused.to_string(),
+    (None, false) => of_rust(case, options.limit).to_string(),
+    (None, true) => of_both(case, options.limit),
+  }
+}
+
+/// The refusal of checks 1 to 13, if there is one.
+pub fn refused(case: &Case, work: u32) -> Option<Answer> {
   match case {
-    Case::List(sheet) => Answer::List(match check_list(sheet) {
-      Ok(()) => rust::list(sheet),
-      Err(refusal) => vec![refusal.number.to_string()],
-    }),
-    Case::Call(call) => match check_call(call, options.work) {
-      Ok(()) => rust::call(call, options.limit),
-      Err(refusal) => Answer::No(refusal.number, call.count),
-    },
+    Case::List(sheet) => {
+      check_list(sheet).err().map(|refusal| Answer::List(vec![refusal.number.to_string()]))
+    }
+    Case::Call(call) => {
+      check_call(call, work).err().map(|refusal| Answer::No(refusal.number, call.count))
+    }
+  }
+}
+
+fn of_rust(case: &Case, limit: u32) -> Answer {
+  match case {
+    Case::List(sheet) => Answer::List(rust::list(sheet)),
+    Case::Call(call) => rust::call(call, limit),
+  }
+}
+
+fn of_model(case: &Case, limit: u32) -> Answer {
+  match case {
+    Case::List(sheet) => Answer::List(model::list(sheet)),
+    Case::Call(call) => model::call(call, limit),
+  }
+}
+
+/// The model's refusal where a limit is met; else the Rust's answer, which must be the model's.
+fn of_both(case: &Case, limit: u32) -> String {
+  let modelled = of_model(case, limit);
+  if model::is_limit(&modelled) {
+    return modelled.to_string();
+  }
+  let answer = of_rust(case, limit);
+  if answer == modelled {
+    answer.to_string()
+  } else {
+    format!("differ {answer} | {modelled}")
   }
 }

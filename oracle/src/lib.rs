@@ -13,9 +13,17 @@ pub mod answer;
 pub mod answers;
 pub mod case;
 pub mod checks;
+pub mod draft;
+pub mod generate;
+pub mod layout;
+pub mod model;
+pub mod model_candidates;
+pub mod model_types;
+pub mod rng;
 pub mod rust;
 pub mod sheet;
 pub mod worker;
+pub mod world;
 
 #[allow(dead_code)]
 pub mod components {

@@ -6,15 +6,17 @@ use std::{
 };
 
 use crate::{
-  answer::{self, Found},
+  answer::{self, Exported, Found, Tree, tree},
   case::{Answer, Asked, Call},
   components::finder::{Finder, FinderCache, FlexImpls},
+  draft::Node,
   sheet::{Setting, read_impl_type},
   structures::{
     ast::Span,
     chart::{DefId, GenericsId},
     diag::{Diag, Diags},
-    types::{ImplType, Type, TypeCtx, Types},
+    tir::TirImpl,
+    types::{ImplType, Type, TypeCtx, TypeKind, Types},
   },
 };
 
@@ -91,7 +93,8 @@ impl Run<'_> {
     let count = finder.steps - self.shift;
     match ended {
       Ok(Ok(tree)) => {
-        Answer::Ok(count, self.pack(&Found { fork: Some(tree), ..Found::default() }, &types))
+        let found = Found { fork: Some(plain_tree(&tree)), ..Found::default() };
+        Answer::Ok(count, self.pack(&found, &types))
       }
       Ok(Err(diag)) => Answer::No(refusal(&diag), count),
       Err(ClosingAssertion) => {
@@ -110,6 +113,7 @@ impl Run<'_> {
     let count = finder.steps - self.shift;
     match ended {
       Ok(Ok(FlexImpls { inv, fork, drop, self_inverse })) => {
+        let [fork, drop] = [fork, drop].map(|tree| tree.as_ref().map(plain_tree));
         let found = Found { fork, drop, inverted: inv.0, self_inverse };
         Answer::Ok(count, self.pack(&found, &types))
       }
@@ -124,7 +128,20 @@ impl Run<'_> {
   }
 
   fn pack(&self, found: &Found, types: &Types) -> Vec<u32> {
-    answer::pack(self.setting, found, types, self.nodes)
+    let nodes = 0..self.nodes as u32;
+    let TypeCtx { types, inner } =
+      types.export(|t| nodes.map(|n| t.transfer(&Type::from_word(2 * n))).collect::<Vec<_>>());
+    let nodes = types.nodes().map(|node| self.plain_node(node)).collect();
+    let types = inner.iter().map(|ty| ty.to_word()).collect();
+    answer::pack(found, &Exported { nodes, types })
+  }
+
+  fn plain_node(&self, node: Option<(bool, &TypeKind)>) -> Node {
+    node.map_or(Node::default(), |(inverted, kind)| {
+      let children = kind.child_types().iter().map(|ty| ty.to_word()).collect();
+      let (kind, id) = self.setting.kind_and_id(kind);
+      Node { kind, inverted: u32::from(inverted), id, children }
+    })
   }
 }
 
@@ -132,7 +149,7 @@ impl Run<'_> {
 fn impl_again(finder: &mut Finder<'_>, asked: &Types, query: &ImplType, basic: bool) -> Found {
   let TypeCtx { types, inner: query } = asked.export(|t| t.transfer(query));
   let mut results = finder.results(&types, &query, basic).ok().unwrap();
-  Found { fork: results.pop().map(|result| result.inner), ..Found::default() }
+  Found { fork: results.pop().map(|result| plain_tree(&result.inner)), ..Found::default() }
 }
 
 /// What a flex call found whose closing assertion failed: its four searches are made again, and had one result at most.
@@ -141,13 +158,26 @@ fn flex_again(finder: &mut Finder<'_>, asked: &Types, ty: Type) -> Found {
   let (fork, drop) = (finder.chart.builtins.fork.unwrap(), finder.chart.builtins.drop.unwrap());
   let mut ask = |trait_, ty| {
     let results = finder.results(&types, &ImplType::Trait(trait_, vec![ty]), false);
-    results.unwrap_or_default().pop().map(|result| result.inner)
+    results.unwrap_or_default().pop().map(|result| plain_tree(&result.inner))
   };
   let upright = [ask(fork, sub_ty), ask(drop, sub_ty)];
   let inverse = [ask(fork, sub_ty.inverse()), ask(drop, sub_ty.inverse())];
   let inverted = upright == [None, None] && inverse != [None, None];
   let [fork, drop] = if inverted { inverse } else { upright };
   Found { fork, drop, inverted, self_inverse: asked.self_inverse(ty) }
+}
+
+fn plain_tree(tree: &TirImpl) -> Tree {
+  match tree {
+    TirImpl::Param(n) => Tree::leaf(tree::PARAM, *n),
+    TirImpl::Def(id, children) => {
+      let children = children.iter().map(plain_tree).collect();
+      Tree { kind: tree::DEF, id: id.0 as u32, children }
+    }
+    TirImpl::ForkClosure(id) => Tree::leaf(tree::FORK_CLOSURE, id.0),
+    TirImpl::DropClosure(id) => Tree::leaf(tree::DROP_CLOSURE, id.0),
+    _ => unreachable!("a tree that no search over a sheet finds"),
+  }
 }
 
 struct ClosingAssertion;
