@@ -104,6 +104,11 @@ fn of_rust(case: &Case, limit: u32) -> Answer {
   }
 }
 
+/// What document 01 gives, by checks and model alone.
+pub fn of_document(case: &Case, options: &Options) -> Answer {
+  refused(case, options.work).unwrap_or_else(|| of_model(case, options.limit))
+}
+
 fn of_model(case: &Case, limit: u32) -> Answer {
   match case {
     Case::List(sheet) => Answer::List(model::list(sheet)),

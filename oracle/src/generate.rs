@@ -1,12 +1,14 @@
 //! Cases, seeded and repeatable: sheets and questions that pass checks 1 to 13, of many themes.
 
 use crate::{
-  case::{ANSWER_WORDS, Asked, Call, Case, WORK_WORDS},
+  case::{ANSWER_WORDS, Answer, Asked, Call, Case, WORK_WORDS},
   checks::check_call,
-  draft::{Binding, Generics, Impl, Query, Table, flex_question, impl_question},
+  draft::{Binding, Definition, Generics, Impl, Member, Query, Table, Trait, flex_question, impl_question},
   layout::Style,
+  model,
   rng::Rng,
-  sheet::kind,
+  rust::STEPS_LIMIT,
+  sheet::{flag, kind},
   world::{Asking, World, shuffle_nodes},
 };
 
@@ -14,26 +16,43 @@ use crate::{
 pub fn case(seed: u64, index: u64) -> Case {
   let mut rng = Rng::new(seed.wrapping_mul(0x9e37_79b9).wrapping_add(index).rotate_left(17) ^ index);
   loop {
-    let call = random_call(&mut rng);
-    if check_call(&call, WORK_WORDS).is_ok() {
-      return if rng.chance(3) { Case::List(call.sheet) } else { Case::Call(call) };
+    let mut call = random_call(&mut rng);
+    match check_call(&call, WORK_WORDS) {
+      Ok(()) if rng.chance(3) => return Case::List(call.sheet),
+      Ok(()) => {
+        rein_in(&mut call, &mut rng);
+        return Case::Call(call);
+      }
+      // Only its length may be wrong with a case.
+      Err(refusal) => assert!(refusal.number < 3, "{} in {}", refusal.why, Case::Call(call)),
     }
   }
 }
 
+/// Nested to 2,000 steps the Rust takes seconds: most searches nested too deep begin near the limit.
+fn rein_in(call: &mut Call, rng: &mut Rng) {
+  let deep = |call: &Call| matches!(model::call(call, STEPS_LIMIT), Answer::No(15, _));
+  if call.count < 1_900 && deep(call) && rng.chance(99) {
+    call.count = rng.range(1_940, 1_990) as u32;
+  }
+}
+
 fn random_call(rng: &mut Rng) -> Call {
-  let themes: [(usize, fn(&mut Rng) -> Call); 11] = [
-    (40, impl_of_a_world),
-    (24, flex_of_a_world),
-    (8, nested),
-    (6, two_ways_flexible),
-    (6, fork_against_drop),
-    (5, against_its_inverse),
+  let themes: [(usize, fn(&mut Rng) -> Call); 14] = [
+    (36, impl_of_a_world),
+    (22, flex_of_a_world),
+    (7, nested),
+    (5, two_ways_flexible),
+    (5, fork_against_drop),
+    (4, against_its_inverse),
     (4, closures),
-    (3, many_results),
+    (4, many_results),
     (2, large_trees),
     (3, many_nodes),
     (3, without_end),
+    (6, members),
+    (5, behind_refs),
+    (1, large_question),
   ];
   let weights: Vec<usize> = themes.iter().map(|theme| theme.0).collect();
   themes[rng.weighted(&weights)].1(rng)
@@ -205,7 +224,7 @@ fn nested(rng: &mut Rng) -> Call {
 
 /// An impl bound publicly in definition 0, named in some cases.
 fn add_bound_impl(world: &mut World<'_>, generics: u32, trait_: u32, table: Table, args: Vec<u32>) {
-  let flags = if world.rng.chance(30) { crate::sheet::flag::NAMED } else { 0 };
+  let flags = if world.rng.chance(30) { flag::NAMED } else { 0 };
   let query = Query { trait_: trait_ + 1, args };
   world.sheet.impls.push(Impl { generics, flags, table, query });
   let impl_ = world.sheet.impls.len() as u32 - 1;
@@ -411,7 +430,8 @@ fn many_nodes(rng: &mut Rng) -> Call {
   let children: Vec<u32> = (0..many)
     .map(|n| {
       let param = table.add(kind::PARAM, n, &[]);
-      if n > 0 && world.rng.chance(60) { table.add(kind::REF, 0, &[param]) } else { param }
+      let refs = if n > 0 { world.rng.weighted(&[20, 40, 40]) } else { 0 };
+      (0..refs).fold(param, |word, _| table.add(kind::REF, 0, &[word]))
     })
     .collect();
   let round = table.add(kind::STRUCT, 1, &children);
@@ -423,7 +443,7 @@ fn many_nodes(rng: &mut Rng) -> Call {
   let mut asking = Asking::default();
   let unknown = asking.table.add(kind::UNKNOWN, 0, &[]);
   let mut word = asking.table.add(kind::STRUCT, 0, &[]);
-  for _ in 0..world.rng.range(7, 15) {
+  for _ in 0..world.rng.range(8, 15) {
     let mut children = vec![word];
     children.extend((1..many).map(|_| if world.rng.chance(70) { unknown } else { asking.table.add(kind::UNKNOWN, 0, &[]) }));
     word = asking.table.add(kind::STRUCT, 1, &children);
@@ -449,10 +469,122 @@ fn without_end(rng: &mut Rng) -> Call {
   let mut asking = Asking::default();
   let inner = asking.table.add(world.rng.pick(&[kind::UNKNOWN, kind::NEVER]), 0, &[]);
   let word = asking.table.add(kind::STRUCT, 0, &[inner]);
-  let mut call = call(world, asking, Question::Impl(Query { trait_: trait_ + 1, args: vec![word] }), 0);
-  // Nested 2,000 deep the Rust takes seconds: most of these begin near the limit.
-  if !(1_900..=2_100).contains(&call.count) {
-    call.count = 1_960 + call.sheet.len() as u32 % 40;
+  call(world, asking, Question::Impl(Query { trait_: trait_ + 1, args: vec![word] }), 0)
+}
+
+/// Definitions that reach each other by members and imports, in circles too; impls of traits without arguments.
+fn members(rng: &mut Rng) -> Call {
+  let mut world = World::bare(rng);
+  let many = world.rng.range(2, 7);
+  world.sheet.imports = (0..world.rng.range(0, 3)).map(|_| world.rng.range(0, many) as u32).collect();
+  world.sheet.definitions = (0..many).map(|id| definition(&mut world, id, many)).collect();
+  for _ in 0..world.rng.range(1, 2) {
+    let definition = world.rng.below(many) as u32;
+    world.sheet.traits.push(Trait { definition, arity: 0, inherent: 0 });
   }
-  call
+  let traits = world.sheet.traits.len();
+  for _ in 0..world.rng.range(1, 3) {
+    let trait_ = 1 + world.rng.below(traits) as u32;
+    let flags = [0, flag::NAMED, flag::NAMED, flag::UNSAFE, flag::MANUAL][world.rng.weighted(&[46, 25, 25, 2, 2])];
+    world.sheet.impls.push(Impl { flags, query: Query { trait_, args: Vec::new() }, ..Impl::default() });
+    let impl_ = world.sheet.impls.len() as u32 - 1;
+    let at = world.rng.below(many);
+    let vis = vis(world.rng, many, 70);
+    world.sheet.definitions[at].bindings.push(Binding { vis, impl_ });
+  }
+  for id in 0..many {
+    if world.rng.chance(25) {
+      world.sheet.definitions[id].trait_ = 1 + world.rng.below(traits) as u32;
+      world.sheet.definitions[id].trait_vis = vis(world.rng, many, 60);
+    }
+  }
+  if world.rng.chance(40) {
+    world.sheet.prelude = 1 + world.rng.below(many) as u32;
+  }
+  world.source = world.rng.below(many) as u32;
+  let trait_ = 1 + world.rng.below(traits) as u32;
+  call(world, Asking::default(), Question::Impl(Query { trait_, args: Vec::new() }), 0)
+}
+
+/// A vis over so many definitions: public in so many percent.
+fn vis(rng: &mut Rng, definitions: usize, public: usize) -> u32 {
+  if rng.chance(public) { 0 } else { 1 + rng.below(definitions) as u32 }
+}
+
+/// A definition of so many, with members.
+fn definition(world: &mut World<'_>, id: usize, many: usize) -> Definition {
+  let parent = if id > 0 && world.rng.chance(60) { 1 + world.rng.below(id) as u32 } else { 0 };
+  let members = |world: &mut World<'_>| -> Vec<Member> {
+    (0..world.rng.weighted(&[45, 35, 20]))
+      .map(|_| {
+        let vis = vis(world.rng, many, 60);
+        let imports = world.sheet.imports.len();
+        let import = imports > 0 && world.rng.chance(30);
+        let id = world.rng.below(if import { imports } else { many }) as u32;
+        Member { vis, import: u32::from(import), id }
+      })
+      .collect()
+  };
+  let (named, implicit) = (members(world), members(world));
+  Definition { parent, named, implicit, ..Definition::default() }
+}
+
+/// Impls in the module of an inherent argument, which may stand behind Refs.
+fn behind_refs(rng: &mut Rng) -> Call {
+  let mut world = World::bare(rng);
+  world.sheet.definitions = vec![Definition::default(); 3];
+  let arity = world.rng.range(1, 2) as u32;
+  let inherent = world.rng.range(1, arity as usize) as u32;
+  world.sheet.traits.push(Trait { definition: 1, arity, inherent });
+  world.sheet.opaques = vec![2];
+  world.sheet.structs = vec![(2, 1), (1, 0)];
+  world.sheet.enums = vec![2];
+  world.sheet.unions = vec![(2, 1)];
+  world.sheet.closures = vec![3];
+  world.sheet.generics.push(Generics { type_params: arity, ..Generics::default() });
+  for _ in 0..world.rng.range(1, 2) {
+    let mut table = Table::default();
+    let args = (0..arity).map(|n| {
+      let param = table.add(kind::PARAM, n, &[]);
+      if world.rng.chance(30) { table.add(kind::REF, 0, &[param]) } else { param }
+    });
+    let query = Query { trait_: 1, args: args.collect() };
+    let flags = if world.rng.chance(40) { flag::NAMED } else { 0 };
+    world.sheet.impls.push(Impl { generics: 1, flags, table, query });
+    let impl_ = world.sheet.impls.len() as u32 - 1;
+    let at = world.rng.weighted(&[10, 20, 70]);
+    let vis = vis(world.rng, 3, 85);
+    world.sheet.definitions[at].bindings.push(Binding { vis, impl_ });
+  }
+  let mut asking = Asking::default();
+  let args = (0..arity)
+    .map(|_| {
+      let leaves =
+        [kind::OPAQUE, kind::STRUCT, kind::ENUM, kind::UNION, kind::UNKNOWN, kind::ERROR, kind::TUPLE, kind::FN];
+      let leaf = leaves[world.rng.weighted(&[15, 25, 10, 10, 8, 8, 6, 4])];
+      let mut word = asking.table.add(leaf, 0, &[]);
+      for _ in 0..world.rng.weighted(&[35, 35, 20, 10]) {
+        word = asking.table.add(kind::REF, 0, &[word ^ u32::from(world.rng.chance(10))]);
+      }
+      word ^ u32::from(world.rng.chance(10))
+    })
+    .collect();
+  call(world, asking, Question::Impl(Query { trait_: 1, args }), 0)
+}
+
+/// A question of so many nodes that the last import may pass the limit.
+fn large_question(rng: &mut Rng) -> Call {
+  let mut world = World::bare(rng);
+  let trait_ = world.add_trait(1);
+  world.sheet.traits[0].inherent = 0;
+  world.sheet.generics.push(Generics { type_params: 1, ..Generics::default() });
+  let mut table = Table::default();
+  let param = table.add(kind::PARAM, 0, &[]);
+  add_bound_impl(&mut world, 1, trait_, table, vec![param]);
+  let mut asking = Asking::default();
+  let mut word = asking.table.add(kind::UNKNOWN, 0, &[]);
+  for _ in 0..world.rng.range(80, 143) {
+    word = asking.table.add(kind::REF, 0, &[word]);
+  }
+  call(world, asking, Question::Impl(Query { trait_: trait_ + 1, args: vec![word] }), 0)
 }

@@ -7,15 +7,21 @@ use std::{
 };
 
 use oracle::{
-  answers::{Options, take_number},
-  generate, worker,
+  answers::{self, Options, take_flag, take_number},
+  damage, generate,
+  tally::Tally,
+  worker,
 };
 
-const USAGE: &str = "oracle [--limit L] [--workspace W] [--timeout-ms T]   answers case lines on standard input";
+const USAGE: &str = "\
+oracle [--limits] [--stats]          answers the case lines on standard input
+oracle gen [--seed N] [--count K] [--damaged PERCENT]
+                                     prints case lines, and how often each outcome occurred
+options: --limit L (step limit, at most 2000), --workspace W, --timeout-ms T";
 
 fn main() -> ExitCode {
-  let mut args: Vec<String> = env::args().skip(1).collect();
-  match run(&mut args) {
+  let args: Vec<String> = env::args().skip(1).collect();
+  match run(args) {
     Ok(()) => ExitCode::SUCCESS,
     Err(why) => {
       eprintln!("oracle: {why}");
@@ -24,33 +30,77 @@ fn main() -> ExitCode {
   }
 }
 
-fn run(args: &mut Vec<String>) -> Result<(), String> {
-  let options = Options::take(args)?;
-  let seed = take_number(args, "--seed")?.unwrap_or(1);
-  let count = take_number(args, "--count")?.unwrap_or(1_000);
-  match args.iter().map(String::as_str).collect::<Vec<_>>()[..] {
-    [] => answer_all(&options).map_err(|e| e.to_string()),
-    ["gen"] => generate_all(seed, count).map_err(|e| e.to_string()),
-    ["worker"] => worker::serve(&options).map_err(|e| e.to_string()),
-    _ => Err(USAGE.into()),
+fn run(mut args: Vec<String>) -> Result<(), String> {
+  let options = Options::take(&mut args)?;
+  let told = |e: io::Error| e.to_string();
+  match args.first().map(String::as_str) {
+    Some("gen") => {
+      let from = Generated::take(&mut args)?;
+      nothing_left(&args[1..])?;
+      generate_all(&from, &options).map_err(told)
+    }
+    Some("worker") => worker::serve(&options).map_err(told),
+    _ => {
+      let stats = take_flag(&mut args, "--stats");
+      nothing_left(&args)?;
+      answer_all(&options, stats).map_err(told)
+    }
   }
+}
+
+fn nothing_left(args: &[String]) -> Result<(), String> {
+  if args.is_empty() { Ok(()) } else { Err(format!("{}?\n{USAGE}", args.join(" "))) }
 }
 
 /// Answers case lines, one to a line.
-fn answer_all(options: &Options) -> io::Result<()> {
+fn answer_all(options: &Options, stats: bool) -> io::Result<()> {
   let mut worker = worker::Worker::new(options);
+  let mut tally = Tally::default();
   let mut out = BufWriter::new(io::stdout().lock());
   for line in io::stdin().lock().lines() {
-    writeln!(out, "{}", worker.answer(&line?)?)?;
+    let answer = worker.answer(&line?)?;
+    tally.add(&answer);
+    writeln!(out, "{answer}")?;
   }
-  out.flush()
+  out.flush()?;
+  if stats {
+    eprintln!("{tally}");
+  }
+  Ok(())
 }
 
-/// Generated case lines.
-fn generate_all(seed: u64, count: u64) -> io::Result<()> {
-  let mut out = BufWriter::new(io::stdout().lock());
-  for index in 0..count {
-    writeln!(out, "{}", generate::case(seed, index))?;
+/// What to generate.
+struct Generated {
+  seed: u64,
+  count: u64,
+  damaged: u64,
+}
+
+impl Generated {
+  fn take(args: &mut Vec<String>) -> Result<Generated, String> {
+    let mut number = |name, otherwise| take_number(args, name).map(|n| n.unwrap_or(otherwise));
+    Ok(Generated {
+      seed: number("--seed", 1)?,
+      count: number("--count", 1_000)?,
+      damaged: number("--damaged", 0)?,
+    })
   }
-  out.flush()
+}
+
+/// Prints generated case lines, and then what document 01 gives for them, by checks and model.
+fn generate_all(from: &Generated, options: &Options) -> io::Result<()> {
+  let mut tally = Tally::default();
+  let mut out = BufWriter::new(io::stdout().lock());
+  for index in 0..from.count {
+    let case = if index * from.damaged % 100 < from.damaged {
+      damage::case(from.seed, index, options.work)
+    } else {
+      generate::case(from.seed, index)
+    };
+    writeln!(out, "{case}")?;
+    tally.add(&answers::of_document(&case, options).to_string());
+  }
+  out.flush()?;
+  eprintln!("{tally}");
+  Ok(())
 }
