@@ -3,12 +3,13 @@
 use std::{
   env,
   io::{self, BufRead, BufWriter, Write},
+  path::Path,
   process::ExitCode,
 };
 
 use oracle::{
   answers::{self, Options, take_flag, take_number},
-  damage, generate,
+  damage, generate, stored,
   tally::Tally,
   worker,
 };
@@ -17,6 +18,7 @@ const USAGE: &str = "\
 oracle [--limits] [--stats]          answers the case lines on standard input
 oracle gen [--seed N] [--count K] [--damaged PERCENT]
                                      prints case lines, and how often each outcome occurred
+oracle stored make|check DIRECTORY   makes the stored list, or compares it with what is said today
 options: --limit L (step limit, at most 2000), --workspace W, --timeout-ms T";
 
 fn main() -> ExitCode {
@@ -39,6 +41,13 @@ fn run(mut args: Vec<String>) -> Result<(), String> {
       nothing_left(&args[1..])?;
       generate_all(&from, &options).map_err(told)
     }
+    Some("stored") => match &args[1..] {
+      [make, directory] if make == "make" => stored::make(Path::new(directory), &options).map_err(told),
+      [check, directory] if check == "check" => {
+        stored::check(Path::new(directory), &options).map(|tally| println!("{tally}"))
+      }
+      _ => Err(USAGE.into()),
+    },
     Some("worker") => worker::serve(&options).map_err(told),
     _ => {
       let stats = take_flag(&mut args, "--stats");
