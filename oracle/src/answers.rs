@@ -5,6 +5,7 @@ use std::time::Duration;
 use crate::{
   case::{Answer, Case},
   checks::{check_call, check_list},
+  idx::most_types,
   model, rust,
 };
 
@@ -16,21 +17,29 @@ pub struct Options {
   pub work: u32,
   /// Whether limits 14 to 17 hold, as document 01 has them; the Rust alone has none.
   pub limits: bool,
+  /// Whether the most nodes of a type table are told behind the Rust's answer.
+  pub tell_most: bool,
   /// How long one case may take.
   pub timeout: Duration,
 }
 
 impl Default for Options {
   fn default() -> Self {
-    let timeout = Duration::from_secs(1);
-    Options { limit: rust::STEPS_LIMIT, work: 1_048_576, limits: false, timeout }
+    Options {
+      limit: rust::STEPS_LIMIT,
+      work: 1_048_576,
+      limits: false,
+      tell_most: false,
+      timeout: Duration::from_secs(1),
+    }
   }
 }
 
 impl Options {
   /// Takes the options out of a command's arguments.
   pub fn take(args: &mut Vec<String>) -> Result<Options, String> {
-    let mut options = Options { limits: take_flag(args, "--limits"), ..Options::default() };
+    let (limits, tell_most) = (take_flag(args, "--limits"), take_flag(args, "--max"));
+    let mut options = Options { limits, tell_most, ..Options::default() };
     if let Some(limit) = take_number(args, "--limit")? {
       if limit > u64::from(rust::STEPS_LIMIT) {
         return Err("a limit over 2,000 cannot be had of the Rust".into());
@@ -50,6 +59,7 @@ impl Options {
     let mut args =
       vec!["--limit".into(), self.limit.to_string(), "--workspace".into(), self.work.to_string()];
     args.extend(self.limits.then(|| "--limits".into()));
+    args.extend(self.tell_most.then(|| "--max".into()));
     args
   }
 }
@@ -80,6 +90,9 @@ pub fn answer_line(line: &str, options: &Options) -> String {
 pub fn answer(case: &Case, options: &Options) -> String {
   match (refused(case, options.work), options.limits) {
     (Some(refused), _) => refused.to_string(),
+    (None, false) if options.tell_most => {
+      format!("{} max={}", of_rust(case, options.limit), most_types())
+    }
     (None, false) => of_rust(case, options.limit).to_string(),
     (None, true) => of_both(case, options.limit),
   }
@@ -123,9 +136,11 @@ fn of_both(case: &Case, limit: u32) -> String {
     return modelled.to_string();
   }
   let answer = of_rust(case, limit);
-  if answer == modelled {
-    answer.to_string()
-  } else {
+  if answer != modelled {
     format!("differ {answer} | {modelled}")
+  } else if matches!(case, Case::Call(_)) && most_types() > model::MOST_NODES {
+    format!("differ {answer} | no 14: a type table has {} nodes", most_types())
+  } else {
+    answer.to_string()
   }
 }

@@ -60,10 +60,20 @@ impl Case {
       "list" => Case::List(fields.list()?),
       "impl" | "flex" => {
         let (source, generics) = (fields.number()?, fields.number()?);
-        let asked = if form == "impl" { Asked::Impl { basic: fields.number()? } } else { Asked::Flex };
+        let asked =
+          if form == "impl" { Asked::Impl { basic: fields.number()? } } else { Asked::Flex };
         let count = fields.number()?;
         let (sheet, question) = (fields.list()?, fields.list()?);
-        Case::Call(Call { asked, source, generics, count, sheet, question, answer_words, work_words })
+        Case::Call(Call {
+          asked,
+          source,
+          generics,
+          count,
+          sheet,
+          question,
+          answer_words,
+          work_words,
+        })
       }
       _ => return Err(format!("unknown form {form}")),
     };

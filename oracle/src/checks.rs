@@ -428,7 +428,9 @@ impl<'a> Values<'a> {
 fn check_acyclic(words: &[u32], table: u32, number: u32) -> Checked {
   let children: Vec<Vec<usize>> = records::<5>(words, table)
     .into_iter()
-    .map(|[.., head]| records::<2>(words, head).iter().map(|[_, word]| *word as usize / 2).collect())
+    .map(|[.., head]| {
+      records::<2>(words, head).iter().map(|[_, word]| *word as usize / 2).collect()
+    })
     .collect();
   // Nodes all of whose children have ended have ended too, until no more do.
   let mut ended = vec![false; children.len()];
@@ -442,7 +444,9 @@ fn check_acyclic(words: &[u32], table: u32, number: u32) -> Checked {
   }
   let cyclic = ended.iter().position(|ended| !ended);
   match cyclic {
-    Some(node) => refuse_if(true, number, format!("node {node} reaches a type that reaches itself")),
+    Some(node) => {
+      refuse_if(true, number, format!("node {node} reaches a type that reaches itself"))
+    }
     None => Ok(()),
   }
 }

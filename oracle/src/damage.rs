@@ -16,7 +16,8 @@ pub fn case(seed: u64, index: u64, work: u32) -> Case {
   let mut rng = Rng::new(seed.rotate_left(32) ^ index.wrapping_mul(0x2545_f491_4f6c_dd1d));
   let number = 1 + (index % 13) as u32;
   for next in 0.. {
-    let Case::Call(call) = generate::case(seed, index.wrapping_mul(1_000_003).wrapping_add(next)) else {
+    let Case::Call(call) = generate::case(seed, index.wrapping_mul(1_000_003).wrapping_add(next))
+    else {
       continue;
     };
     for _ in 0..TRIES {
@@ -30,7 +31,11 @@ pub fn case(seed: u64, index: u64, work: u32) -> Case {
         }
         // A sheet that is refused is so by the listing program too.
         let by_sheet = check_call(&damaged, work).is_err_and(|r| matches!(r.number, 1 | 6..=9));
-        return if by_sheet && rng.chance(15) { Case::List(damaged.sheet) } else { Case::Call(damaged) };
+        return if by_sheet && rng.chance(15) {
+          Case::List(damaged.sheet)
+        } else {
+          Case::Call(damaged)
+        };
       }
     }
   }
@@ -121,8 +126,10 @@ fn change_words(words: &mut [u32], rng: &mut Rng) {
 
 /// The heads of a sheet's tables.
 fn sheet_tables(sheet: &[u32]) -> Vec<u32> {
-  let generics = records::<4>(sheet, sheet[header::GENERICS]).into_iter().map(|[_, _, table, _]| table);
-  let impls = records::<6>(sheet, sheet[header::IMPLS]).into_iter().map(|[_, _, _, _, table, _]| table);
+  let generics =
+    records::<4>(sheet, sheet[header::GENERICS]).into_iter().map(|[_, _, table, _]| table);
+  let impls =
+    records::<6>(sheet, sheet[header::IMPLS]).into_iter().map(|[_, _, _, _, table, _]| table);
   generics.chain(impls).collect()
 }
 

@@ -5,7 +5,8 @@
 use crate::{
   case::{ANSWER_WORDS, Answer, Asked, Call, Case, WORK_WORDS},
   draft::{
-    Binding, Definition, Generics, Impl, Member, Query, Sheet, Table, Trait, flex_question, impl_question,
+    Binding, Definition, Generics, Impl, Member, Query, Sheet, Table, Trait, flex_question,
+    impl_question,
   },
   layout::Style,
   rng::Rng,
@@ -113,7 +114,12 @@ pub fn pinned() -> Vec<Edge> {
   ];
   for (inherent, kind, words, why) in [
     (0, kind::FN, FN_ANSWER.to_vec(), "flex on an upright Fn, no impl bound: both trees"),
-    (1, kind::UNKNOWN, NO_TREE_ANSWER.to_vec(), "flex on an unknown, both inherent counts 1: neither tree"),
+    (
+      1,
+      kind::UNKNOWN,
+      NO_TREE_ANSWER.to_vec(),
+      "flex on an unknown, both inherent counts 1: neither tree",
+    ),
   ] {
     let call = flex_call(flex_pin(inherent), 1, 0, vec![3, 0, 0, 0, kind, 0, 0, 0]);
     cases.push((Case::Call(call), Outcome::Printed(Answer::Ok(4, words)), why));
@@ -300,13 +306,19 @@ fn entry_edges(edges: &mut Edges) {
   edges.rich_call(1, "an empty sheet", |call| call.sheet.clear());
   edges.rich_call(1, "a sheet of 15 words", |call| call.sheet.truncate(15));
   let header: Vec<u32> = [1].into_iter().chain([0; 15]).collect();
-  edges.rich_call(10, "a sheet of 16 words: no definition, so no source", |call| call.sheet = header.clone());
+  edges.rich_call(10, "a sheet of 16 words: no definition, so no source", |call| {
+    call.sheet = header.clone()
+  });
   edges.add(
     Case::List(header),
     Outcome::Printed(Answer::List(Vec::new())),
     "a sheet without definitions lists nothing",
   );
-  edges.add(Case::List(vec![1; 15]), Outcome::Refused(1, None), "the listing of a sheet of 15 words");
+  edges.add(
+    Case::List(vec![1; 15]),
+    Outcome::Refused(1, None),
+    "the listing of a sheet of 15 words",
+  );
   edges.rich_call(2, "a question of 2 words", |call| call.question.truncate(2));
   edges.rich_call(2, "an empty question", |call| call.question.clear());
   edges.rich_call(3, "an answer buffer of 10,239 words", |call| call.answer_words = 10_239);
@@ -327,9 +339,11 @@ fn entry_edges(edges: &mut Edges) {
   });
 }
 
+type Change = fn(&mut Call);
+
 /// Two reasons at once: the earliest wins.
 fn order_edges(edges: &mut Edges) {
-  let reasons: [(u32, fn(&mut Call)); 13] = [
+  let reasons: [(u32, Change); 13] = [
     (1, |call| call.sheet.truncate(15)),
     (2, |call| call.question.truncate(2)),
     (3, |call| call.answer_words = 0),
@@ -380,10 +394,14 @@ fn knot_in_question(question: &mut [u32]) {
   question[cell + 1] = 3;
 }
 
+/// Where a head stands in a sheet.
+type Place = fn(&[u32]) -> usize;
+
 fn chain_edges(edges: &mut Edges) {
   for word in header::DEFINITIONS..=header::IMPORTS {
     edges.rich_call(7, "a head of 15", |call| call.sheet[word] = 15);
-    edges.rich_call(7, "a head at the sheet's end", |call| call.sheet[word] = call.sheet.len() as u32);
+    edges
+      .rich_call(7, "a head at the sheet's end", |call| call.sheet[word] = call.sheet.len() as u32);
     edges.rich_call(7, "a head whose record passes the end", |call| {
       call.sheet[word] = call.sheet.len() as u32 - 1;
     });
@@ -398,7 +416,7 @@ fn chain_edges(edges: &mut Edges) {
     });
   }
   // Each kind of record that is headed elsewhere: where its head stands.
-  let heads: [(&str, fn(&[u32]) -> usize); 9] = [
+  let heads: [(&str, Place); 9] = [
     ("impl bindings", |s| chain(s, s[header::DEFINITIONS])[2] + 4),
     ("named members", |s| chain(s, s[header::DEFINITIONS])[2] + 5),
     ("implicit members", |s| chain(s, s[header::DEFINITIONS])[2] + 6),
@@ -437,7 +455,8 @@ fn chain_edges(edges: &mut Edges) {
 
 /// Layouts that the chain rule allows.
 fn sharing_edges(edges: &mut Edges) {
-  edges.rich_call(0, "words that no chain reaches are free", |call| call.sheet.extend([u32::MAX; 5]));
+  edges
+    .rich_call(0, "words that no chain reaches are free", |call| call.sheet.extend([u32::MAX; 5]));
   edges.rich_call(0, "a record that ends with the sheet", |call| {
     let place = call.sheet.len() as u32;
     call.sheet.extend([0, 2]);
@@ -485,7 +504,8 @@ fn value_edges(edges: &mut Edges) {
     (header::DUPLICATE, 2, "duplicate"),
     (header::ERASE, 2, "erase"),
   ] {
-    edges.rich_call(8, &format!("{what}? {} of {many}", many + 1), |call| call.sheet[word] = many + 1);
+    edges
+      .rich_call(8, &format!("{what}? {} of {many}", many + 1), |call| call.sheet[word] = many + 1);
     edges.rich_call(8, &format!("the largest {what}?"), |call| call.sheet[word] = u32::MAX);
     edges.rich_call(0, &format!("{what} unset"), |call| call.sheet[word] = 0);
   }
@@ -495,12 +515,16 @@ fn value_edges(edges: &mut Edges) {
   edges.rich(8, "a parent with a larger id", |d| d.sheet.definitions[1].parent = 3);
   edges.rich(8, "definition 0 with a parent", |d| d.sheet.definitions[0].parent = 1);
   edges.rich(0, "a parent just below", |d| d.sheet.definitions[2].parent = 2);
-  edges.rich(8, "a trait vis out of range where trait? is 0", |d| d.sheet.definitions[2].trait_vis = 4);
+  edges.rich(8, "a trait vis out of range where trait? is 0", |d| {
+    d.sheet.definitions[2].trait_vis = 4
+  });
   edges.rich(8, "trait? 5 of 4", |d| d.sheet.definitions[0].trait_ = 5);
   edges.rich(8, "a binding's vis out of range", |d| d.sheet.definitions[0].bindings[0].vis = 4);
   edges.rich(8, "a binding of impl 2 of 2", |d| d.sheet.definitions[0].bindings[0].impl_ = 2);
   edges.rich(8, "a member's vis out of range", |d| d.sheet.definitions[0].named[0].vis = 4);
-  edges.rich(8, "a member that is neither child nor import", |d| d.sheet.definitions[0].named[0].import = 2);
+  edges.rich(8, "a member that is neither child nor import", |d| {
+    d.sheet.definitions[0].named[0].import = 2
+  });
   edges.rich(8, "child 3 of 3", |d| d.sheet.definitions[0].named[0].id = 3);
   edges.rich(8, "import 1 of 1", |d| d.sheet.definitions[0].implicit[0].id = 1);
   edges.rich(8, "an import of definition 3 of 3", |d| d.sheet.imports[0] = 4);
@@ -512,13 +536,23 @@ fn value_edges(edges: &mut Edges) {
   edges.rich(0, "4 impl parameters, each the same", |d| {
     d.sheet.generics[1].impl_params = vec![d.sheet.generics[1].impl_params[0].clone(); 4];
   });
-  edges.rich(8, "an impl parameter of trait? 5 of 4", |d| d.sheet.generics[1].impl_params[0].trait_ = 5);
-  edges.rich(8, "an impl parameter without its argument", |d| d.sheet.generics[1].impl_params[0].args.clear());
-  edges.rich(8, "an impl parameter with trait? 0 and an argument", |d| d.sheet.generics[1].impl_params[0].trait_ = 0);
-  edges.rich(8, "an impl parameter whose argument names no node", |d| d.sheet.generics[1].impl_params[0].args[0] = 2);
+  edges.rich(8, "an impl parameter of trait? 5 of 4", |d| {
+    d.sheet.generics[1].impl_params[0].trait_ = 5
+  });
+  edges.rich(8, "an impl parameter without its argument", |d| {
+    d.sheet.generics[1].impl_params[0].args.clear()
+  });
+  edges.rich(8, "an impl parameter with trait? 0 and an argument", |d| {
+    d.sheet.generics[1].impl_params[0].trait_ = 0
+  });
+  edges.rich(8, "an impl parameter whose argument names no node", |d| {
+    d.sheet.generics[1].impl_params[0].args[0] = 2
+  });
   edges.rich(8, "a trait's definition out of range", |d| d.sheet.traits[3].definition = 3);
   edges.rich(8, "an arity of 5", |d| d.sheet.traits[1].arity = 5);
-  edges.rich(0, "an arity of 4, and as many inherent", |d| (d.sheet.traits[1].arity, d.sheet.traits[1].inherent) = (4, 4));
+  edges.rich(0, "an arity of 4, and as many inherent", |d| {
+    (d.sheet.traits[1].arity, d.sheet.traits[1].inherent) = (4, 4)
+  });
   edges.rich(8, "an inherent count over the arity", |d| d.sheet.traits[1].inherent = 3);
   edges.rich(8, "an impl of generics 2 of 2", |d| d.sheet.impls[1].generics = 2);
   edges.rich(8, "flags 16", |d| d.sheet.impls[1].flags = 16);
@@ -529,7 +563,9 @@ fn value_edges(edges: &mut Edges) {
   edges.rich(8, "an argument too many", |d| d.sheet.impls[1].query.args.push(0));
   edges.rich(8, "an argument too few", |d| d.sheet.impls[1].query.args.clear());
   edges.rich(8, "an argument that names no node", |d| d.sheet.impls[1].query.args[0] = 26);
-  edges.rich(20, "an argument that names the last node, inverted", |d| d.sheet.impls[1].query.args[0] = 25);
+  edges.rich(20, "an argument that names the last node, inverted", |d| {
+    d.sheet.impls[1].query.args[0] = 25
+  });
   edges.rich(8, "an opaque's definition out of range", |d| d.sheet.opaques[0] = 3);
   edges.rich(8, "an enum's definition out of range", |d| d.sheet.enums[0] = 3);
   edges.rich(8, "a struct's definition out of range", |d| d.sheet.structs[0].0 = 3);
@@ -544,7 +580,9 @@ fn node_edges(edges: &mut Edges) {
   let many = [1, 0, 1, 1, 2, 1, 1, 0, 1, 1, 0, 1, 1, 1];
   for kind in [0, 2, 3, 4, 5, 6, 8, 9, 11, 12, 13] {
     let id = many[kind as usize];
-    edges.rich(8, &format!("id {id} of a node of kind {kind}"), |d| d.sheet.impls[1].table.0[at(kind)].id = id);
+    edges.rich(8, &format!("id {id} of a node of kind {kind}"), |d| {
+      d.sheet.impls[1].table.0[at(kind)].id = id
+    });
   }
   edges.rich(8, "a Param in generics without type parameters", |d| {
     d.sheet.impls[1].table.add(kind::PARAM, 0, &[]);
@@ -554,7 +592,8 @@ fn node_edges(edges: &mut Edges) {
   edges.rich(8, "kind 14", |d| d.sheet.impls[1].table.0[at(kind::ERROR)].kind = 14);
   edges.rich(8, "the largest kind", |d| d.sheet.impls[1].table.0[at(kind::ERROR)].kind = u32::MAX);
   edges.rich(8, "an inversion of 2", |d| d.sheet.impls[1].table.0[at(kind::ERROR)].inverted = 2);
-  edges.rich(8, "an inverted unknown", |d| d.sheet.impls[1].table.0[at(kind::UNKNOWN)].inverted = 1);
+  edges
+    .rich(8, "an inverted unknown", |d| d.sheet.impls[1].table.0[at(kind::UNKNOWN)].inverted = 1);
   edges.rich(0, "an inverted Error", |d| d.sheet.impls[1].table.0[at(kind::ERROR)].inverted = 1);
   for kind in [0, 7, 10, 11, 12, 13] {
     edges.rich(8, &format!("a child of a node of kind {kind}"), |d| {
@@ -571,11 +610,20 @@ fn node_edges(edges: &mut Edges) {
       d.sheet.impls[1].table.0[at(kind)].children = vec![24; 8];
     });
   }
-  edges.rich(8, "a Closure without children", |d| d.sheet.impls[1].table.0[at(kind::CLOSURE)].children.clear());
-  edges.rich(8, "a Ref without a child", |d| d.sheet.impls[1].table.0[at(kind::REF)].children.clear());
-  edges.rich(8, "a Ref with two children", |d| d.sheet.impls[1].table.0[at(kind::REF)].children.push(0));
-  edges.rich(8, "a child that names no node", |d| d.sheet.impls[1].table.0[at(kind::REF)].children[0] = 26);
-  edges.rich(8, "a child of the largest word", |d| d.sheet.impls[1].table.0[at(kind::REF)].children[0] = u32::MAX);
+  edges.rich(8, "a Closure without children", |d| {
+    d.sheet.impls[1].table.0[at(kind::CLOSURE)].children.clear()
+  });
+  edges
+    .rich(8, "a Ref without a child", |d| d.sheet.impls[1].table.0[at(kind::REF)].children.clear());
+  edges.rich(8, "a Ref with two children", |d| {
+    d.sheet.impls[1].table.0[at(kind::REF)].children.push(0)
+  });
+  edges.rich(8, "a child that names no node", |d| {
+    d.sheet.impls[1].table.0[at(kind::REF)].children[0] = 26
+  });
+  edges.rich(8, "a child of the largest word", |d| {
+    d.sheet.impls[1].table.0[at(kind::REF)].children[0] = u32::MAX
+  });
 }
 
 fn cycle_edges(edges: &mut Edges) {
@@ -615,7 +663,9 @@ fn question_edges(edges: &mut Edges) {
       call.question[node + 4] = head;
     });
   }
-  edges.rich_call(11, "an argument that passes the end", |call| call.question[2] = call.question.len() as u32 - 1);
+  edges.rich_call(11, "an argument that passes the end", |call| {
+    call.question[2] = call.question.len() as u32 - 1
+  });
   edges.rich_call(11, "a next inside its own record", |call| {
     let node = call.question[0] as usize;
     call.question[node] = node as u32 + 4;
@@ -625,18 +675,31 @@ fn question_edges(edges: &mut Edges) {
   edges.rich_call(12, "an argument list that does not fit its trait", |call| call.question[1] = 2);
   edges.rich_call(20, "another trait of the same arity", |call| call.question[1] = 3);
   edges.rich(12, "an argument that names no node", |d| d.query.args[0] = 4);
-  edges.rich(12, "a Param under generics without type parameters", |d| d.table.0[0].kind = kind::PARAM);
+  edges.rich(12, "a Param under generics without type parameters", |d| {
+    d.table.0[0].kind = kind::PARAM
+  });
   edges.rich(12, "struct 2 of 2", |d| d.table.0[0].id = 2);
   edges.rich(12, "an inverted unknown", |d| (d.table.0[0].kind, d.table.0[0].inverted) = (0, 1));
   edges.rich(12, "kind 14", |d| d.table.0[0].kind = 14);
   edges.rich(12, "9 children", |d| d.table.0[1].children = vec![0; 9]);
-  edges.rich(12, "a Ref with two children", |d| (d.table.0[1].kind, d.table.0[1].id, d.table.0[1].children) = (9, 0, vec![0, 0]));
+  edges.rich(12, "a Ref with two children", |d| {
+    (d.table.0[1].kind, d.table.0[1].id, d.table.0[1].children) = (9, 0, vec![0, 0])
+  });
   edges.rich(12, "a child that names no node", |d| d.table.0[1].children = vec![4]);
   let draft = Draft::rich();
-  let unknown = Call { generics: 1, ..impl_call(draft.call().sheet, 0, 0, vec![3, 1, 8, 0, 1, 0, 0, 0, 0, 0]) };
+  let unknown =
+    Call { generics: 1, ..impl_call(draft.call().sheet, 0, 0, vec![3, 1, 8, 0, 1, 0, 0, 0, 0, 0]) };
   edges.ok(unknown, "a Param under generics with one: found as parameter 0");
-  edges.no(20, impl_call(draft.call().sheet, 0, 0, vec![0, 4, 0]), "a question of 3 words, of a trait without arguments");
-  edges.no(20, impl_call(draft.call().sheet, 0, 0, vec![0, 0, 0]), "trait? 0 is asked and finds nothing");
+  edges.no(
+    20,
+    impl_call(draft.call().sheet, 0, 0, vec![0, 4, 0]),
+    "a question of 3 words, of a trait without arguments",
+  );
+  edges.no(
+    20,
+    impl_call(draft.call().sheet, 0, 0, vec![0, 0, 0]),
+    "trait? 0 is asked and finds nothing",
+  );
   edges.add(draft.flex(0), Outcome::Found(Some(4)), "flex on a leaf");
   edges.no(12, draft.flex(4), "a type word that names no node");
   edges.no(12, draft.flex(u32::MAX), "the largest type word");
@@ -663,7 +726,9 @@ pub fn large() -> Vec<Edge> {
       d.sheet.definitions.resize(many, Definition { parent: 1, ..Definition::default() });
     });
     edges.rich(number, &format!("{many} impls"), |d| {
-      d.sheet.impls.resize(many, Impl { query: Query { trait_: 4, args: Vec::new() }, ..Impl::default() });
+      d.sheet
+        .impls
+        .resize(many, Impl { query: Query { trait_: 4, args: Vec::new() }, ..Impl::default() });
     });
   }
   for (many, number) in [(255, 20), (256, 14)] {
@@ -673,15 +738,24 @@ pub fn large() -> Vec<Edge> {
     draft.sheet.impls[1].query.args[0] = 2 * (many as u32 - 1);
     draft.table.add(kind::NEVER, 0, &[]);
     draft.query = Query { trait_: 1, args: vec![0] };
-    edges.no(number, draft.call(), format!("a signature of {many} nodes beside the question's one"));
+    edges.no(
+      number,
+      draft.call(),
+      format!("a signature of {many} nodes beside the question's one"),
+    );
   }
   for (many, number) in [(128, 0), (129, 14)] {
     let mut draft = Draft::nested();
     (draft.sheet.generics[1].impl_params, draft.sheet.impls[0].query.args[0]) = (Vec::new(), 0);
     refs(&mut draft.table, many);
     draft.query = Query { trait_: 1, args: vec![2 * (many as u32 - 1)] };
-    let outcome = if number == 0 { Outcome::Found(None) } else { Outcome::Refused(number, Some(1)) };
-    edges.add(draft.call(), outcome, format!("the last import of {many} nodes beside the question's {many}"));
+    let outcome =
+      if number == 0 { Outcome::Found(None) } else { Outcome::Refused(number, Some(1)) };
+    edges.add(
+      draft.call(),
+      outcome,
+      format!("the last import of {many} nodes beside the question's {many}"),
+    );
   }
   let mut draft = Draft::nested();
   refs(&mut draft.sheet.generics[0].table, 300);
@@ -716,12 +790,20 @@ fn depth_edges(edges: &mut Edges) {
     edges.add(nested(levels, 0), Outcome::Found(Some(steps)), format!("{levels} S round Leaf"));
   }
   for levels in [16, 17, 20, 40] {
-    edges.add(nested(levels, 0), no(15, 17), format!("{levels} S round Leaf: the question at depth 17"));
+    edges.add(
+      nested(levels, 0),
+      no(15, 17),
+      format!("{levels} S round Leaf: the question at depth 17"),
+    );
   }
   edges.add(nested(15, 1_984), Outcome::Found(Some(2_000)), "15 S, the last step is 2,000");
   edges.add(nested(15, 1_985), no(18, 2_001), "15 S, a step too many");
   edges.add(nested(16, 1_983), no(15, 2_000), "16 S, depth 17 at step 2,000");
-  edges.add(nested(16, 1_984), no(18, 2_001), "16 S, depth 17 at step 2,001: the count is tested first");
+  edges.add(
+    nested(16, 1_984),
+    no(18, 2_001),
+    "16 S, depth 17 at step 2,001: the count is tested first",
+  );
   edges.add(nested(16, 1_999), no(18, 2_001), "16 S, the limit long before depth 17");
 }
 
@@ -768,7 +850,11 @@ impl Tower {
   }
 
   fn call(&self, trait_: u32) -> Call {
-    let draft = Draft { sheet: self.0.clone(), query: Query { trait_, args: Vec::new() }, ..Draft::default() };
+    let draft = Draft {
+      sheet: self.0.clone(),
+      query: Query { trait_, args: Vec::new() },
+      ..Draft::default()
+    };
     draft.call()
   }
 }
@@ -785,7 +871,9 @@ fn result_edges(edges: &mut Edges) {
     };
     edges.add(tower.call(trait_), outcome, format!("{many} results of one question"));
   }
-  for (first, second) in [(1, 1), (1, 4), (2, 2), (2, 3), (3, 2), (4, 1), (4, 2), (5, 0), (0, 5), (1, 5), (4, 0)] {
+  for (first, second) in
+    [(1, 1), (1, 4), (2, 2), (2, 3), (3, 2), (4, 1), (4, 2), (5, 0), (0, 5), (1, 5), (4, 0)]
+  {
     let mut tower = Tower::new();
     let [top, one, other] = [0; 3].map(|_| tower.add_trait());
     tower.add_impl(top, 0, &[one, other]);
@@ -799,27 +887,38 @@ fn result_edges(edges: &mut Edges) {
       _ => 21,
     };
     let outcome = if number == 0 { Outcome::Found(None) } else { Outcome::Refused(number, None) };
-    edges.add(tower.call(top), outcome, format!("{first} times {second} results of two sub-questions"));
+    edges.add(
+      tower.call(top),
+      outcome,
+      format!("{first} times {second} results of two sub-questions"),
+    );
   }
   // Three candidates of two results each.
   let mut tower = Tower::new();
   let [top, below] = [0; 2].map(|_| tower.add_trait());
   (0..3).for_each(|_| tower.add_impl(top, 0, &[below]));
   (0..2).for_each(|_| tower.add_impl(below, 0, &[]));
-  edges.add(tower.call(top), Outcome::Refused(16, Some(4)), "the fifth of six results by three candidates");
+  edges.add(
+    tower.call(top),
+    Outcome::Refused(16, Some(4)),
+    "the fifth of six results by three candidates",
+  );
 }
 
 fn tree_edges(edges: &mut Edges) {
   for (size, number) in [(2, 0), (5, 0), (255, 0), (256, 0), (257, 17), (258, 17), (300, 17)] {
     let mut tower = Tower::new();
     let trait_ = tower.trait_of_size(size, 0, &mut Vec::new());
-    let outcome = if number == 0 { Outcome::Found(Some(size as u32)) } else { Outcome::Refused(17, None) };
+    let outcome =
+      if number == 0 { Outcome::Found(Some(size as u32)) } else { Outcome::Refused(17, None) };
     edges.add(tower.call(trait_), outcome, format!("a tree of {size} nodes"));
   }
 }
 
 fn type_edges(edges: &mut Edges) {
-  for (size, last, number) in [(32, 0, 0), (31, 8, 0), (31, 7, 0), (32, 1, 14), (33, 0, 14), (40, 0, 14)] {
+  for (size, last, number) in
+    [(32, 0, 0), (31, 8, 0), (31, 7, 0), (32, 1, 14), (33, 0, 14), (40, 0, 14)]
+  {
     // `size` impls of 8 type parameters, and one of `last`.
     let mut tower = Tower::new();
     let known = &mut Vec::new();

@@ -3,7 +3,9 @@
 use crate::{
   case::{ANSWER_WORDS, Answer, Asked, Call, Case, WORK_WORDS},
   checks::check_call,
-  draft::{Binding, Definition, Generics, Impl, Member, Query, Table, Trait, flex_question, impl_question},
+  draft::{
+    Binding, Definition, Generics, Impl, Member, Query, Table, Trait, flex_question, impl_question,
+  },
   layout::Style,
   model,
   rng::Rng,
@@ -14,7 +16,8 @@ use crate::{
 
 /// Case `index` of a seed. It passes checks 1 to 13.
 pub fn case(seed: u64, index: u64) -> Case {
-  let mut rng = Rng::new(seed.wrapping_mul(0x9e37_79b9).wrapping_add(index).rotate_left(17) ^ index);
+  let mut rng =
+    Rng::new(seed.wrapping_mul(0x9e37_79b9).wrapping_add(index).rotate_left(17) ^ index);
   loop {
     let mut call = random_call(&mut rng);
     match check_call(&call, WORK_WORDS) {
@@ -37,8 +40,10 @@ fn rein_in(call: &mut Call, rng: &mut Rng) {
   }
 }
 
+type Theme = fn(&mut Rng) -> Call;
+
 fn random_call(rng: &mut Rng) -> Call {
-  let themes: [(usize, fn(&mut Rng) -> Call); 14] = [
+  let themes: [(usize, Theme); 14] = [
     (36, impl_of_a_world),
     (22, flex_of_a_world),
     (7, nested),
@@ -122,7 +127,8 @@ fn impl_of_a_world(rng: &mut Rng) -> Call {
   }
   world.set_duplicate_and_erase();
   let generics = world.rng.below(world.sheet.generics.len());
-  let mut asking = Asking { params: world.sheet.generics[generics].type_params, ..Asking::default() };
+  let mut asking =
+    Asking { params: world.sheet.generics[generics].type_params, ..Asking::default() };
   let query = ask(&mut world, &mut asking, generics);
   if world.rng.chance(35) {
     world.disturb(&mut asking);
@@ -168,7 +174,8 @@ fn flex_of_a_world(rng: &mut Rng) -> Call {
   }
   world.set_duplicate_and_erase();
   let generics = world.rng.below(world.sheet.generics.len());
-  let mut asking = Asking { params: world.sheet.generics[generics].type_params, ..Asking::default() };
+  let mut asking =
+    Asking { params: world.sheet.generics[generics].type_params, ..Asking::default() };
   let word = match world.rng.weighted(&[60, 40]) {
     0 => {
       let trait_ = traits - 1 - world.rng.below(2) as u32;
@@ -313,7 +320,8 @@ fn against_its_inverse(rng: &mut Rng) -> Call {
   if world.rng.chance(20) {
     inner = asking.table.add(kind::TUPLE, 0, &[inner]);
   }
-  let (kind, id) = world.rng.pick(&[(kind::TUPLE, 0), (kind::TUPLE, 0), (kind::STRUCT, 0), (kind::UNION, 0)]);
+  let (kind, id) =
+    world.rng.pick(&[(kind::TUPLE, 0), (kind::TUPLE, 0), (kind::STRUCT, 0), (kind::UNION, 0)]);
   let [one, other] = [0, 1].map(|_| asking.table.add(kind, id, &[inner]));
   let mut args = vec![one, other, other, one];
   if world.rng.chance(20) {
@@ -368,7 +376,8 @@ fn closures(rng: &mut Rng) -> Call {
     }
   };
   let (one, other) = (leaf(&mut world), leaf(&mut world));
-  let word = if world.rng.chance(60) { asking.table.add(kind::TUPLE, 0, &[one, other]) } else { one };
+  let word =
+    if world.rng.chance(60) { asking.table.add(kind::TUPLE, 0, &[one, other]) } else { one };
   let word = word ^ u32::from(world.rng.chance(15));
   if world.rng.chance(70) {
     return call(world, asking, Question::Flex(word), 0);
@@ -394,7 +403,12 @@ fn many_results(rng: &mut Rng) -> Call {
     add_bound_impl(&mut world, generics, traits[0], Table::default(), Vec::new());
   }
   let generics = u32::from(world.rng.chance(20));
-  call(world, Asking::default(), Question::Impl(Query { trait_: traits[0] + 1, args: Vec::new() }), generics)
+  call(
+    world,
+    Asking::default(),
+    Question::Impl(Query { trait_: traits[0] + 1, args: Vec::new() }),
+    generics,
+  )
 }
 
 /// Traits of no arguments, each impl asking for several of the next: trees of many nodes.
@@ -445,7 +459,9 @@ fn many_nodes(rng: &mut Rng) -> Call {
   let mut word = asking.table.add(kind::STRUCT, 0, &[]);
   for _ in 0..world.rng.range(8, 15) {
     let mut children = vec![word];
-    children.extend((1..many).map(|_| if world.rng.chance(70) { unknown } else { asking.table.add(kind::UNKNOWN, 0, &[]) }));
+    children.extend((1..many).map(|_| {
+      if world.rng.chance(70) { unknown } else { asking.table.add(kind::UNKNOWN, 0, &[]) }
+    }));
     word = asking.table.add(kind::STRUCT, 1, &children);
   }
   call(world, asking, Question::Impl(Query { trait_: trait_ + 1, args: vec![word] }), 0)
@@ -460,7 +476,8 @@ fn without_end(rng: &mut Rng) -> Call {
   let param = generics.table.add(kind::PARAM, 0, &[]);
   let larger = generics.table.add(kind::STRUCT, 0, &[param]);
   let asked = world.rng.pick(&[larger, param, param]);
-  generics.impl_params = vec![Query { trait_: trait_ + 1, args: vec![asked] }; world.rng.range(1, 2)];
+  generics.impl_params =
+    vec![Query { trait_: trait_ + 1, args: vec![asked] }; world.rng.range(1, 2)];
   world.sheet.generics.push(generics);
   let mut table = Table::default();
   let param = table.add(kind::PARAM, 0, &[]);
@@ -476,7 +493,8 @@ fn without_end(rng: &mut Rng) -> Call {
 fn members(rng: &mut Rng) -> Call {
   let mut world = World::bare(rng);
   let many = world.rng.range(2, 7);
-  world.sheet.imports = (0..world.rng.range(0, 3)).map(|_| world.rng.range(0, many) as u32).collect();
+  world.sheet.imports =
+    (0..world.rng.range(0, 3)).map(|_| world.rng.range(0, many) as u32).collect();
   world.sheet.definitions = (0..many).map(|id| definition(&mut world, id, many)).collect();
   for _ in 0..world.rng.range(1, 2) {
     let definition = world.rng.below(many) as u32;
@@ -485,8 +503,13 @@ fn members(rng: &mut Rng) -> Call {
   let traits = world.sheet.traits.len();
   for _ in 0..world.rng.range(1, 3) {
     let trait_ = 1 + world.rng.below(traits) as u32;
-    let flags = [0, flag::NAMED, flag::NAMED, flag::UNSAFE, flag::MANUAL][world.rng.weighted(&[46, 25, 25, 2, 2])];
-    world.sheet.impls.push(Impl { flags, query: Query { trait_, args: Vec::new() }, ..Impl::default() });
+    let flags = [0, flag::NAMED, flag::NAMED, flag::UNSAFE, flag::MANUAL]
+      [world.rng.weighted(&[46, 25, 25, 2, 2])];
+    world.sheet.impls.push(Impl {
+      flags,
+      query: Query { trait_, args: Vec::new() },
+      ..Impl::default()
+    });
     let impl_ = world.sheet.impls.len() as u32 - 1;
     let at = world.rng.below(many);
     let vis = vis(world.rng, many, 70);
@@ -559,8 +582,16 @@ fn behind_refs(rng: &mut Rng) -> Call {
   let mut asking = Asking::default();
   let args = (0..arity)
     .map(|_| {
-      let leaves =
-        [kind::OPAQUE, kind::STRUCT, kind::ENUM, kind::UNION, kind::UNKNOWN, kind::ERROR, kind::TUPLE, kind::FN];
+      let leaves = [
+        kind::OPAQUE,
+        kind::STRUCT,
+        kind::ENUM,
+        kind::UNION,
+        kind::UNKNOWN,
+        kind::ERROR,
+        kind::TUPLE,
+        kind::FN,
+      ];
       let leaf = leaves[world.rng.weighted(&[15, 25, 10, 10, 8, 8, 6, 4])];
       let mut word = asking.table.add(leaf, 0, &[]);
       for _ in 0..world.rng.weighted(&[35, 35, 20, 10]) {

@@ -126,7 +126,8 @@ impl<'a> Placing<'a> {
     // Creation puts a tail before its record, so the order of creation is one in which cells may be placed.
     let mut waiting: Vec<usize> = (0..self.cells.len()).collect();
     while !waiting.is_empty() {
-      let ready = |cell: usize| self.cells[cell].next.is_none_or(|next| self.places[next].is_some());
+      let ready =
+        |cell: usize| self.cells[cell].next.is_none_or(|next| self.places[next].is_some());
       let choice = if self.style.shuffle {
         let choices: Vec<usize> = (0..waiting.len()).filter(|&n| ready(waiting[n])).collect();
         self.rng.pick(&choices)

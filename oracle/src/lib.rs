@@ -9,6 +9,16 @@ extern crate self as vine_util;
 #[path = "shim/idx.rs"]
 pub mod idx;
 
+/// The six files as they are compiled here.
+pub const SOURCES: [(&str, &str); 6] = [
+  ("components/finder.rs", include_str!(concat!(env!("OUT_DIR"), "/finder.rs"))),
+  ("components/finder/candidates.rs", include_str!(concat!(env!("OUT_DIR"), "/candidates.rs"))),
+  ("features/flex.rs", include_str!(concat!(env!("OUT_DIR"), "/flex.rs"))),
+  ("structures/types.rs", include_str!(concat!(env!("OUT_DIR"), "/types.rs"))),
+  ("structures/chart.rs", include_str!(concat!(env!("OUT_DIR"), "/chart.rs"))),
+  ("structures/signatures.rs", include_str!(concat!(env!("OUT_DIR"), "/signatures.rs"))),
+];
+
 pub mod answer;
 pub mod answers;
 pub mod case;
@@ -23,9 +33,9 @@ pub mod model_candidates;
 pub mod model_types;
 pub mod rng;
 pub mod rust;
+pub mod sheet;
 pub mod stored;
 pub mod tally;
-pub mod sheet;
 pub mod worker;
 pub mod world;
 

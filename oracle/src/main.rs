@@ -8,6 +8,7 @@ use std::{
 };
 
 use oracle::{
+  SOURCES,
   answers::{self, Options, take_flag, take_number},
   damage, generate, stored,
   tally::Tally,
@@ -18,8 +19,10 @@ const USAGE: &str = "\
 oracle [--limits] [--stats]          answers the case lines on standard input
 oracle gen [--seed N] [--count K] [--damaged PERCENT]
                                      prints case lines, and how often each outcome occurred
+oracle source FILE                   prints a file of docs/src/vine/src as it is compiled here
 oracle stored make|check DIRECTORY   makes the stored list, or compares it with what is said today
-options: --limit L (step limit, at most 2000), --workspace W, --timeout-ms T";
+options: --limit L (step limit, at most 2000), --workspace W (the constant), --timeout-ms T,
+         --max (tells the most nodes of a type table behind the Rust's answer)";
 
 fn main() -> ExitCode {
   let args: Vec<String> = env::args().skip(1).collect();
@@ -42,12 +45,18 @@ fn run(mut args: Vec<String>) -> Result<(), String> {
       generate_all(&from, &options).map_err(told)
     }
     Some("stored") => match &args[1..] {
-      [make, directory] if make == "make" => stored::make(Path::new(directory), &options).map_err(told),
+      [make, directory] if make == "make" => {
+        stored::make(Path::new(directory), &options).map_err(told)
+      }
       [check, directory] if check == "check" => {
         stored::check(Path::new(directory), &options).map(|tally| println!("{tally}"))
       }
       _ => Err(USAGE.into()),
     },
+    Some("source") => {
+      let source = SOURCES.iter().find(|(file, _)| args[1..] == [*file]).ok_or(USAGE)?;
+      io::stdout().write_all(source.1.as_bytes()).map_err(told)
+    }
     Some("worker") => worker::serve(&options).map_err(told),
     _ => {
       let stats = take_flag(&mut args, "--stats");

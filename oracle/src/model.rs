@@ -10,7 +10,8 @@ use crate::{
   sheet::{header, kind, optional, records},
 };
 
-const MOST_NODES: usize = 256;
+/// The most nodes of a type table.
+pub const MOST_NODES: usize = 256;
 const MOST_DEPTH: usize = 16;
 const MOST_RESULTS: usize = 4;
 const MOST_TREE_NODES: usize = 256;
@@ -175,12 +176,19 @@ impl<'a> Search<'a> {
     }
     let found_ty = fork_ty.or(drop_ty);
     let verdict = found_ty.map(|found_ty| types.unify(&self.marks, ty, found_ty));
-    let [fork, drop] = chosen.map(|result| result.and_then(|result| result.trees.into_iter().next()));
+    let [fork, drop] =
+      chosen.map(|result| result.and_then(|result| result.trees.into_iter().next()));
     let found = Found { fork, drop, inverted, self_inverse };
     Ok((pack(&found, &types.export_first(nodes)), verdict != Some(Verdict::Failure)))
   }
 
-  fn question(&mut self, depth: usize, types: &Table, query: &Query, basic: bool) -> Result<Vec<Entry>, Stop> {
+  fn question(
+    &mut self,
+    depth: usize,
+    types: &Table,
+    query: &Query,
+    basic: bool,
+  ) -> Result<Vec<Entry>, Stop> {
     self.count += 1;
     if self.count > self.limit {
       return Err(18);
@@ -229,7 +237,12 @@ impl<'a> Search<'a> {
     optional(self.sheet[impl_]).map(|id| Tree::leaf(tree::DEF, id))
   }
 
-  fn add_parameters(&self, types: &Table, query: &Query, found: &mut Vec<Entry>) -> Result<(), Stop> {
+  fn add_parameters(
+    &self,
+    types: &Table,
+    query: &Query,
+    found: &mut Vec<Entry>,
+  ) -> Result<(), Stop> {
     let Demands { table, queries, .. } = &self.demands[self.generics];
     for (n, param) in queries.iter().enumerate() {
       if query.trait_ == 0 || query.trait_ != param.trait_ {
@@ -273,7 +286,13 @@ impl<'a> Search<'a> {
     Ok(Some(records::<2>(self.sheet, self.sheet[head])[known.id as usize][1]))
   }
 
-  fn candidate(&mut self, depth: usize, types: &Table, query: &Query, id: usize) -> Result<Vec<Entry>, Stop> {
+  fn candidate(
+    &mut self,
+    depth: usize,
+    types: &Table,
+    query: &Query,
+    id: usize,
+  ) -> Result<Vec<Entry>, Stop> {
     let mut types = types.clone();
     let Signature { generics, table, query: signature } = &self.signatures[id];
     let Demands { type_params, table: demands, queries } = &self.demands[*generics];

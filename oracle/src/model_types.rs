@@ -118,7 +118,12 @@ impl Table {
     let mut table = Table::default();
     for [_, kind, inverted, id, children] in records::<5>(words, head) {
       let children = read_types(words, children);
-      table.push((kind != kind::UNKNOWN).then_some(Known { inverted: inverted == 1, kind, id, children }));
+      table.push((kind != kind::UNKNOWN).then_some(Known {
+        inverted: inverted == 1,
+        kind,
+        id,
+        children,
+      }));
     }
     table
   }
@@ -215,7 +220,8 @@ impl Table {
       return if same { Verdict::Success } else { Verdict::Failure };
     }
     let (Some(a_known), Some(b_known)) = (self.known(a), self.known(b)) else {
-      let contained = self.reachable(a.node).contains(&b.node) || self.reachable(b.node).contains(&a.node);
+      let contained =
+        self.reachable(a.node).contains(&b.node) || self.reachable(b.node).contains(&a.node);
       if contained {
         return Verdict::Failure;
       }
@@ -317,7 +323,9 @@ impl Import<'_, '_> {
       return moved.invert_if(root.inverted);
     }
     let known = &self.from.classes[root.node].known;
-    if let (Some(params), Some(Known { inverted, kind: kind::PARAM, id, .. })) = (self.params, known) {
+    if let (Some(params), Some(Known { inverted, kind: kind::PARAM, id, .. })) =
+      (self.params, known)
+    {
       return params[*id as usize].invert_if(inverted ^ root.inverted);
     }
     let to = self.to.fresh();

@@ -10,6 +10,7 @@ use crate::{
   case::{Answer, Asked, Call},
   components::finder::{Finder, FinderCache, FlexImpls},
   draft::Node,
+  idx::forget_most_types,
   sheet::{Setting, read_impl_type},
   structures::{
     ast::Span,
@@ -44,7 +45,9 @@ pub fn call(call: &Call, limit: u32) -> Answer {
   let mut diags = Diags::default();
   let mut finder = finder(&setting, &mut diags, &mut cache, call.source, call.generics);
   finder.steps = call.count + shift;
-  let run = Run { setting: &setting, call, nodes: types.len(), shift };
+  // From here on types are pushed by the Rust alone.
+  forget_most_types();
+  let run = Run { setting: &setting, call, nodes: types.node_count(), shift };
   match call.asked {
     Asked::Impl { basic } => run.find_impl(finder, types, basic == 1),
     Asked::Flex => run.find_flex(finder, types),

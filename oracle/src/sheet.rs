@@ -116,7 +116,8 @@ impl Setting {
     for record in records::<7>(sheet, sheet[header::DEFINITIONS]) {
       let [_, parent, trait_vis, trait_, impls, named, implicit] = record;
       let parent = optional(parent).map(DefId);
-      let mut ancestors = parent.map_or(Vec::new(), |parent| self.chart.defs[parent].ancestors.clone());
+      let mut ancestors =
+        parent.map_or(Vec::new(), |parent| self.chart.defs[parent].ancestors.clone());
       ancestors.push(self.chart.defs.next_index());
       self.chart.defs.push(Def {
         name: Ident::default(),
@@ -337,7 +338,10 @@ fn bind<T>(vis: u32, kind: T) -> Binding<T> {
 fn read_members(sheet: &[u32], head: u32) -> Vec<Binding<MemberKind>> {
   let member = |[_, vis, import, id]: [u32; 4]| {
     let id = id as usize;
-    bind(vis, if import == 1 { MemberKind::Import(ImportId(id)) } else { MemberKind::Child(DefId(id)) })
+    bind(
+      vis,
+      if import == 1 { MemberKind::Import(ImportId(id)) } else { MemberKind::Child(DefId(id)) },
+    )
   };
   records::<4>(sheet, head).into_iter().map(member).collect()
 }

@@ -10,6 +10,7 @@ use crate::{
   damage,
   edges::{self, Edge},
   generate,
+  model::MOST_NODES,
   tally::{Tally, outcome},
   worker::Worker,
 };
@@ -24,9 +25,9 @@ const MOST_LIST_WORDS: usize = 130;
 
 /// How many generated cases of each outcome are kept, and of how many words at most.
 const IMPL_QUOTA: [(&str, usize, usize); 10] = [
-  ("ok", 330, MOST_WORDS),
+  ("ok", 310, MOST_WORDS),
   ("assert", 25, 140),
-  ("no 14", 8, 500),
+  ("no 14", 6, 600),
   ("no 15", 50, MOST_WORDS),
   ("no 16", 30, MOST_WORDS),
   ("no 17", 10, 220),
@@ -36,7 +37,7 @@ const IMPL_QUOTA: [(&str, usize, usize); 10] = [
   ("no 21", 70, MOST_WORDS),
 ];
 const FLEX_QUOTA: [(&str, usize, usize); 10] = [
-  ("ok", 220, MOST_WORDS),
+  ("ok", 210, MOST_WORDS),
   ("assert", 25, 140),
   ("no 15", 25, 130),
   ("no 16", 4, 300),
@@ -45,7 +46,7 @@ const FLEX_QUOTA: [(&str, usize, usize); 10] = [
   ("no 23", 10, MOST_WORDS),
   ("no 24", 50, MOST_WORDS),
   ("no 25", 65, MOST_WORDS),
-  ("no 26", 60, MOST_WORDS),
+  ("no 26", 60, 115),
 ];
 const LIST_QUOTA: [(&str, usize, usize); 1] = [("list", 110, MOST_LIST_WORDS)];
 const DAMAGED: u64 = 13 * 24;
@@ -56,7 +57,7 @@ struct Stored {
   answer: String,
   /// Why, where the Rust has no say.
   why: Option<String>,
-  /// What the Rust alone says, where that is something else.
+  /// What the Rust alone says, where that is something else, and the most nodes of a type table there.
   rust: Option<String>,
 }
 
@@ -76,7 +77,7 @@ struct Oracle {
 impl Oracle {
   fn new(options: &Options) -> Oracle {
     let whole = Worker::new(&Options { limits: true, ..options.clone() });
-    let alone = Worker::new(&Options { limits: false, ..options.clone() });
+    let alone = Worker::new(&Options { limits: false, tell_most: true, ..options.clone() });
     Oracle { whole, alone, work: options.work }
   }
 
@@ -182,7 +183,9 @@ fn generated(oracle: &mut Oracle, options: &Options) -> io::Result<Vec<Block>> {
       Case::List(_) => &mut blocks[2],
     };
     let given = outcome(&of_document(&case, options).to_string());
-    let fits = |(kept, left, most): &&mut (&str, usize, usize)| *kept == given && *left > 0 && words(&case) <= *most;
+    let fits = |(kept, left, most): &&mut (&str, usize, usize)| {
+      *kept == given && *left > 0 && words(&case) <= *most
+    };
     if let Some((_, left, _)) = quota.iter_mut().find(fits) {
       let stored = oracle.stored(case, None)?;
       if stored.answer != "timeout" && stored.rust.as_deref() != Some("timeout") {
@@ -218,7 +221,9 @@ fn from_text(text: &str) -> Result<Vec<Stored>, String> {
       Some(("= ", answer)) => last?.answer = answer.into(),
       Some(("? ", why)) => last?.why = Some(why.into()),
       Some(("! ", rust)) => last?.rust = Some(rust.into()),
-      _ => all.push(Stored { case: Case::parse(line)?, answer: String::new(), why: None, rust: None }),
+      _ => {
+        all.push(Stored { case: Case::parse(line)?, answer: String::new(), why: None, rust: None })
+      }
     }
   }
   Ok(all)
@@ -322,21 +327,44 @@ fn check_hand_built(name: &str, edges: &[Edge], stored: &[Stored]) -> Result<(),
     let holds = edge.case == stored.case && edge.outcome.holds_of(&stored.answer);
     if !holds {
       let (case, answer) = (&edge.case, &stored.answer);
-      return Err(format!("{name}, {}: {:?} is to hold of {answer}\n{case}", edge.why, edge.outcome));
+      return Err(format!(
+        "{name}, {}: {:?} is to hold of {answer}\n{case}",
+        edge.why, edge.outcome
+      ));
     }
   }
   Ok(())
 }
 
-fn check_stored(name: &str, oracle: &mut Oracle, all: &[Stored], tally: &mut Tally) -> Result<(), String> {
+fn check_stored(
+  name: &str,
+  oracle: &mut Oracle,
+  all: &[Stored],
+  tally: &mut Tally,
+) -> Result<(), String> {
   for (n, stored) in all.iter().enumerate() {
     let now = oracle.stored(stored.case.clone(), None).map_err(|e| e.to_string())?;
     let same = (&now.answer, &now.rust) == (&stored.answer, &stored.rust);
     if !same {
       let (then, now) = ((&stored.answer, &stored.rust), (&now.answer, &now.rust));
-      return Err(format!("{name}, case {n}: {then:?} is stored, {now:?} is said now\n{}", stored.case));
+      return Err(format!(
+        "{name}, case {n}: {then:?} is stored, {now:?} is said now\n{}",
+        stored.case
+      ));
+    }
+    if outcome(&stored.answer) == "no 14" && most_types(stored) <= MOST_NODES {
+      return Err(format!(
+        "{name}, case {n}: no type table of the Rust passes 256\n{}",
+        stored.case
+      ));
     }
     tally.add(&stored.answer);
   }
   Ok(())
+}
+
+/// The most nodes that a type table had in the Rust's run.
+fn most_types(stored: &Stored) -> usize {
+  let told = stored.rust.as_ref().and_then(|rust| rust.rsplit_once("max=")?.1.parse().ok());
+  told.unwrap_or(0)
 }

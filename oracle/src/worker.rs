@@ -15,7 +15,7 @@ use crate::{
   rust,
 };
 
-const STACK: usize = 1 << 30;
+const STACK: usize = 256 << 20;
 const MOST_MEMORY: u64 = 2 << 30;
 const LOOK: Duration = Duration::from_millis(50);
 
@@ -63,24 +63,33 @@ impl Worker {
     writeln!(running.lines, "{line}")?;
     running.lines.flush()?;
     match wait(&running, self.options.timeout) {
-      Some(answer) => {
+      Ended::Answered(answer) => {
         self.running = Some(running);
         Ok(answer)
       }
-      None => {
-        running.child.kill()?;
-        running.child.wait()?;
+      Ended::GivenUp => {
+        running.end();
         Ok("timeout".into())
       }
+      Ended::Died => {
+        running.end();
+        Ok("crash the worker ended".into())
+      }
     }
+  }
+}
+
+impl Running {
+  fn end(&mut self) {
+    let _ = self.child.kill();
+    let _ = self.child.wait();
   }
 }
 
 impl Drop for Worker {
   fn drop(&mut self) {
     if let Some(mut running) = self.running.take() {
-      let _ = running.child.kill();
-      let _ = running.child.wait();
+      running.end();
     }
   }
 }
@@ -105,17 +114,23 @@ fn start(options: &Options) -> io::Result<Running> {
   Ok(Running { child, lines, answers })
 }
 
-/// The answer, unless the child takes too long, takes too much memory or ends.
-fn wait(running: &Running, timeout: Duration) -> Option<String> {
+enum Ended {
+  Answered(String),
+  /// It took too long, or too much memory.
+  GivenUp,
+  Died,
+}
+
+fn wait(running: &Running, timeout: Duration) -> Ended {
   let begun = Instant::now();
   loop {
     match running.answers.recv_timeout(LOOK.min(timeout)) {
-      Ok(answer) => return Some(answer),
-      Err(RecvTimeoutError::Disconnected) => return Some("crash the worker ended".into()),
+      Ok(answer) => return Ended::Answered(answer),
+      Err(RecvTimeoutError::Disconnected) => return Ended::Died,
       Err(RecvTimeoutError::Timeout) => {}
     }
     if begun.elapsed() >= timeout || memory(running.child.id()) > MOST_MEMORY {
-      return None;
+      return Ended::GivenUp;
     }
   }
 }

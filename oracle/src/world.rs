@@ -455,7 +455,11 @@ fn copy_type(
 }
 
 /// Puts a table's nodes in another order; `others` is told how to change type words that name them.
-pub fn shuffle_nodes(rng: &mut Rng, table: &mut Table, others: impl FnOnce(&dyn Fn(&mut Vec<u32>))) {
+pub fn shuffle_nodes(
+  rng: &mut Rng,
+  table: &mut Table,
+  others: impl FnOnce(&dyn Fn(&mut Vec<u32>)),
+) {
   if rng.chance(50) {
     return;
   }

@@ -28,7 +28,7 @@ impl Types {
     types
   }
 
-  pub fn len(&self) -> usize {
+  pub fn node_count(&self) -> usize {
     self.types.len()
   }
 

@@ -109,7 +109,8 @@ impl<'a, I: Idx, T> IntoIterator for &'a mut IdxVec<I, T> {
   type Item = (I, &'a mut T);
   type IntoIter = std::vec::IntoIter<Self::Item>;
   fn into_iter(self) -> Self::IntoIter {
-    let pairs: Vec<_> = self.vec.iter_mut().enumerate().map(|(n, t)| (I::from_usize(n), t)).collect();
+    let pairs: Vec<_> =
+      self.vec.iter_mut().enumerate().map(|(n, t)| (I::from_usize(n), t)).collect();
     pairs.into_iter()
   }
 }
