@@ -127,10 +127,15 @@ pub fn make(directory: &Path, options: &Options) -> io::Result<()> {
 }
 
 /// Hand-built blocks: their name, what they hold, and their cases.
-fn hand_built() -> [(&'static str, &'static str, Vec<Edge>); 4] {
+fn hand_built() -> [(&'static str, &'static str, Vec<Edge>); 5] {
   [
     ("pinned", "document 01's pinned cases, those marked as proved first", edges::pinned()),
     ("checks", "checks 1 to 13 at their edges, on both sides", edges::checks()),
+    (
+      "searches",
+      "one search: modules, built-ins, meetings of types, the order of outcomes",
+      edges::searches(),
+    ),
     ("limits", "limits 14 to 17 and the step limit at their edges, on both sides", edges::limits()),
     ("large", "sizes at their limits, in sheets and questions of many words", edges::large()),
   ]
