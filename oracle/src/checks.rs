@@ -432,21 +432,41 @@ fn check_acyclic(words: &[u32], table: u32, number: u32) -> Checked {
       records::<2>(words, head).iter().map(|[_, word]| *word as usize / 2).collect()
     })
     .collect();
-  // Nodes all of whose children have ended have ended too, until no more do.
-  let mut ended = vec![false; children.len()];
-  loop {
-    let ends = |n: usize| !ended[n] && children[n].iter().all(|&child| ended[child]);
-    let more: Vec<usize> = (0..children.len()).filter(|&n| ends(n)).collect();
-    if more.is_empty() {
-      break;
+  let mut walk = Walk { children: &children, states: vec![State::New; children.len()] };
+  let cyclic = (0..children.len()).find(|&node| !walk.ends(node));
+  cyclic.map_or(Ok(()), |node| {
+    refuse_if(true, number, format!("node {node} reaches a type that reaches itself"))
+  })
+}
+
+#[derive(Clone, Copy, PartialEq, Eq)]
+enum State {
+  New,
+  /// On the way from the first node down to here.
+  Open,
+  /// Every way down from it ends.
+  Ends,
+}
+
+struct Walk<'a> {
+  children: &'a [Vec<usize>],
+  states: Vec<State>,
+}
+
+impl Walk<'_> {
+  /// Whether every way down from a node ends.
+  fn ends(&mut self, node: usize) -> bool {
+    match self.states[node] {
+      State::Ends => return true,
+      State::Open => return false,
+      State::New => {}
     }
-    more.into_iter().for_each(|n| ended[n] = true);
-  }
-  let cyclic = ended.iter().position(|ended| !ended);
-  match cyclic {
-    Some(node) => {
-      refuse_if(true, number, format!("node {node} reaches a type that reaches itself"))
+    self.states[node] = State::Open;
+    let children = self.children;
+    let ends = children[node].iter().all(|&child| self.ends(child));
+    if ends {
+      self.states[node] = State::Ends;
     }
-    None => Ok(()),
+    ends
   }
 }

@@ -1170,6 +1170,22 @@ pub fn large() -> Vec<Edge> {
       format!("the last import of {many} nodes beside the question's {many}"),
     );
   }
+  for (many, number) in [(255, 0), (256, 14)] {
+    let mut draft = Draft::nested();
+    refs(&mut draft.sheet.generics[0].table, many);
+    let args = vec![2 * (many as u32 - 1)];
+    draft.sheet.generics[0].impl_params.push(Query { trait_: 2, args });
+    draft.sheet.traits.push(Trait { definition: 0, arity: 1, inherent: 0 });
+    draft.table.add(kind::UNKNOWN, 0, &[]);
+    draft.query = Query { trait_: 2, args: vec![0] };
+    let outcome =
+      if number == 0 { Outcome::Found(Some(1)) } else { Outcome::Refused(number, Some(1)) };
+    edges.add(
+      draft.call(),
+      outcome,
+      format!("a parameter of {many} nodes beside the question's one"),
+    );
+  }
   let mut draft = Draft::nested();
   refs(&mut draft.sheet.generics[0].table, 300);
   draft.query = Query { trait_: 1, args: vec![0] };

@@ -43,9 +43,10 @@ fn rein_in(call: &mut Call, rng: &mut Rng) {
 type Theme = fn(&mut Rng) -> Call;
 
 fn random_call(rng: &mut Rng) -> Call {
-  let themes: [(usize, Theme); 14] = [
-    (36, impl_of_a_world),
-    (22, flex_of_a_world),
+  let themes: [(usize, Theme); 16] = [
+    (34, impl_of_a_world),
+    (20, flex_of_a_world),
+    (8, meetings),
     (7, nested),
     (5, two_ways_flexible),
     (5, fork_against_drop),
@@ -58,6 +59,7 @@ fn random_call(rng: &mut Rng) -> Call {
     (6, members),
     (5, behind_refs),
     (1, large_question),
+    (1, large_chart),
   ];
   let weights: Vec<usize> = themes.iter().map(|theme| theme.0).collect();
   themes[rng.weighted(&weights)].1(rng)
@@ -191,6 +193,33 @@ fn flex_of_a_world(rng: &mut Rng) -> Call {
   }
   let word = word ^ u32::from(world.rng.chance(15));
   call(world, asking, Question::Flex(word), generics as u32)
+}
+
+/// One impl and a question much like its signature: shared types, unknowns and inversions on both sides.
+fn meetings(rng: &mut Rng) -> Call {
+  let (mut world, fork, _) = flex_world(rng);
+  world.sheet.closures = vec![3, 0];
+  let trait_ = if world.rng.chance(30) {
+    fork
+  } else {
+    let arity = world.rng.range(2, 4) as u32;
+    world.add_trait(arity)
+  };
+  world.sheet.traits[trait_ as usize].inherent = 0;
+  let type_params = world.rng.range(0, 4) as u32;
+  world.sheet.generics.push(Generics { type_params, ..Generics::default() });
+  let mut table = Table::default();
+  let arity = world.sheet.traits[trait_ as usize].arity;
+  let args = (0..arity).map(|_| world.ty(&mut table, type_params, 3)).collect();
+  add_bound_impl(&mut world, 1, trait_, table, args);
+  let mut asking = Asking::default();
+  let args = world.instance(&mut asking, trait_, 1);
+  let times = world.rng.range(0, 4);
+  world.blur(&mut asking, times);
+  if trait_ == fork {
+    return call(world, asking, Question::Flex(args[0]), 0);
+  }
+  call(world, asking, Question::Impl(Query { trait_: trait_ + 1, args }), 0)
 }
 
 /// An impl for S of A that needs A, once or more, and one for Leaf: S round S round Leaf.
@@ -491,17 +520,28 @@ fn without_end(rng: &mut Rng) -> Call {
 
 /// Definitions that reach each other by members and imports, in circles too; impls of traits without arguments.
 fn members(rng: &mut Rng) -> Call {
+  let (definitions, impls) = (rng.range(2, 7), rng.range(1, 3));
+  chart_of(rng, definitions, impls)
+}
+
+/// As `members`, up to the limits of a sheet.
+fn large_chart(rng: &mut Rng) -> Call {
+  let most = if rng.chance(10) { 128 } else { 40 };
+  let (definitions, impls) = (rng.range(10, most), rng.range(5, most));
+  chart_of(rng, definitions, impls)
+}
+
+fn chart_of(rng: &mut Rng, many: usize, impls: usize) -> Call {
   let mut world = World::bare(rng);
-  let many = world.rng.range(2, 7);
   world.sheet.imports =
     (0..world.rng.range(0, 3)).map(|_| world.rng.range(0, many) as u32).collect();
   world.sheet.definitions = (0..many).map(|id| definition(&mut world, id, many)).collect();
-  for _ in 0..world.rng.range(1, 2) {
+  for _ in 0..world.rng.range(1, 2 + impls / 3) {
     let definition = world.rng.below(many) as u32;
     world.sheet.traits.push(Trait { definition, arity: 0, inherent: 0 });
   }
   let traits = world.sheet.traits.len();
-  for _ in 0..world.rng.range(1, 3) {
+  for _ in 0..impls {
     let trait_ = 1 + world.rng.below(traits) as u32;
     let flags = [0, flag::NAMED, flag::NAMED, flag::UNSAFE, flag::MANUAL]
       [world.rng.weighted(&[46, 25, 25, 2, 2])];

@@ -403,6 +403,30 @@ impl<'a> World<'a> {
     }
   }
 
+  /// Puts unknowns, shared types and inversions into a question whose nodes stand behind their children.
+  pub fn blur(&mut self, asking: &mut Asking, times: usize) {
+    for _ in 0..times {
+      let inner = |node: &usize| !asking.table.0[*node].children.is_empty();
+      let parents: Vec<usize> = (0..asking.table.0.len()).filter(inner).collect();
+      if parents.is_empty() {
+        return;
+      }
+      let parent = self.rng.pick(&parents);
+      let child = self.rng.below(asking.table.0[parent].children.len());
+      let unknowns: Vec<usize> = (0..asking.table.0.len())
+        .filter(|&node| asking.table.0[node].kind == kind::UNKNOWN)
+        .collect();
+      let old = asking.table.0[parent].children[child];
+      asking.table.0[parent].children[child] = match self.rng.weighted(&[30, 30, 25, 15]) {
+        0 => asking.table.add(kind::UNKNOWN, 0, &[]),
+        1 if !unknowns.is_empty() => 2 * self.rng.pick(&unknowns) as u32,
+        2 if parent > 0 => 2 * self.rng.below(parent) as u32,
+        3 => old ^ 1,
+        _ => old,
+      };
+    }
+  }
+
   /// Changes a question a little, so that it may have another answer or none.
   pub fn disturb(&mut self, asking: &mut Asking) {
     let many = asking.table.0.len();
