@@ -18,6 +18,7 @@ done < sha256sums
 
 "$oracle" stored check stored > target/stored.txt
 stored=$(awk '/ in all$/ { print $1 }' target/stored.txt)
+pinned=$(grep -c '^= ' stored/pinned.txt)
 
 # Generated cases: the same for the same seed, and no difference, crash or error among the answers.
 generated=0
@@ -47,4 +48,4 @@ slow="impl 0 0 0 0 61 1 50 35 57 41 0 0 0 0 0 0 0 0 0 0 0 18 0 0 0 25 1 0 0 0 0 
 expect timeout "$slow" ""
 expect "no 15 17" "$slow" --limits
 
-echo "oracle: 6 files unchanged, $stored stored cases as stored, $generated generated cases without a difference"
+echo "oracle: 6 files unchanged, $stored stored cases as stored ($pinned pinned), $generated generated cases without a difference"

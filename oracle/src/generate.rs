@@ -440,17 +440,18 @@ fn many_results(rng: &mut Rng) -> Call {
   )
 }
 
-/// Traits of no arguments, each impl asking for several of the next: trees of many nodes.
+/// Traits of no arguments, each impl asking for several of the next: trees of many nodes, or many fresh unknowns.
 fn large_trees(rng: &mut Rng) -> Call {
   let mut world = World::bare(rng);
   let levels = world.rng.range(3, 5);
+  let type_params = world.rng.pick(&[0, 0, 3, 8]);
   for level in 0..levels {
     let trait_ = world.add_trait(0);
     let mut generics = 0;
     if level + 1 < levels {
       let next = Query { trait_: trait_ + 2, args: Vec::new() };
       let impl_params = vec![next; world.rng.range(3, 4)];
-      world.sheet.generics.push(Generics { impl_params, ..Generics::default() });
+      world.sheet.generics.push(Generics { type_params, impl_params, ..Generics::default() });
       generics = world.sheet.generics.len() as u32 - 1;
     }
     add_bound_impl(&mut world, generics, trait_, Table::default(), Vec::new());

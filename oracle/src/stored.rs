@@ -27,7 +27,7 @@ const MOST_LIST_WORDS: usize = 130;
 const IMPL_QUOTA: [(&str, usize, usize); 10] = [
   ("ok", 310, MOST_WORDS),
   ("assert", 25, 140),
-  ("no 14", 6, 600),
+  ("no 14", 16, 260),
   ("no 15", 50, MOST_WORDS),
   ("no 16", 30, MOST_WORDS),
   ("no 17", 10, 220),
