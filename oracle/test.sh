@@ -19,6 +19,9 @@ done < sha256sums
 "$oracle" stored check stored > target/stored.txt
 stored=$(awk '/ in all$/ { print $1 }' target/stored.txt)
 pinned=$(grep -c '^= ' stored/pinned.txt)
+# 16 S round Leaf is refused 15 by document 01 and found by the Rust, at 17 steps.
+grep -q '^= no 15 17$' stored/pinned.txt
+grep -q '^! ok 17 ' stored/pinned.txt
 
 # Generated cases: the same for the same seed, and no difference, crash or error among the answers.
 generated=0

@@ -17,6 +17,8 @@ pub struct Options {
   pub work: u32,
   /// Whether limits 14 to 17 hold, as document 01 has them; the Rust alone has none.
   pub limits: bool,
+  /// Whether checks and model answer alone, without the Rust.
+  pub model: bool,
   /// Whether the most nodes of a type table are told behind the Rust's answer.
   pub tell_most: bool,
   /// How long one case may take.
@@ -29,6 +31,7 @@ impl Default for Options {
       limit: rust::STEPS_LIMIT,
       work: 1_048_576,
       limits: false,
+      model: false,
       tell_most: false,
       timeout: Duration::from_secs(1),
     }
@@ -38,8 +41,12 @@ impl Default for Options {
 impl Options {
   /// Takes the options out of a command's arguments.
   pub fn take(args: &mut Vec<String>) -> Result<Options, String> {
-    let (limits, tell_most) = (take_flag(args, "--limits"), take_flag(args, "--max"));
-    let mut options = Options { limits, tell_most, ..Options::default() };
+    let mut options = Options {
+      limits: take_flag(args, "--limits"),
+      model: take_flag(args, "--model"),
+      tell_most: take_flag(args, "--max"),
+      ..Options::default()
+    };
     if let Some(limit) = take_number(args, "--limit")? {
       if limit > u64::from(rust::STEPS_LIMIT) {
         return Err("a limit over 2,000 cannot be had of the Rust".into());
@@ -58,8 +65,11 @@ impl Options {
   pub fn to_args(&self) -> Vec<String> {
     let mut args =
       vec!["--limit".into(), self.limit.to_string(), "--workspace".into(), self.work.to_string()];
-    args.extend(self.limits.then(|| "--limits".into()));
-    args.extend(self.tell_most.then(|| "--max".into()));
+    for (set, name) in
+      [(self.limits, "--limits"), (self.model, "--model"), (self.tell_most, "--max")]
+    {
+      args.extend(set.then(|| name.into()));
+    }
     args
   }
 }
@@ -88,6 +98,9 @@ pub fn answer_line(line: &str, options: &Options) -> String {
 }
 
 pub fn answer(case: &Case, options: &Options) -> String {
+  if options.model {
+    return of_document(case, options).to_string();
+  }
   match (refused(case, options.work), options.limits) {
     (Some(refused), _) => refused.to_string(),
     (None, false) if options.tell_most => {

@@ -16,7 +16,7 @@ use oracle::{
 };
 
 const USAGE: &str = "\
-oracle [--limits] [--stats]          answers the case lines on standard input
+oracle [--limits | --model] [--stats] answers the case lines on standard input
 oracle gen [--seed N] [--count K] [--damaged PERCENT]
                                      prints case lines, and how often each outcome occurred
 oracle source FILE                   prints a file of docs/src/vine/src as it is compiled here
