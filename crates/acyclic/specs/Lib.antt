@@ -1,2 +1,3 @@
 pub mod Nodes
 pub mod Walk
+pub mod Tables

@@ -46,12 +46,12 @@ same-or m n = go (eqb m n) refl
     go true e = inl (eqb-true m n e)
     go false e = inr (eqb-false m n e)
 
-no-more : (left : ℕ) (s : Words) → chain-of left s 0 ≡ []
+pub no-more : (left : ℕ) (s : Words) → chain-of left s 0 ≡ []
 unfolding chain-of
 no-more zero s = refl
 no-more (suc left) s = refl
 
-one-more : (left : ℕ) (s : Words) (i : ℕ) → left ≢ 0 → i ≢ 0 → chain-of left s i ≡ i ∷ chain-of (left - 1) s (at s i)
+pub one-more : (left : ℕ) (s : Words) (i : ℕ) → left ≢ 0 → i ≢ 0 → chain-of left s i ≡ i ∷ chain-of (left - 1) s (at s i)
 unfolding chain-of
 one-more zero s i a b = absurd (a refl)
 one-more (suc left) s zero a b = absurd (b refl)

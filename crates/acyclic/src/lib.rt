@@ -3,7 +3,10 @@ ghost use mathlib.Core.Path.{_≡_};
 ghost use Prim.Native.Nat.{_<_, _≤_};
 ghost use lib.ListN.{length, set};
 ghost use Rattle.rules.specs.Sheet.{chain};
-ghost use Rattle.acyclic.specs.Nodes.{children-head, cell-node};
+ghost use Rattle.rules.specs.Transfer.{table};
+ghost use Rattle.rules.specs.Acyclic.{acyclic};
+ghost use Rattle.acyclic.specs.Nodes.{children-head, cell-node, Inside};
+ghost use Rattle.acyclic.specs.Tables.{Listed};
 ghost use Rattle.acyclic.specs.Walk.{Walking, Walked};
 
 const NODE_KIND: usize = 1;
@@ -74,5 +77,41 @@ fn walk(s: &[u32], ws: &mut [u32], head: u32, node: usize, fuel: usize) -> bool
         }
     }
     finish(ws, node);
+    true
+}
+
+// Writes the places of a table's nodes to the front of a buffer, and says how many there are.
+fn list_places(s: &[u32], head: u32, ws: &mut [u32]) -> usize
+    requires { ⌜ length (now s) ≤ length (now ws) ⌝ }
+    ensures { λ r. ⌜ Listed (now (s .entry)) head (now (ws .exit)) r ⌝ }
+{
+    let mut place = head;
+    let mut n = 0;
+    while n < s.len() {
+        if place == 0 {
+            return n;
+        }
+        ws[n] = place;
+        place = words::word(s, wide(place));
+        n += 1;
+    }
+    n
+}
+
+// Whether no type of the table from a head reaches itself, with a buffer as long as the slice.
+fn table_ends(s: &[u32], head: u32, ws: &mut [u32]) -> bool
+    requires { ⌜ length (now s) ≤ length (now ws) ⌝ }
+    requires { ⌜ Inside (now s) head ⌝ }
+    ensures { λ r. ⌜ r ≡ acyclic (table (now (s .entry)) head) ⌝ }
+{
+    let n = list_places(s, head, ws);
+    let mut node = 0;
+    while node < n {
+        if walk(s, ws, head, node, n) {
+            node += 1;
+        } else {
+            return false;
+        }
+    }
     true
 }
