@@ -1,13 +1,27 @@
 // Checks 9 and 13: no type of a table reaches itself.
 ghost use mathlib.Core.Path.{_≡_};
-ghost use Prim.Native.Nat.{_<_, _≤_};
+ghost use Prim.Native.Nat.{_+_, _<_, _≤_};
+ghost use lib.Dec.{T};
 ghost use lib.ListN.{length, set};
-ghost use Rattle.rules.specs.Sheet.{chain};
+ghost use Rattle.rules.specs.Sheet.{at, chain};
+ghost use Rattle.rules.specs.Layout.{question·table};
+ghost use Rattle.rules.specs.Values.{sheet-values};
 ghost use Rattle.rules.specs.Transfer.{table};
-ghost use Rattle.rules.specs.Acyclic.{acyclic};
+ghost use Rattle.rules.specs.Acyclic.{acyclic, sheet-acyclic, question-acyclic};
 ghost use Rattle.acyclic.specs.Nodes.{children-head, cell-node, Inside};
 ghost use Rattle.acyclic.specs.Tables.{Listed};
+ghost use Rattle.acyclic.specs.Sheets.{all-acyclic, AllInside, Outside};
 ghost use Rattle.acyclic.specs.Walk.{Walking, Walked};
+
+const HEADER_GENERICS: usize = 2;
+
+const HEADER_IMPLS: usize = 4;
+
+const GENERICS_TABLE: usize = 2;
+
+const IMPL_TABLE: usize = 4;
+
+const QUESTION_TABLE: usize = 0;
 
 const NODE_KIND: usize = 1;
 
@@ -114,4 +128,75 @@ fn table_ends(s: &[u32], head: u32, ws: &mut [u32]) -> bool
         }
     }
     true
+}
+
+// Whether no type of the table from a head reaches itself. The buffer's words from b on are used, as many as the slice has.
+pub fn acyclic_table(s: &[u32], head: u32, ws: &mut [u32], b: usize) -> bool
+    requires { ⌜ Inside (now s) head ⌝ }
+    requires { ⌜ b + length (now s) ≤ length (now ws) ⌝ }
+    ensures { λ r. ⌜ r ≡ acyclic (table (now (s .entry)) head) ⌝ }
+    ensures { λ _. ⌜ Outside b (length (now (s .entry))) (now (ws .entry)) (now (ws .exit)) ⌝ }
+{
+    let e = b + s.len();
+    table_ends(s, head, &mut ws[b..e])
+}
+
+// Whether that holds of the tables that word k of a chain's records heads.
+fn tables_end(s: &[u32], head: usize, k: usize, ws: &mut [u32]) -> bool
+    requires { ⌜ AllInside (now s) k (chain (now s) head) ⌝ }
+    requires { ⌜ length (now s) ≤ length (now ws) ⌝ }
+    ensures { λ r. ⌜ r ≡ all-acyclic (now (s .entry)) k (chain (now (s .entry)) head) ⌝ }
+{
+    let mut place = head;
+    let mut left = s.len();
+    while left != 0 {
+        if place == 0 {
+            return true;
+        }
+        let table = words::offset(s, place, k);
+        if table_ends(s, table, ws) {
+            place = words::next(s, place);
+            left -= 1;
+        } else {
+            return false;
+        }
+    }
+    true
+}
+
+// Whether it holds of the tables of all generics and of all impls.
+fn sheet_ends(s: &[u32], ws: &mut [u32]) -> bool
+    requires { ⌜ T (sheet-values (now s)) ⌝ }
+    requires { ⌜ length (now s) ≤ length (now ws) ⌝ }
+    ensures { λ r. ⌜ r ≡ sheet-acyclic (now (s .entry)) ⌝ }
+{
+    let generics = words::next(s, HEADER_GENERICS);
+    if tables_end(s, generics, GENERICS_TABLE, ws) {
+        let impls = words::next(s, HEADER_IMPLS);
+        tables_end(s, impls, IMPL_TABLE, ws)
+    } else {
+        false
+    }
+}
+
+// Check 9, of a sheet that passed 8. The buffer's words from b on are used, as many as the sheet has.
+pub fn sheet_acyclic(s: &[u32], ws: &mut [u32], b: usize) -> bool
+    requires { ⌜ T (sheet-values (now s)) ⌝ }
+    requires { ⌜ b + length (now s) ≤ length (now ws) ⌝ }
+    ensures { λ r. ⌜ r ≡ sheet-acyclic (now (s .entry)) ⌝ }
+    ensures { λ _. ⌜ Outside b (length (now (s .entry))) (now (ws .entry)) (now (ws .exit)) ⌝ }
+{
+    let e = b + s.len();
+    sheet_ends(s, &mut ws[b..e])
+}
+
+// Check 13, of a question that passed 12. The buffer's words from b on are used, as many as the question has.
+pub fn question_acyclic(q: &[u32], ws: &mut [u32], b: usize) -> bool
+    requires { ⌜ Inside (now q) (at (now q) question·table) ⌝ }
+    requires { ⌜ b + length (now q) ≤ length (now ws) ⌝ }
+    ensures { λ r. ⌜ r ≡ question-acyclic (now (q .entry)) ⌝ }
+    ensures { λ _. ⌜ Outside b (length (now (q .entry))) (now (ws .entry)) (now (ws .exit)) ⌝ }
+{
+    let head = words::word(q, QUESTION_TABLE);
+    acyclic_table(q, head, ws, b)
 }
