@@ -20,7 +20,7 @@ use Rattle.rules.specs.AcyclicLaws.{children-at, child, lt-or, no-children, Dow
 use Rattle.rules.specs.NoCycles.{acyclic-if-none}
 use Rattle.rules.specs.CheckedTables.{table-length}
 use Rattle.acyclic.specs.Nodes.{Inside, child-cell, deep-cyclic}
-use Rattle.acyclic.specs.Walk.{Walking, Walked, no-more, one-more}
+use Rattle.acyclic.specs.Walk.{Walking, Walked, place-is, no-more, one-more}
 
 -- The places of a table's nodes stand at the front of a buffer, r of them.
 pub record Listed (s : Words) (h : ℕ) (ws : Words) (r : ℕ) : Type 0 where
@@ -83,6 +83,10 @@ walks-start s h ws r e i =
       finished = λ m l. absurd (not-suc-le-zero l);
     }
 
+-- Node n was finished before.
+pub walks-past : (s : Words) (h n p : ℕ) (ws : Words) → Walks s h ws n → p ≡ at ws n → p ≡ 0 → Walks s h ws (n + 1)
+walks-past s h n p ws w k z = record { walking = w .walking; finished = below-more (λ m. at ws m ≡ 0) n (w .finished) (sym k ∙ z) }
+
 -- From a node that is no node there is no way down.
 starts : (s : Words) (h n m : ℕ) → Down (table s h) n m → n < length (chain s h)
 starts s h n m (one j k) = subst (λ x. n < x) (table-length s h) (⊎-elim (λ l. l) (λ l. absurd (not-suc-le-zero (subst (λ (ts : List Ty). j < length ts) (no-children (table s h) n l) k))) (lt-or n (length (table s h))))
@@ -93,8 +97,12 @@ true-is true t = refl
 true-is false t = absurd t
 
 module _ (s : Words) (h : ℕ) (ls : Words) (r : ℕ) (e : Listed s h ls r) where
-  pub node-in : (n : ℕ) → n < r → n < length (chain s h)
+  node-in : (n : ℕ) → n < r → n < length (chain s h)
   node-in n l = omega (arith, e .count)
+
+  -- A node that is not finished.
+  pub walks-place : (n p : ℕ) (ws : Words) → n < r → Walks s h ws n → p ≡ at ws n → p ≢ 0 → (n < length (chain s h)) × (p ≡ at (chain s h) n)
+  walks-place n p ws l w f z = (node-in n l, place-is s h n ws p (w .walking) (node-in n l) f z)
 
   -- One node more.
   pub walks-on : (n : ℕ) (ws out : Words) (b : Bool) → n < r → Walks s h ws n → Walked s h n r ws out b → b ≡ true → Walks s h out (n + 1)

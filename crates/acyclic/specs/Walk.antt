@@ -95,21 +95,25 @@ finish-past ws n l = sym (set-out ws n 0 l)
 pub walked-spent : (s : Words) (h n fuel : ℕ) (ws : Words) → fuel ≡ 0 → Walked s h n fuel ws ws false
 walked-spent s h n fuel ws e = record { walking = λ q. never (sym q); finished = λ q. never (sym q); kept = λ q. never (sym q); deep = λ q. subst (λ k. Deep s h k n) (sym e) here }
 
--- The node was finished before.
-pub walked-before : (s : Words) (h n fuel : ℕ) (ws : Words) (p : ℕ) → Walking s h ws → p ≡ at ws n → p ≡ 0 → Walked s h n fuel ws ws true
-walked-before s h n fuel ws p w e z = record { walking = λ q. w; finished = λ q. sym e ∙ z; kept = λ q m k f. f; deep = λ q. never q }
+-- The word of a node that is not finished is its place.
+pub place-is : (s : Words) (h n : ℕ) (ws : Words) (p : ℕ) → Walking s h ws → n < length (chain s h) → p ≡ at ws n → p ≢ 0 → p ≡ at (chain s h) n
+place-is s h n ws p w l e z = ⊎-elim (λ a. absurd (z (e ∙ a))) (λ a. e ∙ a) (w .place n l)
 
 -- The cells of the node: at first all are left.
-pub turning-start : (s : Words) (h n : ℕ) (ws : Words) (p cell : ℕ) → Walking s h ws → n < length (chain s h) → p ≡ at ws n → p ≢ 0 → cell ≡ children-head s p → Turning s h n ws ws (length s) cell
+pub turning-start : (s : Words) (h n : ℕ) (ws : Words) (p cell : ℕ) → Walking s h ws → p ≡ at (chain s h) n → cell ≡ children-head s p → Turning s h n ws ws (length s) cell
 unfolding cells chain
-turning-start s h n ws p cell w l e z f =
-    let q : chain-of (length s) s cell ≡ cells s h n = ap (chain-of (length s) s) (f ∙ ap (children-head s) (⊎-elim (λ a. absurd (z (e ∙ a))) (λ a. e ∙ a) (w .place n l))) in
+turning-start s h n ws p cell w e f =
+    let q : chain-of (length s) s cell ≡ cells s h n = ap (chain-of (length s) s) (f ∙ ap (children-head s) e) in
     record { walking = w; kept = λ m k a. a; rest = λ c i. subst (In c) q i; passed = λ c i. inl (subst (In c) (sym q) i) }
 
 module _ (s : Words) (h n : ℕ) (ws₀ ws : Words) (left cell : ℕ) where
   -- The next cell names a node of the table.
   pub turning-named : (m : ℕ) → Turning s h n ws₀ ws left cell → n < length (chain s h) → left ≢ 0 → cell ≢ 0 → m ≡ cell-node s cell → m < length (chain s h)
   turning-named m t l a b e = subst (λ x. x < length (chain s h)) (sym e) (t .walking .named .inside n l cell (t .rest cell (subst (In cell) (sym (one-more left s cell a b)) first)))
+
+  -- Where that is not finished, its word is its place.
+  pub turning-place : (m p : ℕ) → Turning s h n ws₀ ws left cell → n < length (chain s h) → left ≢ 0 → cell ≢ 0 → m ≡ cell-node s cell → p ≡ at ws m → p ≢ 0 → (m < length (chain s h)) × (p ≡ at (chain s h) m)
+  turning-place m p t l a b e f z = let i = turning-named m t l a b e in (i, place-is s h m ws p (t .walking) i f z)
 
   -- It leads too deep.
   pub turning-deep : (fuel m : ℕ) (out : Words) (r : Bool) → Turning s h n ws₀ ws left cell → fuel ≢ 0 → left ≢ 0 → cell ≢ 0 → m ≡ cell-node s cell → Walked s h m (fuel - 1) ws out r → r ≡ false → Walked s h n fuel ws₀ out false
@@ -130,6 +134,9 @@ module _ (s : Words) (h n : ℕ) (ws₀ ws : Words) (left cell : ℕ) where
             (λ k. inr (w .kept g (cell-node s c) (t .walking .named .inside n l c i) k))
             (t .passed c i);
       }
+
+  pub turning-past : (m p j : ℕ) → Turning s h n ws₀ ws left cell → n < length (chain s h) → left ≢ 0 → cell ≢ 0 → m ≡ cell-node s cell → p ≡ at ws m → p ≡ 0 → j ≡ at s cell → Turning s h n ws₀ ws (left - 1) j
+  turning-past m p j t l a b e k z f = turning-on 0 m j ws true t l a b e (record { walking = λ q. t .walking; finished = λ q. sym k ∙ z; kept = λ q x y u. u; deep = λ q. never q }) refl f
 
   turning-done : (fuel : ℕ) (out : Words) → Turning s h n ws₀ ws left cell → n < length (chain s h) → chain-of left s cell ≡ [] → out ≡ set ws n 0 → Walked s h n fuel ws₀ out true
   turning-done fuel out t l e f =

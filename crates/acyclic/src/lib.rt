@@ -61,19 +61,15 @@ fn finish(ws: &mut [u32], node: usize)
     }
 }
 
-// Walks down from a node and finishes all that it reaches; false where there is a way down of `fuel` steps.
+// Walks down from the node at a place and finishes all that it reaches; false where there is a way down of `fuel` steps.
 // Word n of the buffer is the place of node n, and 0 once it is finished.
-fn walk(s: &[u32], ws: &mut [u32], head: u32, node: usize, fuel: usize) -> bool
+fn walk(s: &[u32], ws: &mut [u32], head: u32, node: usize, place: usize, fuel: usize) -> bool
     requires { ⌜ Walking (now s) head (now ws) ⌝ }
-    requires { ⌜ node < length (chain (now s) head) ⌝ }
+    requires { ⌜ (node < length (chain (now s) head)) × (place ≡ at (chain (now s) head) node) ⌝ }
     ensures { λ r. ⌜ Walked (now (s .entry)) head node fuel (now (ws .entry)) (now (ws .exit)) r ⌝ }
 {
     if fuel == 0 {
         return false;
-    }
-    let place = words::next(ws, node);
-    if place == 0 {
-        return true;
     }
     let mut cell = children_head(s, place);
     let mut left = s.len();
@@ -83,11 +79,15 @@ fn walk(s: &[u32], ws: &mut [u32], head: u32, node: usize, fuel: usize) -> bool
             return true;
         }
         let child = cell_node(s, cell);
-        if walk(s, ws, head, child, fuel - 1) {
-            cell = words::next(s, cell);
-            left -= 1;
-        } else {
-            return false;
+        let below = words::next(ws, child);
+        cell = words::next(s, cell);
+        left -= 1;
+        if below != 0 {
+            if walk(s, ws, head, child, below, fuel - 1) {
+                continue;
+            } else {
+                return false;
+            }
         }
     }
     finish(ws, node);
@@ -121,10 +121,15 @@ fn table_ends(s: &[u32], head: u32, ws: &mut [u32]) -> bool
     let n = list_places(s, head, ws);
     let mut node = 0;
     while node < n {
-        if walk(s, ws, head, node, n) {
-            node += 1;
-        } else {
-            return false;
+        let this = node;
+        node += 1;
+        let place = words::next(ws, this);
+        if place != 0 {
+            if walk(s, ws, head, this, place, n) {
+                continue;
+            } else {
+                return false;
+            }
         }
     }
     true

@@ -2,7 +2,7 @@
 use mathlib.Core.Path.{_≡_}
 use lib.ListN.{length}
 use borrow.Author.Needs.{needs}
-use Rattle.acyclic.specs.Walk.{Turning, walked-spent, walked-before, turning-start, turning-named, turning-deep, turning-on, turning-end, turning-spent}
+use Rattle.acyclic.specs.Walk.{Turning, walked-spent, turning-start, turning-place, turning-deep, turning-on, turning-past, turning-end, turning-spent}
 use Prim.Native.Nat.{ℕ, _<_}
 use borrow.Fn.Kinds.{In}
 use borrow.Fn.PlainCycle.{Measures, is, falls, and}
@@ -17,7 +17,7 @@ use Rattle.acyclic.proofs.+walk.{statement}
 use Rattle.acyclic.proofs.+walk.Tie.{close}
 
 abbrev μ-walk : Measures 2 walk-kinds.ps ℕ
-μ-walk κs a = a .1 .1 .1 .1 .0
+μ-walk κs a = a .1 .1 .1 .1 .1 .0
 
 abbrev walk-at : ℕ → In 2 walk-kinds.ps
 walk-at t = and 2 walk-kinds.ps (is 2 walk-kinds.ps μ-walk t) walk.Pre
@@ -26,25 +26,16 @@ abbrev walk-below : ℕ → In 2 walk-kinds.ps
 walk-below t = and 2 walk-kinds.ps (falls 2 walk-kinds.ps _<_ μ-walk t) walk.Pre
 
 abbrev walk-Inv-loop : walk-lts.InvT-loop
-walk-Inv-loop s ws₀ head node fuel place cell₀ left₀ ws cell left = (length ws ≡ length ws₀) × Turning s head node ws₀ ws left cell
+walk-Inv-loop s ws₀ head node place fuel cell₀ left₀ ws cell left = (length ws ≡ length ws₀) × Turning s head node ws₀ ws left cell
 
 abbrev walk-μ-loop : walk-lts.MeasureT-loop
-walk-μ-loop s ws₀ head node fuel place cell₀ left₀ ws cell left = left
+walk-μ-loop s ws₀ head node place fuel cell₀ left₀ ws cell left = left
 
 abbrev walk-calls : ℕ → walk-lts.Claims
-walk-calls t = (next-reads.Asked, next-reads.Learnt, children-head-reads.Asked, children-head-reads.Learnt, finish-reads.Asked, finish-reads.Learnt, cell-node-reads.Asked, cell-node-reads.Learnt, walk-below t, walk.Post)
+walk-calls t = (children-head-reads.Asked, children-head-reads.Learnt, finish-reads.Asked, finish-reads.Learnt, cell-node-reads.Asked, cell-node-reads.Learnt, next-reads.Asked, next-reads.Learnt, walk-below t, walk.Post)
 
 walk-returns : (t : ℕ) → walk-lts.Need-returns (walk-calls t) (walk-at t) walk.Post walk-Inv-loop walk-μ-loop
 walk-returns t c = search (needs, walked-spent)
-
-walk-next-requires : (t : ℕ) → walk-lts.Need-next-requires (walk-calls t) (walk-at t) walk.Post walk-Inv-loop walk-μ-loop
-walk-next-requires t c κs = search needs
-
-walk-same-length : (t : ℕ) → walk-lts.Need-same-length (walk-calls t) (walk-at t) walk.Post walk-Inv-loop walk-μ-loop
-walk-same-length t c = search needs
-
-walk-returns-2 : (t : ℕ) → walk-lts.Need-returns-2 (walk-calls t) (walk-at t) walk.Post walk-Inv-loop walk-μ-loop
-walk-returns-2 t c = search (needs, walked-before)
 
 walk-children-head-requires : (t : ℕ) → walk-lts.Need-children-head-requires (walk-calls t) (walk-at t) walk.Post walk-Inv-loop walk-μ-loop
 walk-children-head-requires t c κs = search needs
@@ -55,20 +46,17 @@ walk-loop-holds t c = search (needs, turning-start)
 walk-finish-requires : (t : ℕ) → walk-lts.Need-finish-requires (walk-calls t) (walk-at t) walk.Post walk-Inv-loop walk-μ-loop
 walk-finish-requires t c κs = search needs
 
-walk-same-length-2 : (t : ℕ) → walk-lts.Need-same-length-2 (walk-calls t) (walk-at t) walk.Post walk-Inv-loop walk-μ-loop
-walk-same-length-2 t c = search needs
+walk-same-length : (t : ℕ) → walk-lts.Need-same-length (walk-calls t) (walk-at t) walk.Post walk-Inv-loop walk-μ-loop
+walk-same-length t c = search needs
 
-walk-returns-3 : (t : ℕ) → walk-lts.Need-returns-3 (walk-calls t) (walk-at t) walk.Post walk-Inv-loop walk-μ-loop
-walk-returns-3 t c = search (needs, turning-end)
+walk-returns-2 : (t : ℕ) → walk-lts.Need-returns-2 (walk-calls t) (walk-at t) walk.Post walk-Inv-loop walk-μ-loop
+walk-returns-2 t c = search (needs, turning-end)
 
 walk-cell-node-requires : (t : ℕ) → walk-lts.Need-cell-node-requires (walk-calls t) (walk-at t) walk.Post walk-Inv-loop walk-μ-loop
 walk-cell-node-requires t c κs = search needs
 
-walk-sub-walk : (t : ℕ) → walk-lts.Need-sub-walk (walk-calls t) (walk-at t) walk.Post walk-Inv-loop walk-μ-loop
-walk-sub-walk t c = search needs
-
-walk-walk-requires : (t : ℕ) → walk-lts.Need-walk-requires (walk-calls t) (walk-at t) walk.Post walk-Inv-loop walk-μ-loop
-walk-walk-requires t c κs = search (needs, turning-named)
+walk-next-requires : (t : ℕ) → walk-lts.Need-next-requires (walk-calls t) (walk-at t) walk.Post walk-Inv-loop walk-μ-loop
+walk-next-requires t c κs = search needs
 
 walk-next-requires-2 : (t : ℕ) → walk-lts.Need-next-requires-2 (walk-calls t) (walk-at t) walk.Post walk-Inv-loop walk-μ-loop
 walk-next-requires-2 t c κs = search needs
@@ -76,26 +64,42 @@ walk-next-requires-2 t c κs = search needs
 walk-sub-left : (t : ℕ) → walk-lts.Need-sub-left (walk-calls t) (walk-at t) walk.Post walk-Inv-loop walk-μ-loop
 walk-sub-left t c = search needs
 
+walk-sub-walk : (t : ℕ) → walk-lts.Need-sub-walk (walk-calls t) (walk-at t) walk.Post walk-Inv-loop walk-μ-loop
+walk-sub-walk t c = search needs
+
+walk-walk-requires : (t : ℕ) → walk-lts.Need-walk-requires (walk-calls t) (walk-at t) walk.Post walk-Inv-loop walk-μ-loop
+walk-walk-requires t c κs =
+    let l = c .before .before .before .before .before .before .before .before in
+    (search needs, (search needs, turning-place _ _ _ _ _ _ _ _ _ (l .loop .inv .1) (search needs) (c .before .before .before .before .before .before .before .loop-test .taken) (c .before .before .before .before .before .before .if2 .left) (c .before .before .before .before .before .cell-node .ensures) (c .before .before .before .next .ensures) (c .before .if3 .taken)))
+
 walk-loop-less : (t : ℕ) → walk-lts.Need-loop-less (walk-calls t) (walk-at t) walk.Post walk-Inv-loop walk-μ-loop
 walk-loop-less t c = search needs
 
 walk-loop-again : (t : ℕ) → walk-lts.Need-loop-again (walk-calls t) (walk-at t) walk.Post walk-Inv-loop walk-μ-loop
 walk-loop-again t c = search (needs, turning-on)
 
-walk-same-length-3 : (t : ℕ) → walk-lts.Need-same-length-3 (walk-calls t) (walk-at t) walk.Post walk-Inv-loop walk-μ-loop
-walk-same-length-3 t c = search needs
+walk-same-length-2 : (t : ℕ) → walk-lts.Need-same-length-2 (walk-calls t) (walk-at t) walk.Post walk-Inv-loop walk-μ-loop
+walk-same-length-2 t c = search needs
 
-walk-returns-4 : (t : ℕ) → walk-lts.Need-returns-4 (walk-calls t) (walk-at t) walk.Post walk-Inv-loop walk-μ-loop
-walk-returns-4 t c = search (needs, turning-deep)
+walk-returns-3 : (t : ℕ) → walk-lts.Need-returns-3 (walk-calls t) (walk-at t) walk.Post walk-Inv-loop walk-μ-loop
+walk-returns-3 t c = search (needs, turning-deep)
+
+walk-loop-less-2 : (t : ℕ) → walk-lts.Need-loop-less-2 (walk-calls t) (walk-at t) walk.Post walk-Inv-loop walk-μ-loop
+walk-loop-less-2 t c = search needs
+
+walk-loop-again-2 : (t : ℕ) → walk-lts.Need-loop-again-2 (walk-calls t) (walk-at t) walk.Post walk-Inv-loop walk-μ-loop
+walk-loop-again-2 t c =
+    let l = c .before .before .before .before .before .before .before in
+    (search needs, turning-past _ _ _ _ _ _ _ _ _ _ (l .loop .inv .1) (search needs) (c .before .before .before .before .before .before .loop-test .taken) (c .before .before .before .before .before .if2 .left) (c .before .before .before .before .cell-node .ensures) (c .before .before .next .ensures) (c .if3 .left) (c .before .next2 .ensures))
 
 walk-finish-requires-2 : (t : ℕ) → walk-lts.Need-finish-requires-2 (walk-calls t) (walk-at t) walk.Post walk-Inv-loop walk-μ-loop
 walk-finish-requires-2 t c κs = search needs
 
-walk-same-length-4 : (t : ℕ) → walk-lts.Need-same-length-4 (walk-calls t) (walk-at t) walk.Post walk-Inv-loop walk-μ-loop
-walk-same-length-4 t c = search needs
+walk-same-length-3 : (t : ℕ) → walk-lts.Need-same-length-3 (walk-calls t) (walk-at t) walk.Post walk-Inv-loop walk-μ-loop
+walk-same-length-3 t c = search needs
 
-walk-returns-5 : (t : ℕ) → walk-lts.Need-returns-5 (walk-calls t) (walk-at t) walk.Post walk-Inv-loop walk-μ-loop
-walk-returns-5 t c = search (needs, turning-spent)
+walk-returns-4 : (t : ℕ) → walk-lts.Need-returns-4 (walk-calls t) (walk-at t) walk.Post walk-Inv-loop walk-μ-loop
+walk-returns-4 t c = search (needs, turning-spent)
 
 pub +walk-spec : {M : Type 1} → statement M
 +walk-spec = close μ-walk λ t. walk-lts.spec (walk-calls t) (walk-at t)
@@ -103,23 +107,23 @@ pub +walk-spec : {M : Type 1} → statement M
     walk-Inv-loop
     walk-μ-loop
     (walk-returns t)
-    (walk-next-requires t)
-    (walk-same-length t)
-    (walk-returns-2 t)
     (walk-children-head-requires t)
     (walk-loop-holds t)
     (walk-finish-requires t)
-    (walk-same-length-2 t)
-    (walk-returns-3 t)
+    (walk-same-length t)
+    (walk-returns-2 t)
     (walk-cell-node-requires t)
-    (walk-sub-walk t)
-    (walk-walk-requires t)
+    (walk-next-requires t)
     (walk-next-requires-2 t)
     (walk-sub-left t)
+    (walk-sub-walk t)
+    (walk-walk-requires t)
     (walk-loop-less t)
     (walk-loop-again t)
+    (walk-same-length-2 t)
+    (walk-returns-3 t)
+    (walk-loop-less-2 t)
+    (walk-loop-again-2 t)
+    (walk-finish-requires-2 t)
     (walk-same-length-3 t)
     (walk-returns-4 t)
-    (walk-finish-requires-2 t)
-    (walk-same-length-4 t)
-    (walk-returns-5 t)

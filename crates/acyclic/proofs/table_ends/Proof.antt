@@ -2,7 +2,7 @@
 use Prim.Native.Nat.{_≤_, _-_}
 use mathlib.Core.Path.{_≡_}
 use lib.ListN.{length}
-use Rattle.acyclic.specs.Tables.{Walks, node-in, walks-start, walks-on, walks-deep, walks-end}
+use Rattle.acyclic.specs.Tables.{Walks, walks-start, walks-place, walks-on, walks-past, walks-deep, walks-end}
 use borrow.Author.Needs.{needs}
 use Rattle.acyclic.proofs.table_ends.Statement.{statement}
 use Rattle.acyclic.proofs.table_ends.Tie as tie
@@ -19,11 +19,16 @@ list-places-requires c κs = search needs
 loop-holds : tie.Need-loop-holds Inv-loop μ-loop
 loop-holds c = search (needs, walks-start)
 
-walk-requires : tie.Need-walk-requires Inv-loop μ-loop
-walk-requires c κs = search (needs, node-in)
-
 add-node : tie.Need-add-node Inv-loop μ-loop
 add-node c = search needs
+
+next-requires : tie.Need-next-requires Inv-loop μ-loop
+next-requires c κs = search needs
+
+walk-requires : tie.Need-walk-requires Inv-loop μ-loop
+walk-requires c κs =
+    let l = c .before .before .before .before .before in
+    (search needs, walks-place _ _ _ _ (l .before .before .before .list-places .ensures) _ _ _ (c .before .before .before .before .loop-test .taken) (l .loop .inv .2) (c .before .before .next .ensures) (c .before .if1 .taken))
 
 loop-less : tie.Need-loop-less Inv-loop μ-loop
 loop-less c = search needs
@@ -36,6 +41,12 @@ same-length c = search needs
 
 returns : tie.Need-returns Inv-loop μ-loop
 returns c = search (needs, walks-deep)
+
+loop-less-2 : tie.Need-loop-less-2 Inv-loop μ-loop
+loop-less-2 c = search needs
+
+loop-again-2 : tie.Need-loop-again-2 Inv-loop μ-loop
+loop-again-2 c = (search needs, search needs, walks-past _ _ _ _ _ (c .before .before .before .before .loop .inv .2) (c .before .next .ensures) (c .if1 .left))
 
 same-length-2 : tie.Need-same-length-2 Inv-loop μ-loop
 same-length-2 c = search needs
@@ -51,11 +62,14 @@ table-ends-spec =
     μ-loop
     list-places-requires
     loop-holds
-    walk-requires
     add-node
+    next-requires
+    walk-requires
     loop-less
     loop-again
     same-length
     returns
+    loop-less-2
+    loop-again-2
     same-length-2
     returns-2)
