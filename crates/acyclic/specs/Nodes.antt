@@ -6,13 +6,13 @@ use mathlib.Core.List.{List, [], _∷_, map}
 use mathlib.Core.Logic.{_≢_}
 use native.Mathlib.Nat.{le-trans, le-of-suc-le-suc, not-suc-le-zero, le-max-left, le-max-right}
 use native.Mathlib.Omega.{arith}
-use lib.Dec.{T, eqb, ltb→lt}
+use lib.Dec.{T, eqb}
 use lib.ListN.{length, getD}
 use borrow.Author.Tests.{eq-eqb, ne-eqb}
-use Rattle.rules.specs.Lists.{Words, all}
+use Rattle.rules.specs.Lists.{Words}
 use Rattle.rules.specs.Layout.{node·kind, node·children, cell·type, kind·unknown}
 use Rattle.rules.specs.Sheet.{at, chain, chain-of}
-use Rattle.rules.specs.Types.{Ty, TypeState}
+use Rattle.rules.specs.Types.{Ty}
 use Rattle.rules.specs.Transfer.{type-of-word, cell-types, node-state, table}
 use Rattle.rules.specs.Values.{table-ok}
 use Rattle.rules.specs.Acyclic.{children, above, heights, acyclic}

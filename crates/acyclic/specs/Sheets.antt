@@ -1,19 +1,18 @@
 -- The tables of a sheet and of a question: those that word k of a chain's records heads, what 8 and 12 promise of them, and what a check leaves of a buffer.
-use Prim.Native.Nat.{ℕ, zero, suc, _+_, _-_, _≤_, _<_}
+use Prim.Native.Nat.{ℕ, _+_, _-_, _≤_, _<_}
 use mathlib.Core.Path.{_≡_, refl, sym, _∙_, ap, subst}
 use mathlib.Core.Bool.{Bool, true, false, _&&_}
-use mathlib.Core.List.{[], _∷_}
 use mathlib.Core.Logic.{_≢_}
 use native.Mathlib.Omega.{arith}
 use lib.Dec.{T}
-use lib.ListN.{length, getD, take, drop}
+use lib.ListN.{length}
 use lib.Seq.{getD-take, getD-drop}
 use borrow.Rule.Slice.PartMut.{putMid, midOf, mid-len, take-put, drop-put}
 use Rattle.rules.specs.Lists.{Words, all}
 use Rattle.rules.specs.Layout.{header·generics, header·impls, generics·table, impl·table, question·table}
 use Rattle.rules.specs.Sheet.{at, chain, chain-of, records}
 use Rattle.rules.specs.Transfer.{table}
-use Rattle.rules.specs.Values.{table-ok, generics-ok, impl-ok, sheet-values, impl-question-values, flex-question-values}
+use Rattle.rules.specs.Values.{generics-ok, impl-ok, sheet-values, impl-question-values, flex-question-values}
 use Rattle.rules.specs.Acyclic.{acyclic, sheet-acyclic, question-acyclic}
 use Rattle.rules.specs.Members.{In, first, later, all-in}
 use Rattle.rules.specs.CheckLaws.{part}

@@ -3,20 +3,20 @@ use Prim.Native.Nat.{ℕ, zero, suc, _+_, _-_, _≤_, _<_}
 use mathlib.Core.Path.{_≡_, refl, sym, _∙_, ap, subst}
 use mathlib.Core.Bool.{Bool, true, false}
 use mathlib.Core.List.{List, [], _∷_, _++_, append-assoc, append-nil}
-use mathlib.Core.Logic.{_⊎_, inl, inr, ⊎-elim, _≢_}
+use mathlib.Core.Logic.{inr, ⊎-elim, _≢_}
 use native.Mathlib.Nat.{sub-zero, not-suc-le-zero, le-of-suc-le-suc}
 use native.Mathlib.Numerals.{add-one}
 use native.Mathlib.Omega.{arith}
 use lib.Dec.{T}
-use lib.ListN.{length, getD, set, take, length-set}
+use lib.ListN.{length, set, take}
 use lib.Seq.{length-take-le, take-suc-set, getD-take}
 use borrow.Author.Count.{below-more}
-use Rattle.rules.specs.Lists.{Words, all}
+use Rattle.rules.specs.Lists.{Words}
 use Rattle.rules.specs.Sheet.{at, chain, chain-of}
 use Rattle.rules.specs.Transfer.{table}
 use Rattle.rules.specs.Types.{Ty}
 use Rattle.rules.specs.Acyclic.{acyclic}
-use Rattle.rules.specs.AcyclicLaws.{children-at, child, lt-or, no-children, Down, one, on}
+use Rattle.rules.specs.AcyclicLaws.{child, lt-or, no-children, Down, one, on}
 use Rattle.rules.specs.NoCycles.{acyclic-if-none}
 use Rattle.rules.specs.CheckedTables.{table-length}
 use Rattle.acyclic.specs.Nodes.{Inside, child-cell, deep-cyclic}
@@ -84,8 +84,8 @@ walks-start s h ws r e i =
     }
 
 -- Node n was finished before.
-pub walks-past : (s : Words) (h n p : ℕ) (ws : Words) → Walks s h ws n → p ≡ at ws n → p ≡ 0 → Walks s h ws (n + 1)
-walks-past s h n p ws w k z = record { walking = w .walking; finished = below-more (λ m. at ws m ≡ 0) n (w .finished) (sym k ∙ z) }
+pub walks-past : (s : Words) (h n p : ℕ) (ws : Words) → p ≡ 0 → p ≡ at ws n → Walks s h ws n → Walks s h ws (n + 1)
+walks-past s h n p ws z k w = record { walking = w .walking; finished = below-more (λ m. at ws m ≡ 0) n (w .finished) (sym k ∙ z) }
 
 -- From a node that is no node there is no way down.
 starts : (s : Words) (h n m : ℕ) → Down (table s h) n m → n < length (chain s h)
@@ -97,12 +97,12 @@ true-is true t = refl
 true-is false t = absurd t
 
 module _ (s : Words) (h : ℕ) (ls : Words) (r : ℕ) (e : Listed s h ls r) where
-  node-in : (n : ℕ) → n < r → n < length (chain s h)
+  pub node-in : (n : ℕ) → n < r → n < length (chain s h)
   node-in n l = omega (arith, e .count)
 
   -- A node that is not finished.
-  pub walks-place : (n p : ℕ) (ws : Words) → n < r → Walks s h ws n → p ≡ at ws n → p ≢ 0 → (n < length (chain s h)) × (p ≡ at (chain s h) n)
-  walks-place n p ws l w f z = (node-in n l, place-is s h n ws p (w .walking) (node-in n l) f z)
+  pub walks-place : (n p : ℕ) (ws : Words) → n < r → Walks s h ws n → p ≡ at ws n → p ≢ 0 → p ≡ at (chain s h) n
+  walks-place n p ws l w f z = place-is s h n ws p (w .walking) (node-in n l) f z
 
   -- One node more.
   pub walks-on : (n : ℕ) (ws out : Words) (b : Bool) → n < r → Walks s h ws n → Walked s h n r ws out b → b ≡ true → Walks s h out (n + 1)

@@ -112,8 +112,8 @@ module _ (s : Words) (h n : ℕ) (ws₀ ws : Words) (left cell : ℕ) where
   turning-named m t l a b e = subst (λ x. x < length (chain s h)) (sym e) (t .walking .named .inside n l cell (t .rest cell (subst (In cell) (sym (one-more left s cell a b)) first)))
 
   -- Where that is not finished, its word is its place.
-  pub turning-place : (m p : ℕ) → Turning s h n ws₀ ws left cell → n < length (chain s h) → left ≢ 0 → cell ≢ 0 → m ≡ cell-node s cell → p ≡ at ws m → p ≢ 0 → (m < length (chain s h)) × (p ≡ at (chain s h) m)
-  turning-place m p t l a b e f z = let i = turning-named m t l a b e in (i, place-is s h m ws p (t .walking) i f z)
+  pub turning-place : (m p : ℕ) → Turning s h n ws₀ ws left cell → n < length (chain s h) → left ≢ 0 → cell ≢ 0 → m ≡ cell-node s cell → p ≡ at ws m → p ≢ 0 → p ≡ at (chain s h) m
+  turning-place m p t l a b e f z = place-is s h m ws p (t .walking) (turning-named m t l a b e) f z
 
   -- It leads too deep.
   pub turning-deep : (fuel m : ℕ) (out : Words) (r : Bool) → Turning s h n ws₀ ws left cell → fuel ≢ 0 → left ≢ 0 → cell ≢ 0 → m ≡ cell-node s cell → Walked s h m (fuel - 1) ws out r → r ≡ false → Walked s h n fuel ws₀ out false
@@ -135,8 +135,8 @@ module _ (s : Words) (h n : ℕ) (ws₀ ws : Words) (left cell : ℕ) where
             (t .passed c i);
       }
 
-  pub turning-past : (m p j : ℕ) → Turning s h n ws₀ ws left cell → n < length (chain s h) → left ≢ 0 → cell ≢ 0 → m ≡ cell-node s cell → p ≡ at ws m → p ≡ 0 → j ≡ at s cell → Turning s h n ws₀ ws (left - 1) j
-  turning-past m p j t l a b e k z f = turning-on 0 m j ws true t l a b e (record { walking = λ q. t .walking; finished = λ q. sym k ∙ z; kept = λ q x y u. u; deep = λ q. never q }) refl f
+  pub turning-past : (m p j : ℕ) → p ≡ 0 → p ≡ at ws m → m ≡ cell-node s cell → j ≡ at s cell → left ≢ 0 → cell ≢ 0 → Turning s h n ws₀ ws left cell → n < length (chain s h) → Turning s h n ws₀ ws (left - 1) j
+  turning-past m p j z k e f a b t l = turning-on 0 m j ws true t l a b e (record { walking = λ q. t .walking; finished = λ q. sym k ∙ z; kept = λ q x y u. u; deep = λ q. never q }) refl f
 
   turning-done : (fuel : ℕ) (out : Words) → Turning s h n ws₀ ws left cell → n < length (chain s h) → chain-of left s cell ≡ [] → out ≡ set ws n 0 → Walked s h n fuel ws₀ out true
   turning-done fuel out t l e f =

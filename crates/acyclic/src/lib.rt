@@ -1,4 +1,5 @@
-// Checks 9 and 13: no type of a table reaches itself.
+// Checks 9 and 13: no type of a table reaches itself. A table takes time linear in its nodes and cells: each node is finished once,
+// and the first way down of as many steps as there are nodes ends the walk. Calls nest no deeper than the table has nodes.
 ghost use mathlib.Core.Path.{_≡_};
 ghost use Prim.Native.Nat.{_+_, _<_, _≤_};
 ghost use lib.Dec.{T};
@@ -13,6 +14,7 @@ ghost use Rattle.acyclic.specs.Tables.{Listed};
 ghost use Rattle.acyclic.specs.Sheets.{all-acyclic, AllInside, Outside};
 ghost use Rattle.acyclic.specs.Walk.{Walking, Walked};
 
+// Words of the header, of the question and of records.
 const HEADER_GENERICS: usize = 2;
 
 const HEADER_IMPLS: usize = 4;
@@ -65,7 +67,8 @@ fn finish(ws: &mut [u32], node: usize)
 // Word n of the buffer is the place of node n, and 0 once it is finished.
 fn walk(s: &[u32], ws: &mut [u32], head: u32, node: usize, place: usize, fuel: usize) -> bool
     requires { ⌜ Walking (now s) head (now ws) ⌝ }
-    requires { ⌜ (node < length (chain (now s) head)) × (place ≡ at (chain (now s) head) node) ⌝ }
+    requires { ⌜ node < length (chain (now s) head) ⌝ }
+    requires { ⌜ place ≡ at (chain (now s) head) node ⌝ }
     ensures { λ r. ⌜ Walked (now (s .entry)) head node fuel (now (ws .entry)) (now (ws .exit)) r ⌝ }
 {
     if fuel == 0 {
@@ -113,7 +116,7 @@ fn list_places(s: &[u32], head: u32, ws: &mut [u32]) -> usize
 }
 
 // Whether no type of the table from a head reaches itself, with a buffer as long as the slice.
-fn table_ends(s: &[u32], head: u32, ws: &mut [u32]) -> bool
+fn walk_table(s: &[u32], head: u32, ws: &mut [u32]) -> bool
     requires { ⌜ length (now s) ≤ length (now ws) ⌝ }
     requires { ⌜ Inside (now s) head ⌝ }
     ensures { λ r. ⌜ r ≡ acyclic (table (now (s .entry)) head) ⌝ }
@@ -143,11 +146,11 @@ pub fn acyclic_table(s: &[u32], head: u32, ws: &mut [u32], b: usize) -> bool
     ensures { λ _. ⌜ Outside b (length (now (s .entry))) (now (ws .entry)) (now (ws .exit)) ⌝ }
 {
     let e = b + s.len();
-    table_ends(s, head, &mut ws[b..e])
+    walk_table(s, head, &mut ws[b..e])
 }
 
 // Whether that holds of the tables that word k of a chain's records heads.
-fn tables_end(s: &[u32], head: usize, k: usize, ws: &mut [u32]) -> bool
+fn walk_tables(s: &[u32], head: usize, k: usize, ws: &mut [u32]) -> bool
     requires { ⌜ AllInside (now s) k (chain (now s) head) ⌝ }
     requires { ⌜ length (now s) ≤ length (now ws) ⌝ }
     ensures { λ r. ⌜ r ≡ all-acyclic (now (s .entry)) k (chain (now (s .entry)) head) ⌝ }
@@ -159,7 +162,7 @@ fn tables_end(s: &[u32], head: usize, k: usize, ws: &mut [u32]) -> bool
             return true;
         }
         let table = words::offset(s, place, k);
-        if table_ends(s, table, ws) {
+        if walk_table(s, table, ws) {
             place = words::next(s, place);
             left -= 1;
         } else {
@@ -170,15 +173,15 @@ fn tables_end(s: &[u32], head: usize, k: usize, ws: &mut [u32]) -> bool
 }
 
 // Whether it holds of the tables of all generics and of all impls.
-fn sheet_ends(s: &[u32], ws: &mut [u32]) -> bool
+fn walk_sheet(s: &[u32], ws: &mut [u32]) -> bool
     requires { ⌜ T (sheet-values (now s)) ⌝ }
     requires { ⌜ length (now s) ≤ length (now ws) ⌝ }
     ensures { λ r. ⌜ r ≡ sheet-acyclic (now (s .entry)) ⌝ }
 {
     let generics = words::next(s, HEADER_GENERICS);
-    if tables_end(s, generics, GENERICS_TABLE, ws) {
+    if walk_tables(s, generics, GENERICS_TABLE, ws) {
         let impls = words::next(s, HEADER_IMPLS);
-        tables_end(s, impls, IMPL_TABLE, ws)
+        walk_tables(s, impls, IMPL_TABLE, ws)
     } else {
         false
     }
@@ -192,7 +195,7 @@ pub fn sheet_acyclic(s: &[u32], ws: &mut [u32], b: usize) -> bool
     ensures { λ _. ⌜ Outside b (length (now (s .entry))) (now (ws .entry)) (now (ws .exit)) ⌝ }
 {
     let e = b + s.len();
-    sheet_ends(s, &mut ws[b..e])
+    walk_sheet(s, &mut ws[b..e])
 }
 
 // Check 13, of a question that passed 12. The buffer's words from b on are used, as many as the question has.

@@ -2,7 +2,7 @@
 use mathlib.Core.Path.{_≡_}
 use lib.ListN.{length}
 use borrow.Author.Needs.{needs}
-use Rattle.acyclic.specs.Walk.{Turning, walked-spent, turning-start, turning-place, turning-deep, turning-on, turning-past, turning-end, turning-spent}
+use Rattle.acyclic.specs.Walk.{Turning, walked-spent, turning-start, turning-named, turning-place, turning-deep, turning-on, turning-past, turning-end, turning-spent}
 use Prim.Native.Nat.{ℕ, _<_}
 use borrow.Fn.Kinds.{In}
 use borrow.Fn.PlainCycle.{Measures, is, falls, and}
@@ -68,9 +68,7 @@ walk-sub-walk : (t : ℕ) → walk-lts.Need-sub-walk (walk-calls t) (walk-at t) 
 walk-sub-walk t c = search needs
 
 walk-walk-requires : (t : ℕ) → walk-lts.Need-walk-requires (walk-calls t) (walk-at t) walk.Post walk-Inv-loop walk-μ-loop
-walk-walk-requires t c κs =
-    let l = c .before .before .before .before .before .before .before .before in
-    (search needs, (search needs, turning-place _ _ _ _ _ _ _ _ _ (l .loop .inv .1) (search needs) (c .before .before .before .before .before .before .before .loop-test .taken) (c .before .before .before .before .before .before .if2 .left) (c .before .before .before .before .before .cell-node .ensures) (c .before .before .before .next .ensures) (c .before .if3 .taken)))
+walk-walk-requires t c κs = (search needs, (search needs, (search (needs, turning-named), search (needs, turning-place))))
 
 walk-loop-less : (t : ℕ) → walk-lts.Need-loop-less (walk-calls t) (walk-at t) walk.Post walk-Inv-loop walk-μ-loop
 walk-loop-less t c = search needs
@@ -88,9 +86,7 @@ walk-loop-less-2 : (t : ℕ) → walk-lts.Need-loop-less-2 (walk-calls t) (walk-
 walk-loop-less-2 t c = search needs
 
 walk-loop-again-2 : (t : ℕ) → walk-lts.Need-loop-again-2 (walk-calls t) (walk-at t) walk.Post walk-Inv-loop walk-μ-loop
-walk-loop-again-2 t c =
-    let l = c .before .before .before .before .before .before .before in
-    (search needs, turning-past _ _ _ _ _ _ _ _ _ _ (l .loop .inv .1) (search needs) (c .before .before .before .before .before .before .loop-test .taken) (c .before .before .before .before .before .if2 .left) (c .before .before .before .before .cell-node .ensures) (c .before .before .next .ensures) (c .if3 .left) (c .before .next2 .ensures))
+walk-loop-again-2 t c = (search needs, turning-past _ _ _ _ _ _ _ _ _ _ (c .if3 .left) (c .before .before .next .ensures) (c .before .before .before .before .cell-node .ensures) (c .before .next2 .ensures) (search needs) (search needs) (search needs) (search needs))
 
 walk-finish-requires-2 : (t : ℕ) → walk-lts.Need-finish-requires-2 (walk-calls t) (walk-at t) walk.Post walk-Inv-loop walk-μ-loop
 walk-finish-requires-2 t c κs = search needs

@@ -7,20 +7,20 @@ use Rattle.acyclic.proofs.acyclic_table.Tie as tie
 add-e : tie.Need-add-e
 add-e c = search needs
 
-mul-table-ends : tie.Need-mul-table-ends
-mul-table-ends c = search needs
+mul-walk-table : tie.Need-mul-walk-table
+mul-walk-table c = search needs
 
-sub-table-ends : tie.Need-sub-table-ends
-sub-table-ends c = search needs
+sub-walk-table : tie.Need-sub-walk-table
+sub-walk-table c = search needs
 
-part-table-ends-start : tie.Need-part-table-ends-start
-part-table-ends-start c = search needs
+part-walk-table-start : tie.Need-part-walk-table-start
+part-walk-table-start c = search needs
 
-part-table-ends-end : tie.Need-part-table-ends-end
-part-table-ends-end c = search needs
+part-walk-table-end : tie.Need-part-walk-table-end
+part-walk-table-end c = search needs
 
-table-ends-requires : tie.Need-table-ends-requires
-table-ends-requires c κs = search needs
+walk-table-requires : tie.Need-walk-table-requires
+walk-table-requires c κs = search needs
 
 same-length : tie.Need-same-length
 same-length c = search needs
@@ -33,10 +33,10 @@ acyclic-table-spec =
     tie.close
     (tie.spec
     add-e
-    mul-table-ends
-    sub-table-ends
-    part-table-ends-start
-    part-table-ends-end
-    table-ends-requires
+    mul-walk-table
+    sub-walk-table
+    part-walk-table-start
+    part-walk-table-end
+    walk-table-requires
     same-length
     returns)

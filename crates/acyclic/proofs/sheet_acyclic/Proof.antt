@@ -7,20 +7,20 @@ use Rattle.acyclic.proofs.sheet_acyclic.Tie as tie
 add-e : tie.Need-add-e
 add-e c = search needs
 
-mul-sheet-ends : tie.Need-mul-sheet-ends
-mul-sheet-ends c = search needs
+mul-walk-sheet : tie.Need-mul-walk-sheet
+mul-walk-sheet c = search needs
 
-sub-sheet-ends : tie.Need-sub-sheet-ends
-sub-sheet-ends c = search needs
+sub-walk-sheet : tie.Need-sub-walk-sheet
+sub-walk-sheet c = search needs
 
-part-sheet-ends-start : tie.Need-part-sheet-ends-start
-part-sheet-ends-start c = search needs
+part-walk-sheet-start : tie.Need-part-walk-sheet-start
+part-walk-sheet-start c = search needs
 
-part-sheet-ends-end : tie.Need-part-sheet-ends-end
-part-sheet-ends-end c = search needs
+part-walk-sheet-end : tie.Need-part-walk-sheet-end
+part-walk-sheet-end c = search needs
 
-sheet-ends-requires : tie.Need-sheet-ends-requires
-sheet-ends-requires c κs = search needs
+walk-sheet-requires : tie.Need-walk-sheet-requires
+walk-sheet-requires c κs = search needs
 
 same-length : tie.Need-same-length
 same-length c = search needs
@@ -33,10 +33,10 @@ sheet-acyclic-spec =
     tie.close
     (tie.spec
     add-e
-    mul-sheet-ends
-    sub-sheet-ends
-    part-sheet-ends-start
-    part-sheet-ends-end
-    sheet-ends-requires
+    mul-walk-sheet
+    sub-walk-sheet
+    part-walk-sheet-start
+    part-walk-sheet-end
+    walk-sheet-requires
     same-length
     returns)

@@ -1,10 +1,10 @@
--- `tables_end`: the tables of the records still to come decide.
+-- `walk_tables`: the tables of the records still to come decide.
 use mathlib.Core.Path.{_≡_}
 use lib.ListN.{length}
 use Rattle.acyclic.specs.Sheets.{Along, along-start, along-end, along-spent, along-inside, along-on, along-cut}
 use borrow.Author.Needs.{needs}
-use Rattle.acyclic.proofs.tables_end.Statement.{statement}
-use Rattle.acyclic.proofs.tables_end.Tie as tie
+use Rattle.acyclic.proofs.walk_tables.Statement.{statement}
+use Rattle.acyclic.proofs.walk_tables.Tie as tie
 
 abbrev Inv-loop : tie.InvT-loop
 Inv-loop s head k ws₀ place₀ left₀ ws place left = (length ws ≡ length ws₀) × Along s k head left place
@@ -24,8 +24,8 @@ returns c = search (needs, along-end)
 offset-requires : tie.Need-offset-requires Inv-loop μ-loop
 offset-requires c κs = search needs
 
-table-ends-requires : tie.Need-table-ends-requires Inv-loop μ-loop
-table-ends-requires c κs = search (needs, along-inside)
+walk-table-requires : tie.Need-walk-table-requires Inv-loop μ-loop
+walk-table-requires c κs = search (needs, along-inside)
 
 next-requires : tie.Need-next-requires Inv-loop μ-loop
 next-requires c κs = search needs
@@ -51,8 +51,8 @@ same-length-3 c = search needs
 returns-3 : tie.Need-returns-3 Inv-loop μ-loop
 returns-3 c = search (needs, along-spent)
 
-pub tables-end-spec : {M : Type 1} → statement M
-tables-end-spec =
+pub walk-tables-spec : {M : Type 1} → statement M
+walk-tables-spec =
     tie.close
     (tie.spec
     Inv-loop
@@ -61,7 +61,7 @@ tables-end-spec =
     same-length
     returns
     offset-requires
-    table-ends-requires
+    walk-table-requires
     next-requires
     sub-left
     loop-less

@@ -1,11 +1,11 @@
--- `table_ends`: the nodes passed are finished.
+-- `walk_table`: the nodes passed are finished.
 use Prim.Native.Nat.{_≤_, _-_}
 use mathlib.Core.Path.{_≡_}
 use lib.ListN.{length}
-use Rattle.acyclic.specs.Tables.{Walks, walks-start, walks-place, walks-on, walks-past, walks-deep, walks-end}
+use Rattle.acyclic.specs.Tables.{Walks, walks-start, node-in, walks-place, walks-on, walks-past, walks-deep, walks-end}
 use borrow.Author.Needs.{needs}
-use Rattle.acyclic.proofs.table_ends.Statement.{statement}
-use Rattle.acyclic.proofs.table_ends.Tie as tie
+use Rattle.acyclic.proofs.walk_table.Statement.{statement}
+use Rattle.acyclic.proofs.walk_table.Tie as tie
 
 abbrev Inv-loop : tie.InvT-loop
 Inv-loop s head ws₀ n node₀ ws node = (length ws ≡ length ws₀) × (node ≤ n) × Walks s head ws node
@@ -26,9 +26,7 @@ next-requires : tie.Need-next-requires Inv-loop μ-loop
 next-requires c κs = search needs
 
 walk-requires : tie.Need-walk-requires Inv-loop μ-loop
-walk-requires c κs =
-    let l = c .before .before .before .before .before in
-    (search needs, walks-place _ _ _ _ (l .before .before .before .list-places .ensures) _ _ _ (c .before .before .before .before .loop-test .taken) (l .loop .inv .2) (c .before .before .next .ensures) (c .before .if1 .taken))
+walk-requires c κs = (search needs, (search (needs, node-in), search (needs, walks-place)))
 
 loop-less : tie.Need-loop-less Inv-loop μ-loop
 loop-less c = search needs
@@ -46,7 +44,7 @@ loop-less-2 : tie.Need-loop-less-2 Inv-loop μ-loop
 loop-less-2 c = search needs
 
 loop-again-2 : tie.Need-loop-again-2 Inv-loop μ-loop
-loop-again-2 c = (search needs, search needs, walks-past _ _ _ _ _ (c .before .before .before .before .loop .inv .2) (c .before .next .ensures) (c .if1 .left))
+loop-again-2 c = search (needs, walks-past)
 
 same-length-2 : tie.Need-same-length-2 Inv-loop μ-loop
 same-length-2 c = search needs
@@ -54,8 +52,8 @@ same-length-2 c = search needs
 returns-2 : tie.Need-returns-2 Inv-loop μ-loop
 returns-2 c = search (needs, walks-end)
 
-pub table-ends-spec : {M : Type 1} → statement M
-table-ends-spec =
+pub walk-table-spec : {M : Type 1} → statement M
+walk-table-spec =
     tie.close
     (tie.spec
     Inv-loop
