@@ -16,7 +16,7 @@ use Rattle.rules.specs.Types.{Ty}
 use Rattle.rules.specs.Transfer.{type-of-word, cell-types, node-state, table}
 use Rattle.rules.specs.Values.{table-ok}
 use Rattle.rules.specs.Acyclic.{children, above, heights, acyclic}
-use Rattle.rules.specs.AcyclicLaws.{children-at, child, flat-rank, flat-rank-below, height-step, map-length}
+use Rattle.rules.specs.AcyclicLaws.{children-at, child, flat-rank, flat-rank-below, height-step, map-length, above-child}
 use Rattle.rules.specs.Members.{In, first, later, in-at}
 use Rattle.rules.specs.Readings.{flat-inside}
 use Rattle.rules.specs.CheckedTables.{table-length, table-state, table-flat, table-formed}
@@ -112,12 +112,6 @@ table-inside s w params h t = record {
       let r = cell-child w h n l c i in
       subst (λ m. m < length (chain w h)) (r .2) (subst (λ m. child (table w h) n (r .0) < m) (table-length w h) (flat-inside (table w h) (table-formed w h s params t) (table-flat w h) n (r .0) (r .1)));
 }
-
-above-child : (hs : Words) (cs : List Ty) (j : ℕ) → j < length cs → getD hs ((getD cs j (false, 0)) .1) 0 < above hs cs
-unfolding above
-above-child hs [] j k = absurd (not-suc-le-zero k)
-above-child hs (c ∷ cs) zero k = le-max-left (suc (getD hs (c .1) 0)) (above hs cs)
-above-child hs (c ∷ cs) (suc j) k = le-trans (above-child hs cs j (le-of-suc-le-suc k)) (le-max-right (suc (getD hs (c .1) 0)) (above hs cs))
 
 -- A node with a way down of k steps has a height of k or more.
 module _ (s : Words) (h : ℕ) (i : Inside s h) where
