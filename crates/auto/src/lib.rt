@@ -15,17 +15,18 @@ pub enum Auto {
     Leaf { kind: u32, id: u32 },
 }
 
-const DEF: u32 = 2;
+// Kinds of trees, and of types.
+const DEF: u32 = layout::TREE_DEF as u32;
 
-const FORK_CLOSURE: u32 = 3;
+const FORK_CLOSURE: u32 = layout::TREE_FORK_CLOSURE as u32;
 
-const DROP_CLOSURE: u32 = 4;
+const DROP_CLOSURE: u32 = layout::TREE_DROP_CLOSURE as u32;
 
-const FN: u32 = 7;
+const FN: u32 = layout::KIND_FN as u32;
 
-const CLOSURE: u32 = 8;
+const CLOSURE: u32 = layout::KIND_CLOSURE as u32;
 
-const DEFAULT: u32 = 12;
+const DEFAULT: u32 = layout::KIND_DEFAULT as u32;
 
 // duplicate or erase, where header word h has it.
 fn set_impl(s: &[u32], h: usize) -> Auto

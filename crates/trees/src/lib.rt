@@ -29,7 +29,7 @@ pub fn carry(from: &[u32], a: usize, to: &mut [u32], b: usize, n: usize)
 }
 
 // Carries n words within a slice, upwards or to a place apart.
-fn carry_within(ws: &mut [u32], a: usize, b: usize, n: usize)
+pub fn carry_within(ws: &mut [u32], a: usize, b: usize, n: usize)
     requires { ⌜ a + n ≤ length (now ws) ⌝ }
     requires { ⌜ b + n ≤ length (now ws) ⌝ }
     requires { ⌜ Clear a b n ⌝ }
