@@ -5,3 +5,4 @@ pub mod Layers
 pub mod Known
 pub mod Children
 pub mod Pairs
+pub mod Lists

@@ -37,16 +37,16 @@ and-assoc indeterminate indeterminate success = refl
 and-assoc indeterminate indeterminate failure = refl
 and-assoc indeterminate indeterminate indeterminate = refl
 
-and-last : (a : rules.UnifyResult) → and a success ≡ a
+pub and-last : (a : rules.UnifyResult) → and a success ≡ a
 and-last success = refl
 and-last failure = refl
 and-last indeterminate = refl
 
-each-step : (f : Types → Ty → Ty → Unified) (ts : Types) (t t′ : Ty) (zs zs′ : List Ty) → unify-each f ts (t ∷ zs) (t′ ∷ zs′) ≡ before ((f ts t t′) .0) (unify-each f ((f ts t t′) .1) zs zs′)
+pub each-step : (f : Types → Ty → Ty → Unified) (ts : Types) (t t′ : Ty) (zs zs′ : List Ty) → unify-each f ts (t ∷ zs) (t′ ∷ zs′) ≡ before ((f ts t t′) .0) (unify-each f ((f ts t t′) .1) zs zs′)
 unfolding unify-each before
 each-step f ts t t′ zs zs′ = refl
 
-before-twice : (v w : rules.UnifyResult) (m : Unified) → before v (before w m) ≡ before (and v w) m
+pub before-twice : (v w : rules.UnifyResult) (m : Unified) → before v (before w m) ≡ before (and v w) m
 unfolding before
 before-twice v w m = ap {B = Unified} (λ (z : rules.UnifyResult). (z, m .1)) (and-assoc v w (m .0))
 

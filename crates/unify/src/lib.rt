@@ -2,17 +2,18 @@
 // Layers as in the rules: roots, then what they are, then two known types, then their children.
 ghost use mathlib.Core.Path.{_≡_};
 ghost use mathlib.Core.Bool.{Bool, true, false, not, _&&_, _||_};
-ghost use mathlib.Core.List.{map};
+ghost use mathlib.Core.List.{List, map};
 ghost use mathlib.Core.Logic.{_≢_};
 ghost use Prim.Native.Nat.{ℕ, _/_, _<_, _≤_};
 ghost use lib.Dec.{eqb};
 ghost use lib.ListN.{length, getD};
 ghost use Rattle.rules.specs.Sheet.{kind-flag, row·may-meet};
-ghost use Rattle.rules.specs.Types.{invert-if, occurs, success, last-of, state-at, and as and-of, from-bool, unify-each as each-of, unify-children as children-of, bind-unknown as bind-of, join-on-success as success-of, unify-states as states-of, unify-roots as roots-of, unify-in};
+ghost use Rattle.rules.specs.Types.{invert-if, occurs, success, last-of, state-at, and as and-of, from-bool, unify-each as each-of, unify-children as children-of, bind-unknown as bind-of, join-on-success as success-of, unify-states as states-of, unify-roots as roots-of, unify-in, unify-types as types-unified, unify as unify-of, unify-impl-type as impl-type-unified, approx-eq as approx-of, Ty};
 ghost use Rattle.rules.specs.AcyclicLaws.{children-at};
 ghost use Rattle.rules.specs.Transfer.{type-of-word};
 ghost use Rattle.rules.specs.Answer.{word-of-type};
 ghost use Rattle.table.specs.Packing.{types-of, kind-at, id-at, Packed, Good, Roots};
+ghost use Rattle.unify.specs.Lists.{Nodes};
 ghost use Rattle.unify.specs.Results.{result-of, Meets, Unifies, Leaves, TwoRoots, KnownRoots, met-inverted, unify-fields};
 use chart::kinds;
 use chart::layout;
@@ -309,4 +310,83 @@ fn unify_each(
         i += 1;
     }
     v
+}
+
+// `unify`.
+pub fn unify(s: &[u32], ws: &mut [u32], marks: &mut [u32], a: u32, b: u32) -> UnifyResult
+    requires { ⌜ Good (now ws) ⌝ }
+    requires { ⌜ a / 2 < length (types-of (now ws)) ⌝ }
+    requires { ⌜ b / 2 < length (types-of (now ws)) ⌝ }
+    requires { ⌜ length (types-of (now ws)) ≤ length (now marks) ⌝ }
+    ensures { λ r. ⌜ Unifies (now (ws .exit)) r (unify-of (now (s .entry)) (types-of (now (ws .entry))) (type-of-word a) (type-of-word b)) ⌝ }
+{
+    let n = table::count(ws);
+    unify_in(s, ws, marks, a, b, n + 1)
+}
+
+// `unify_types`: none is tried where counts differ.
+pub fn unify_types(
+    s: &[u32],
+    ws: &mut [u32],
+    marks: &mut [u32],
+    xs: &[u32],
+    ys: &[u32],
+) -> UnifyResult
+    requires { ⌜ Good (now ws) ⌝ }
+    requires { ⌜ Nodes (types-of (now ws)) (now xs) ⌝ }
+    requires { ⌜ Nodes (types-of (now ws)) (now ys) ⌝ }
+    requires { ⌜ length (types-of (now ws)) ≤ length (now marks) ⌝ }
+    ensures { λ r. ⌜ Unifies (now (ws .exit)) r (types-unified (unify-of (now (s .entry))) (types-of (now (ws .entry))) (map type-of-word (now (xs .entry))) (map type-of-word (now (ys .entry)))) ⌝ }
+{
+    if xs.len() != ys.len() {
+        return UnifyResult::Failure;
+    }
+    let mut v = UnifyResult::Success;
+    let mut i: usize = 0;
+    while i < xs.len() {
+        let a = words::word(xs, i);
+        let b = words::word(ys, i);
+        let r = unify(s, ws, marks, a, b);
+        v = and(v, r);
+        i += 1;
+    }
+    v
+}
+
+// `unify_impl_type`: a trait? and its arguments, of either.
+pub fn unify_impl_type(
+    s: &[u32],
+    ws: &mut [u32],
+    marks: &mut [u32],
+    a: u32,
+    xs: &[u32],
+    b: u32,
+    ys: &[u32],
+) -> UnifyResult
+    requires { ⌜ Good (now ws) ⌝ }
+    requires { ⌜ Nodes (types-of (now ws)) (now xs) ⌝ }
+    requires { ⌜ Nodes (types-of (now ws)) (now ys) ⌝ }
+    requires { ⌜ length (types-of (now ws)) ≤ length (now marks) ⌝ }
+    ensures { λ r. ⌜ Unifies (now (ws .exit)) r (impl-type-unified (now (s .entry)) (types-of (now (ws .entry))) (a, map type-of-word (now (xs .entry))) (b, map type-of-word (now (ys .entry)))) ⌝ }
+{
+    if a == 0 {
+        return UnifyResult::Indeterminate;
+    }
+    if b == 0 {
+        return UnifyResult::Indeterminate;
+    }
+    if a != b {
+        return UnifyResult::Failure;
+    }
+    unify_types(s, ws, marks, xs, ys)
+}
+
+// `approx_eq`: the same trait, and none is Error. Arguments are not looked at.
+pub fn approx_eq(a: u32, b: u32) -> bool
+    ensures { λ r. ⌜ ((xs ys : List Ty) → r ≡ approx-of (a, xs) (b, ys)) ⌝ }
+{
+    if a == 0 {
+        return false;
+    }
+    a == b
 }
