@@ -56,6 +56,13 @@ pub fn up_of(ws: &[u32], n: u32) -> u32
     }
 }
 
+// The root of node n.
+pub fn root_of(ws: &[u32], n: u32) -> u32
+    ensures { λ r. ⌜ r ≡ rep (types-of (now (ws .entry))) n ⌝ }
+{
+    up_of(ws, n) / 2
+}
+
 // The size of the class of root n.
 pub fn size_of(ws: &[u32], n: u32) -> u32
     ensures is { λ r. ⌜ r ≡ size-at (types-of (now (ws .entry))) n ⌝ }

@@ -1,5 +1,5 @@
-use borrow.Author.Needs.{needs}
 -- `relabel_class`: the nodes passed are relabelled.
+use borrow.Author.Needs.{needs}
 use Prim.Native.Nat.{_-_, _≤_}
 use Rattle.rules.specs.Types.{relabel}
 use Rattle.rules.specs.Transfer.{type-of-word}
