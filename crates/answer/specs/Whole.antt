@@ -2,12 +2,12 @@
 use Prim.Native.Nat.{ℕ, _+_, _-_, _*_, _≤_}
 use mathlib.Core.Path.{_≡_, refl, _∙_, ap, ap₂}
 use mathlib.Core.Bool.{Bool, false}
-use mathlib.Core.List.{[], _∷_, _++_, map}
+use mathlib.Core.List.{List, [], _∷_, _++_, map}
 use native.Mathlib.Omega.{arith}
 use lib.ListN.{length, drop, length-append}
 use Rattle.rules.specs.Lists.{Words, range, bit}
 use Rattle.rules.specs.Sheet.{at}
-use Rattle.rules.specs.Types.{TypeState, unknown, known, Types}
+use Rattle.rules.specs.Types.{Ty, TypeState, unknown, known, Types}
 use Rattle.rules.specs.Transfer.{export-types}
 use Rattle.rules.specs.Run.{got}
 use Rattle.rules.specs.Search.{Trees, end, tree, tree-size}
@@ -99,11 +99,15 @@ nodes-head p q (nd ∷ ns) = go (nd .state) refl
     go unknown e = rw (e, pack-nodes) refl
     go (known i k d cs) e = rw (e, pack-nodes) refl
 
+-- What `export` gives for nodes 0, 1, 2 and on of a table, n of them: their types, and the table that these are of.
+abbrev pub exported : Types → ℕ → List Ty × Types
+exported ts n = export-types ts (map (λ k. (false, k)) (range 0 n))
+
 -- The answer buffer after a call, and how many of its words are the answer's.
--- fork and drop hold the two trees, at a and b; table and types are what `export` of the caller's types gives for the question's nodes: the table, and their type words.
+-- fork and drop hold the two trees, at a and b; table and types are what is exported of the caller's types for the question's nodes: the table, and a type word for each.
 pub record Answers (fork : Words) (a : ℕ) (drop : Words) (b : ℕ) (inv self : Bool) (table types out us : Words) (r : ℕ) : Type 0 where
-  pub after : (t u : Trees) (n : ℕ) (ts : Types) → Holds fork a t → Holds drop b u → types-of table ≡ (export-types ts (map (λ k. (false, k)) (range 0 n))) .1 → types ≡ map word-of-type ((export-types ts (map (λ k. (false, k)) (range 0 n))) .0) → us ≡ answer-after (got (answer t u inv self n ts)) out
-  pub used : (t u : Trees) (n : ℕ) (ts : Types) → Holds fork a t → Holds drop b u → types-of table ≡ (export-types ts (map (λ k. (false, k)) (range 0 n))) .1 → types ≡ map word-of-type ((export-types ts (map (λ k. (false, k)) (range 0 n))) .0) → r ≡ length (answer t u inv self n ts)
+  pub after : (t u : Trees) (n : ℕ) (ts : Types) → Holds fork a t → Holds drop b u → types-of table ≡ (exported ts n) .1 → types ≡ map word-of-type ((exported ts n) .0) → us ≡ answer-after (got (answer t u inv self n ts)) out
+  pub used : (t u : Trees) (n : ℕ) (ts : Types) → Holds fork a t → Holds drop b u → types-of table ≡ (exported ts n) .1 → types ≡ map word-of-type ((exported ts n) .0) → r ≡ length (answer t u inv self n ts)
 
 pub answered : (fork : Words) (a : ℕ) (drop : Words) (b : ℕ) (inv self : Bool) (table types out us vs : Words) (n m c r : ℕ) → n ≡ at fork a → m ≡ at drop b → c ≡ length (types-of table) → Body fork a drop b (types-of table) types out us r → Wrote us vs 0 (heads-of n m c r inv self) → Answers fork a drop b inv self table types out vs r
 unfolding body-of answer answer-after
@@ -112,7 +116,7 @@ answered fork a drop b inv self table types out us vs n m c r en em ec body w = 
   used = λ t u k ts ht hu e f. let g = ap length (words t u k ts ht hu e f) in omega (arith, body .next t u ht hu);
 }
   where
-    words : (t u : Trees) (k : ℕ) (ts : Types) → Holds fork a t → Holds drop b u → types-of table ≡ (export-types ts (map (λ k. (false, k)) (range 0 k))) .1 → types ≡ map word-of-type ((export-types ts (map (λ k. (false, k)) (range 0 k))) .0) → heads-of n m c r inv self ++ body-of t u (types-of table) types ≡ answer t u inv self k ts
+    words : (t u : Trees) (k : ℕ) (ts : Types) → Holds fork a t → Holds drop b u → types-of table ≡ (exported ts k) .1 → types ≡ map word-of-type ((exported ts k) .0) → heads-of n m c r inv self ++ body-of t u (types-of table) types ≡ answer t u inv self k ts
     words t u k ts ht hu e f =
         let forks = pack-trees 6 t in
         let p = 6 + length forks in

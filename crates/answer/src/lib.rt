@@ -4,12 +4,13 @@ ghost use mathlib.Core.List.{[], _∷_};
 ghost use Prim.Native.Nat.{_+_, _-_, _*_, _<_, _≤_, min};
 ghost use lib.ListN.{length};
 ghost use Rattle.rules.specs.Sheet.{at};
+ghost use Rattle.rules.specs.Limits.{limit·answer, limit·nodes, limit·tree-nodes};
 ghost use Rattle.rules.specs.Lists.{bit as bit-of};
 ghost use Rattle.rules.specs.AcyclicLaws.{children-at};
 ghost use Rattle.rules.specs.Answer.{pack-cells};
 ghost use Rattle.table.specs.Packing.{types-of, kind-at, inverted-at, id-at};
 ghost use Rattle.answer.specs.Writing.{Wrote, link-of};
-ghost use Rattle.trees.specs.Forests.{word·kind, word·id};
+ghost use Rattle.trees.specs.Forests.{trees·length, word·kind, word·id};
 ghost use Rattle.answer.specs.Nodes.{Noded, Nodes};
 ghost use Rattle.answer.specs.Records.{Packs};
 ghost use Rattle.answer.specs.Whole.{Treed, Typed, Body, heads-of, Answers};
@@ -197,8 +198,8 @@ fn pack_trees(ws: &[u32], lo: usize, hi: usize, out: &mut [u32], p: usize)
 
 // Writes the trees of the buffer at b. The result is the place behind them.
 fn write_trees(ws: &[u32], b: usize, out: &mut [u32], p: usize) -> usize
-    requires { ⌜ b + 257 ≤ length (now ws) ⌝ }
-    requires { ⌜ at (now ws) b ≤ 256 ⌝ }
+    requires { ⌜ b + trees·length ≤ length (now ws) ⌝ }
+    requires { ⌜ at (now ws) b ≤ limit·tree-nodes ⌝ }
     requires { ⌜ p + 1024 ≤ length (now out) ⌝ }
     requires { ⌜ p < 8192 ⌝ }
     ensures { λ r. ⌜ Treed (now (ws .entry)) b (now (out .entry)) (now (out .exit)) p r ⌝ }
@@ -210,7 +211,7 @@ fn write_trees(ws: &[u32], b: usize, out: &mut [u32], p: usize) -> usize
 
 // Writes the type words. The result is the place behind them.
 fn write_types(types: &[u32], out: &mut [u32], p: usize) -> usize
-    requires { ⌜ length (now types) ≤ 256 ⌝ }
+    requires { ⌜ length (now types) ≤ limit·nodes ⌝ }
     requires { ⌜ p + 256 ≤ length (now out) ⌝ }
     ensures { λ r. ⌜ Typed (now (types .entry)) (now (out .entry)) (now (out .exit)) p r ⌝ }
 {
@@ -228,12 +229,12 @@ fn write_body(
     types: &[u32],
     out: &mut [u32],
 ) -> usize
-    requires { ⌜ a + 257 ≤ length (now fork) ⌝ }
-    requires { ⌜ at (now fork) a ≤ 256 ⌝ }
-    requires { ⌜ b + 257 ≤ length (now drop) ⌝ }
-    requires { ⌜ at (now drop) b ≤ 256 ⌝ }
-    requires { ⌜ length (now types) ≤ 256 ⌝ }
-    requires { ⌜ 10240 ≤ length (now out) ⌝ }
+    requires { ⌜ a + trees·length ≤ length (now fork) ⌝ }
+    requires { ⌜ at (now fork) a ≤ limit·tree-nodes ⌝ }
+    requires { ⌜ b + trees·length ≤ length (now drop) ⌝ }
+    requires { ⌜ at (now drop) b ≤ limit·tree-nodes ⌝ }
+    requires { ⌜ length (now types) ≤ limit·nodes ⌝ }
+    requires { ⌜ limit·answer ≤ length (now out) ⌝ }
     ensures { λ r. ⌜ Body (now (fork .entry)) a (now (drop .entry)) b (types-of (now (table .entry))) (now (types .entry)) (now (out .entry)) (now (out .exit)) r ⌝ }
 {
     let p = write_trees(fork, a, out, layout::ANSWER_LENGTH);
@@ -300,12 +301,12 @@ pub fn write_answer(
     types: &[u32],
     out: &mut [u32],
 ) -> usize
-    requires { ⌜ a + 257 ≤ length (now fork) ⌝ }
-    requires { ⌜ at (now fork) a ≤ 256 ⌝ }
-    requires { ⌜ b + 257 ≤ length (now drop) ⌝ }
-    requires { ⌜ at (now drop) b ≤ 256 ⌝ }
-    requires { ⌜ length (now types) ≤ 256 ⌝ }
-    requires { ⌜ 10240 ≤ length (now out) ⌝ }
+    requires { ⌜ a + trees·length ≤ length (now fork) ⌝ }
+    requires { ⌜ at (now fork) a ≤ limit·tree-nodes ⌝ }
+    requires { ⌜ b + trees·length ≤ length (now drop) ⌝ }
+    requires { ⌜ at (now drop) b ≤ limit·tree-nodes ⌝ }
+    requires { ⌜ length (now types) ≤ limit·nodes ⌝ }
+    requires { ⌜ limit·answer ≤ length (now out) ⌝ }
     ensures { λ r. ⌜ Answers (now (fork .entry)) a (now (drop .entry)) b inverted «self_inverse» (now (table .entry)) (now (types .entry)) (now (out .entry)) (now (out .exit)) r ⌝ }
 {
     let used = write_body(fork, a, drop, b, table, types, out);

@@ -4,8 +4,9 @@ ghost use mathlib.Core.Path.{_≡_};
 ghost use Prim.Native.Nat.{_+_, _*_, _<_, _≤_};
 ghost use lib.ListN.{length};
 ghost use Rattle.rules.specs.Sheet.{at};
+ghost use Rattle.rules.specs.Limits.{limit·tree-nodes};
 ghost use Rattle.rules.specs.Search.{end, leaf};
-ghost use Rattle.trees.specs.Forests.{node-word, word·kind, word·id, word·below, Held, Apart};
+ghost use Rattle.trees.specs.Forests.{trees·length, node-word, word·kind, word·id, word·below, Held, Apart};
 ghost use Rattle.trees.specs.Carries.{Carries, Clear};
 ghost use Rattle.trees.specs.Changes.{Copies, Appends, Wraps};
 
@@ -53,7 +54,7 @@ pub fn size(ws: &[u32], b: usize) -> u32
 fn node(kind: u32, id: u32, below: u32) -> u32
     requires { ⌜ kind < 8 ⌝ }
     requires { ⌜ id < 4096 ⌝ }
-    requires { ⌜ below ≤ 256 ⌝ }
+    requires { ⌜ below ≤ limit·tree-nodes ⌝ }
     ensures { λ r. ⌜ r ≡ node-word kind id below ⌝ }
 {
     kind + 8 * (id + 4096 * below)
@@ -61,7 +62,7 @@ fn node(kind: u32, id: u32, below: u32) -> u32
 
 // Makes a buffer without trees.
 pub fn clear(ws: &mut [u32], b: usize)
-    requires { ⌜ b + 257 ≤ length (now ws) ⌝ }
+    requires { ⌜ b + trees·length ≤ length (now ws) ⌝ }
     ensures { λ _. ⌜ Held (now (ws .entry)) (now (ws .exit)) b end ⌝ }
 {
     ws[b] = 0;
@@ -69,7 +70,7 @@ pub fn clear(ws: &mut [u32], b: usize)
 
 // Makes a buffer with one leaf: a Param, a closure, duplicate or erase.
 pub fn put_leaf(ws: &mut [u32], b: usize, kind: u32, id: u32)
-    requires { ⌜ b + 257 ≤ length (now ws) ⌝ }
+    requires { ⌜ b + trees·length ≤ length (now ws) ⌝ }
     requires { ⌜ kind < 8 ⌝ }
     requires { ⌜ id < 4096 ⌝ }
     ensures { λ _. ⌜ Held (now (ws .entry)) (now (ws .exit)) b (leaf kind id) ⌝ }
@@ -81,9 +82,9 @@ pub fn put_leaf(ws: &mut [u32], b: usize, kind: u32, id: u32)
 
 // Copies trees to a buffer apart.
 pub fn copy_within(ws: &mut [u32], a: usize, b: usize)
-    requires { ⌜ a + 257 ≤ length (now ws) ⌝ }
-    requires { ⌜ b + 257 ≤ length (now ws) ⌝ }
-    requires { ⌜ at (now ws) a ≤ 256 ⌝ }
+    requires { ⌜ a + trees·length ≤ length (now ws) ⌝ }
+    requires { ⌜ b + trees·length ≤ length (now ws) ⌝ }
+    requires { ⌜ at (now ws) a ≤ limit·tree-nodes ⌝ }
     requires { ⌜ Apart a b ⌝ }
     ensures { λ _. ⌜ Copies (now (ws .entry)) (now (ws .entry)) (now (ws .exit)) a b ⌝ }
 {
@@ -93,9 +94,9 @@ pub fn copy_within(ws: &mut [u32], a: usize, b: usize)
 
 // Copies trees to a buffer of another slice.
 pub fn copy(from: &[u32], a: usize, to: &mut [u32], b: usize)
-    requires { ⌜ a + 257 ≤ length (now from) ⌝ }
-    requires { ⌜ b + 257 ≤ length (now to) ⌝ }
-    requires { ⌜ at (now from) a ≤ 256 ⌝ }
+    requires { ⌜ a + trees·length ≤ length (now from) ⌝ }
+    requires { ⌜ b + trees·length ≤ length (now to) ⌝ }
+    requires { ⌜ at (now from) a ≤ limit·tree-nodes ⌝ }
     ensures { λ _. ⌜ Copies (now (from .entry)) (now (to .entry)) (now (to .exit)) a b ⌝ }
 {
     let n = words::next(from, a);
@@ -104,9 +105,9 @@ pub fn copy(from: &[u32], a: usize, to: &mut [u32], b: usize)
 
 // Puts the trees of the buffer at a behind the tree of that at b.
 pub fn append_within(ws: &mut [u32], a: usize, b: usize)
-    requires { ⌜ a + 257 ≤ length (now ws) ⌝ }
-    requires { ⌜ b + 257 ≤ length (now ws) ⌝ }
-    requires { ⌜ at (now ws) b + at (now ws) a ≤ 256 ⌝ }
+    requires { ⌜ a + trees·length ≤ length (now ws) ⌝ }
+    requires { ⌜ b + trees·length ≤ length (now ws) ⌝ }
+    requires { ⌜ at (now ws) b + at (now ws) a ≤ limit·tree-nodes ⌝ }
     requires { ⌜ Apart a b ⌝ }
     ensures { λ _. ⌜ Appends (now (ws .entry)) (now (ws .entry)) (now (ws .exit)) a b ⌝ }
 {
@@ -118,9 +119,9 @@ pub fn append_within(ws: &mut [u32], a: usize, b: usize)
 
 // Puts the trees of a buffer of another slice behind the tree of the buffer at b.
 pub fn append(from: &[u32], a: usize, to: &mut [u32], b: usize)
-    requires { ⌜ a + 257 ≤ length (now from) ⌝ }
-    requires { ⌜ b + 257 ≤ length (now to) ⌝ }
-    requires { ⌜ at (now to) b + at (now from) a ≤ 256 ⌝ }
+    requires { ⌜ a + trees·length ≤ length (now from) ⌝ }
+    requires { ⌜ b + trees·length ≤ length (now to) ⌝ }
+    requires { ⌜ at (now to) b + at (now from) a ≤ limit·tree-nodes ⌝ }
     ensures { λ _. ⌜ Appends (now (from .entry)) (now (to .entry)) (now (to .exit)) a b ⌝ }
 {
     let n = words::next(to, b);
@@ -131,8 +132,8 @@ pub fn append(from: &[u32], a: usize, to: &mut [u32], b: usize)
 
 // Puts a Def over the trees of the buffer at b.
 pub fn wrap(ws: &mut [u32], b: usize, id: u32)
-    requires { ⌜ b + 257 ≤ length (now ws) ⌝ }
-    requires { ⌜ at (now ws) b < 256 ⌝ }
+    requires { ⌜ b + trees·length ≤ length (now ws) ⌝ }
+    requires { ⌜ at (now ws) b < limit·tree-nodes ⌝ }
     requires { ⌜ id < 4096 ⌝ }
     ensures { λ _. ⌜ Wraps (now (ws .entry)) (now (ws .exit)) b id ⌝ }
 {
