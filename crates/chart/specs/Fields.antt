@@ -12,6 +12,7 @@ pub field-found : (s : Words) (h id k head p r : ℕ) → head ≡ at s h → p 
 unfolding field records
 field-found s h id k head p r e f g = g ∙ ap (λ x. at s (x + k)) (f ∙ ap (λ x. at (chain s x) id) e)
 
+-- The head of the chain, and its length.
 pub many-found : (s : Words) (h head r : ℕ) → head ≡ at s h → r ≡ length (chain s head) → r ≡ many s h
 unfolding many records
 many-found s h head r e f = f ∙ ap (λ x. length (chain s x)) e

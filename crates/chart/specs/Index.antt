@@ -29,6 +29,7 @@ pub record Indexing (s : Words) (head : ℕ) (ws us : Words) (b n i : ℕ) : Typ
   pub above : (j : ℕ) → b + n ≤ j → at us j ≡ at ws j
 
 module _ (s : Words) (head : ℕ) (ws : Words) (b : ℕ) where
+  -- Nothing is written yet.
   pub index-start : Indexing s head ws ws b 0 head
   unfolding chain
   index-start = record {
@@ -41,9 +42,11 @@ module _ (s : Words) (head : ℕ) (ws : Words) (b : ℕ) where
     above = λ j h. refl;
   }
 
+  -- The chain ends.
   pub index-end : (us : Words) (n i : ℕ) → Indexing s head ws us b n i → i ≡ 0 → Indexed s head ws us b n
   index-end us n i h e = record { count = count-end s (length (chain s head)) (length s) n i e (h .count); place = h .place; below = h .below; above = h .above }
 
+  -- The chain has as many records as the slice has words.
   pub index-full : (us : Words) (n i : ℕ) → Indexing s head ws us b n i → length s ≤ n → Indexed s head ws us b n
   index-full us n i h l = record { count = count-full s (length (chain s head)) (length s) n i l (h .count); place = h .place; below = h .below; above = h .above }
 
@@ -57,6 +60,7 @@ module _ (s : Words) (head : ℕ) (ws : Words) (b : ℕ) where
   pub index-room : (us : Words) (n i : ℕ) → Indexing s head ws us b n i → n < length s → i ≢ 0 → b + length (chain s head) ≤ length ws → b + n < length us
   index-room us n i h l hi r = omega (arith, ap length (more n i l hi))
 
+  -- One place more is written.
   pub index-on : (us : Words) (n i w j : ℕ) → Indexing s head ws us b n i → n < length s → i ≢ 0 → b + length (chain s head) ≤ length ws → w ≡ i → j ≡ at s w → Indexing s head ws (set us (b + n) i) b (n + 1) j
   index-on us n i w j h l hi room e f = record {
     long = length-set us (b + n) i ∙ h .long;
@@ -86,19 +90,23 @@ pub index-room-of : (s : Words) (h head b : ℕ) (ws : Words) → head ≡ at s 
 unfolding many records
 index-room-of s h head b ws e r = subst (λ x. b + length (chain s x) ≤ length ws) (sym e) r
 
+-- The index of the chain is that of the records.
 pub index-of : (s : Words) (h head : ℕ) (ws us : Words) (b n : ℕ) → head ≡ at s h → Indexed s head ws us b n → Indexed s (at s h) ws us b n
 index-of s h head ws us b n e x = subst (λ k. Indexed s k ws us b n) e x
 
 -- What an index of the records of one kind tells: how many there are, their places, and their fields.
 module _ (s : Words) (h : ℕ) (ws us : Words) (b n : ℕ) (x : Indexed s (at s h) ws us b n) where
+  -- How many there are.
   pub indexed-many : n ≡ many s h
   unfolding many records
   indexed-many = x .count
 
+  -- The place of each.
   pub indexed-record : (i : ℕ) → i < n → at us (b + i) ≡ at (records s h) i
   unfolding records
   indexed-record i l = x .place i l
 
+  -- A field of each, by one read of the index.
   pub indexed-field : (i k : ℕ) → i < n → at s (at us (b + i) + k) ≡ field s h i k
   unfolding field
   indexed-field i k l = ap (λ p. at s (p + k)) (indexed-record i l)
@@ -114,6 +122,7 @@ pub chain-within : (s : Words) (head : ℕ) → length (chain s head) ≤ length
 unfolding chain
 chain-within s head = of-within s (length s) head
 
+-- So there are no more records of one kind.
 pub many-within : (s : Words) (h : ℕ) → many s h ≤ length s
 unfolding many records
 many-within s h = chain-within s (at s h)

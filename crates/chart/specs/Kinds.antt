@@ -41,6 +41,7 @@ unfoldable pub cut : ℕ → Words → List Words
 cut zero ws = []
 cut (suc n) ws = take row·length ws ∷ cut n (drop row·length ws)
 
+-- One row for each kind.
 abbrev pub kind-rows : List Words
 kind-rows = cut kind·count kinds
 
@@ -55,6 +56,7 @@ pub row-past : (k j : ℕ) → kind·count ≤ k → 0 ≡ kind-row k j
 unfolding kinds
 row-past k j h = word-past kinds (row·length * k + j) (omega arith)
 
+-- Past the end from a row that is in the table.
 pub row-long : (k j : ℕ) → kind·count - k ≤ j / row·length → 0 ≡ kind-row k j
 unfolding kinds
 row-long k j h = word-past kinds (row·length * k + j) (omega arith)
@@ -64,10 +66,12 @@ pub of-struct : (s : Words) (k id r : ℕ) → k ≡ kind·struct → r ≡ fiel
 unfolding self-dual
 of-struct s k id r e f = rw (eq-eqb k kind·struct e, self-dual) f
 
+-- Of a Union its record's.
 pub of-union : (s : Words) (k id r : ℕ) → k ≢ kind·struct → k ≡ kind·union → r ≡ field s header·unions id owner·self-dual → r ≡ self-dual s k id
 unfolding self-dual
 of-union s k id r n e f = rw (ne-eqb k kind·struct n, eq-eqb k kind·union e, self-dual) f
 
+-- Of other kinds 1.
 pub of-other : (s : Words) (k id : ℕ) → k ≢ kind·struct → k ≢ kind·union → 1 ≡ self-dual s k id
 unfolding self-dual
 of-other s k id n m = rw (ne-eqb k kind·struct n, ne-eqb k kind·union m, self-dual) refl
@@ -77,6 +81,7 @@ pub flag-on : (s : Words) (j k id w r : ℕ) → w ≡ kind-row k j → w ≡ 1 
 unfolding kind-flag
 flag-on s j k id w r e f g = rw (eq-eqb (kind-row k j) 1 (sym e ∙ f), kind-flag) (ap (λ x. eqb x 1) g)
 
+-- The row's flag is not set.
 pub flag-off : (s : Words) (j k id w : ℕ) → w ≡ kind-row k j → w ≢ 1 → false ≡ kind-flag s j k id
 unfolding kind-flag
 flag-off s j k id w e f = rw (ne-eqb (kind-row k j) 1 (λ q. f (e ∙ q)), kind-flag) refl

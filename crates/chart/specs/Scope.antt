@@ -18,6 +18,7 @@ pub child-member : (s : Words) (m w id : ℕ) → id ≡ at s (m + member·id) �
 unfolding get-member optional-list
 child-member s m w id e f z = rw (eq-eqb (at s (m + member·import)) 0 (sym f ∙ z), get-member) (ap (λ x. x ∷ []) (sym e) ∙ ap optional-list (sym (add-one id)))
 
+-- An import names what it is resolved to.
 pub import-member : (s : Words) (m w id r : ℕ) → id ≡ at s (m + member·id) → w ≡ at s (m + member·import) → w ≢ 0 → r ≡ field s header·imports id import·definition → get-member s m ≡ optional-list r
 unfolding get-member import-def
 import-member s m w id r e f z g = rw (ne-eqb (at s (m + member·import)) 0 (λ q. z (f ∙ q)), get-member) (ap optional-list (ap (λ x. field s header·imports x import·definition) (sym e) ∙ sym g))
@@ -28,6 +29,7 @@ unfolding ancestors
 ancestors-start s a src n e = ap (λ k. is-in a (ancestors-of k s src)) e
 
 module _ (s : Words) (a : ℕ) (x : Bool) where
+  -- No more are to come.
   pub ancestors-spent : (left d : ℕ) → left ≡ 0 → is-in a (ancestors-of left s d) ≡ x → false ≡ x
   unfolding ancestors-of is-in any
   ancestors-spent left d e v = sym (ap (λ n. is-in a (ancestors-of n s d)) e) ∙ v
@@ -37,15 +39,18 @@ module _ (s : Words) (a : ℕ) (x : Bool) where
   step zero d p h e = absurd (h refl)
   step (suc left) d p h e = λ t. d ∷ elim (optional (sym e t)) as (λ o. Words) [ none ↦ [] | some q ↦ ancestors-of ((let z : left ≡ suc left - 1 = omega arith in z) t) s q ]
 
+  -- It is the one that stands here.
   pub ancestors-here : (left d : ℕ) → left ≢ 0 → d ≡ a → is-in a (ancestors-of left s d) ≡ x → true ≡ x
   unfolding is-in any
   ancestors-here left d h e v = sym (rw (step left d (field s header·definitions d definition·parent) h refl, eq-eqb a d (sym e), any) refl) ∙ v
 
+  -- There is no parent.
   pub ancestors-top : (left d p : ℕ) → left ≢ 0 → d ≢ a → p ≡ field s header·definitions d definition·parent → p ≡ 0 → is-in a (ancestors-of left s d) ≡ x → false ≡ x
   unfolding is-in any optional
   ancestors-top left d zero h n e z v = sym (rw (step left d 0 h e, ne-eqb a d (λ q. n (sym q)), any) refl) ∙ v
   ancestors-top left d (suc p) h n e z v = absurd (omega arith)
 
+  -- The parent is next.
   pub ancestors-on : (left d p : ℕ) → left ≢ 0 → d ≢ a → p ≡ field s header·definitions d definition·parent → p ≢ 0 → is-in a (ancestors-of left s d) ≡ x → is-in a (ancestors-of (left - 1) s (p - 1)) ≡ x
   unfolding is-in any optional
   ancestors-on left d zero h n e z v = absurd (z refl)
@@ -56,6 +61,7 @@ pub visible-all : (anc : Words) (vis : ℕ) → vis ≡ 0 → true ≡ visible a
 unfolding visible optional
 visible-all anc vis e = sym (ap (visible anc) e)
 
+-- It names a definition.
 pub visible-in : (anc : Words) (vis : ℕ) (r : Bool) → vis ≢ 0 → r ≡ is-in (vis - 1) anc → r ≡ visible anc vis
 unfolding visible optional
 visible-in anc zero r h e = absurd (h refl)

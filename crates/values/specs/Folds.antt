@@ -22,14 +22,17 @@ use Rattle.rules.specs.Members.{same-test, all-cons, In, first, later}
 unfoldable pub larger : ℕ → ℕ → ℕ
 larger a b = elim (leb a b) [ true ↦ b | false ↦ a ]
 
+-- It is the second.
 pub larger-right : (a b : ℕ) → a ≤ b → b ≡ larger a b
 unfolding larger
 larger-right a b h = rw (le-leb a b h, larger)
 
+-- It is the first.
 pub larger-left : (a b : ℕ) → b < a → a ≡ larger a b
 unfolding larger
 larger-left a b h = rw (lt-leb a b h, larger)
 
+-- It is at most n if both are.
 pub larger-least : (a b n : ℕ) → (larger a b ≤ n) ↔ ((a ≤ n) × (b ≤ n))
 larger-least a b n = go (decLe a b)
   where
@@ -43,18 +46,22 @@ join true v m = elim (ltb m limit·sheet) [ true ↦ suc m | false ↦ m ]
 join false v m = larger v m
 
 module _ (count : Bool) (v m : ℕ) where
+  -- A count goes up.
   pub join-up : count ≡ true → m < limit·sheet → m + 1 ≡ join count v m
   unfolding join
   join-up e l = (let q : m + 1 ≡ suc m = omega arith in q) ∙ sym (ap (λ x. elim x as (λ b. ℕ) [ true ↦ suc m | false ↦ m ]) (lt-ltb m limit·sheet l)) ∙ ap (λ c. join c v m) (sym e)
 
+  -- A count stays at the size of a slice.
   pub join-full : count ≡ true → limit·sheet ≤ m → m ≡ join count v m
   unfolding join
   join-full e l = sym (ap (λ x. elim x as (λ b. ℕ) [ true ↦ suc m | false ↦ m ]) (le-ltb m limit·sheet l)) ∙ ap (λ c. join c v m) (sym e)
 
+  -- The need of the others is the larger.
   pub join-right : count ≡ false → v ≤ m → m ≡ join count v m
   unfolding join
   join-right e l = larger-right v m l ∙ ap (λ c. join c v m) (sym e)
 
+  -- The need of the record is the larger.
   pub join-left : count ≡ false → m < v → v ≡ join count v m
   unfolding join
   join-left e l = larger-left v m l ∙ ap (λ c. join c v m) (sym e)
@@ -64,14 +71,17 @@ unfoldable pub fold : Bool → (ℕ → ℕ) → Words → ℕ
 fold c f [] = 0
 fold c f (p ∷ ps) = join c (f p) (fold c f ps)
 
+-- The most that f gives for a record.
 abbrev pub most : (ℕ → ℕ) → Words → ℕ
 most f ps = fold false f ps
 
+-- The count of records is their number.
 pub fold-count : (f : ℕ → ℕ) (ps : Words) → length ps ≤ limit·sheet → fold true f ps ≡ length ps
 unfolding fold join
 fold-count f [] h = refl
 fold-count f (p ∷ ps) h = let e = fold-count f ps (omega arith) in rw (lt-ltb (fold true f ps) limit·sheet (omega arith), join) (ap suc e)
 
+-- The most is at most n if each is.
 pub most-least : (f : ℕ → ℕ) (n : ℕ) (ps : Words) → T (all (λ p. leb (f p) n) ps) ↔ (most f ps ≤ n)
 unfolding fold join all
 most-least f n [] = (λ t. omega arith, λ l. tt)
@@ -95,6 +105,7 @@ fold-same c f g (p ∷ ps) h = λ t. join c (h p first t) (fold-same c f g ps (�
 abbrev pub Forward : Words → ℕ → Type 0
 Forward s i = Keeps s 1 no-heads i
 
+-- A chain that keeps the rule goes forward.
 pub keeps-forward : {s : Words} {len : ℕ} {heads : ℕ → Bool} {i : ℕ} → 0 < len → Keeps s len heads i → Forward s i
 keeps-forward p at-end = at-end
 keeps-forward p (at-record h l n t k) = at-record h (omega arith) (⊎-elim inl (λ m. inr (omega arith)) n) tt (keeps-forward p k)
@@ -104,6 +115,7 @@ unfolding chain-of
 none-of s zero = refl
 none-of s (suc k) = refl
 
+-- From zero there is no record.
 pub chain-none : (s : Words) → chain s 0 ≡ []
 unfolding chain
 chain-none s = none-of s (length s)
@@ -114,6 +126,7 @@ pub record Onward (s : Words) (i : ℕ) : Type 0 where
   pub beyond : (at s i ≡ 0) ⊎ (i < at s i)
   pub rest : Forward s (at s i)
 
+-- A chain that goes forward has a first record within the slice, and goes on from its next.
 pub onward : {s : Words} {i : ℕ} → 0 < i → Forward s i → Onward s i
 onward p at-end = absurd (not-suc-le-zero p)
 onward p (at-record h l n t k) = record { inside = omega arith; beyond = ⊎-elim inl (λ m. inr (omega arith)) n; rest = k }
@@ -129,15 +142,18 @@ unfoldable pub chain-mark : Words → ℕ → ℕ → ℕ
 chain-mark ws b zero = 0
 chain-mark ws b (suc h) = elim (ltb (suc h) limit·sheet) [ true ↦ at ws (b + suc h) | false ↦ 0 ]
 
+-- There is no chain.
 pub mark-none : (ws : Words) (b h : ℕ) → h ≡ 0 → 0 ≡ chain-mark ws b h
 unfolding chain-mark
 mark-none ws b h e = sym (ap (chain-mark ws b) e)
 
+-- The head lies past a plane's end.
 pub mark-past : (ws : Words) (b h : ℕ) → limit·sheet ≤ h → 0 ≡ chain-mark ws b h
 unfolding chain-mark
 mark-past ws b zero l = absurd (omega arith)
 mark-past ws b (suc h) l = rw (le-ltb (suc h) limit·sheet l, chain-mark)
 
+-- It is what is noted.
 pub mark-some : (ws : Words) (b h r : ℕ) → h ≢ 0 → h < limit·sheet → r ≡ at ws (b + h) → r ≡ chain-mark ws b h
 unfolding chain-mark
 mark-some ws b zero r n l e = absurd (n refl)
@@ -167,6 +183,7 @@ pub record Folded (s : Words) (b : ℕ) (g : ℕ → ℕ) (lo : ℕ) (ws us : Wo
 unfoldable pub fold-step : Words → Bool → Words → ℕ → ℕ → ℕ → ℕ
 fold-step s c ws f b i = join c (at ws (f + i)) (chain-mark ws b (at s i))
 
+-- The words that make up a step.
 pub fold-found : (s : Words) (c : Bool) (ws : Words) (f b i v next m r : ℕ) → v ≡ at ws (f + i) → next ≡ at s i → m ≡ chain-mark ws b next → r ≡ join c v m → r ≡ fold-step s c ws f b i
 unfolding fold-step
 fold-found s c ws f b i v next m r e n k h = h ∙ λ t. join c (e t) ((k ∙ ap (chain-mark ws b) n) t)
@@ -176,6 +193,7 @@ module _ (s : Words) (c : Bool) (ws : Words) (f b : ℕ) where
   abbrev pub folded : ℕ → ℕ
   folded i = fold c (plane ws f) (chain s i)
 
+  -- Nothing is noted yet.
   pub fold-none : Folded s b folded (length s) ws ws
   fold-none = record { long = refl; is = λ i l k o. absurd (omega arith); below = λ j l. refl }
 

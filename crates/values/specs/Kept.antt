@@ -66,10 +66,12 @@ pub record Definition (s : Words) (p : ℕ) : Type 0 where
   pub named : Forward s (at s (p + definition·named))
   pub implicit : Forward s (at s (p + definition·implicit))
 
+-- Of generics.
 pub record Generics (s : Words) (p : ℕ) : Type 0 where
   pub table : Rows s (at s (p + generics·table)) node·children
   pub params : Rows s (at s (p + generics·impl-params)) impl-param·args
 
+-- Of an impl.
 pub record Impl (s : Words) (p : ℕ) : Type 0 where
   pub table : Rows s (at s (p + impl·table)) node·children
   pub args : Forward s (at s (p + impl·args))
@@ -80,6 +82,7 @@ pub record Kept (s : Words) : Type 0 where
   pub generics : (p : ℕ) → In p (records s header·generics) → Generics s p
   pub impls : (p : ℕ) → In p (records s header·impls) → Impl s p
 
+-- 7 promises it.
 pub kept : (s : Words) → T (sheet-keeps s) → Kept s
 unfolding sheet-keeps definitions-keep generics-keep impls-keep records
 kept s t = let h = part _ t in record {
@@ -103,12 +106,14 @@ pub record Asked (q : Words) : Type 0 where
   pub table : Rows q (at q question·table) node·children
   pub args : Forward q (at q question·args)
 
+-- 11 promises it.
 pub asked : (q : Words) → T (impl-question-keeps q) → Asked q
 unfolding impl-question-keeps
 asked q t =
     let u = both (nodes-keep question·length q (at q question·table)) (cells-keep question·length q (at q question·args)) t in
     record { table = nodes-rows question·length q question·table (u .0); args = cells-forward question·length q question·args (u .1) }
 
+-- 11 promises as much of a flex question's table.
 pub flex-asked : (q : Words) → T (flex-question-keeps q) → Rows q (at q question·table) node·children
 unfolding flex-question-keeps
 flex-asked q t = nodes-rows question·length q question·table t

@@ -26,6 +26,7 @@ unfolding holds
 last true = refl
 last false = refl
 
+-- What is known.
 pub record Known (s ws : Words) : Type 0 where
   pub count : (h : ℕ) → h < header·length → at ws h ≡ many s h
   pub trait : (i : ℕ) → i < many s header·traits → at ws (limit·sheet + i) ≡ at (records s header·traits) i
@@ -61,22 +62,27 @@ owner-in (suc (suc (suc (suc (suc (suc (suc (suc zero)))))))) = omega arith
 owner-in (suc (suc (suc (suc (suc (suc (suc (suc (suc k))))))))) = omega arith
 
 module _ (s ws : Words) (kn : Known s ws) (k id : ℕ) where
+  -- The id of a Param.
   pub id-param : k ≡ kind·param → ltb id word·most ≡ id-fits s k id
   unfolding id-fits
   id-param e = rw (eq-eqb k kind·param e, id-fits) refl
 
+  -- The id of an Fn.
   pub id-fn : k ≢ kind·param → k ≡ kind·fn → true ≡ id-fits s k id
   unfolding id-fits
   id-fn n e = rw (ne-eqb k kind·param n, eq-eqb k kind·fn e, id-fits) refl
 
+  -- The id of a Key.
   pub id-key : k ≢ kind·param → k ≢ kind·fn → k ≡ kind·key → true ≡ id-fits s k id
   unfolding id-fits
   id-key n m e = rw (ne-eqb k kind·param n, ne-eqb k kind·fn m, eq-eqb k kind·key e, id-fits) refl
 
+  -- An unused id.
   pub id-none : (h : ℕ) → k ≢ kind·param → k ≢ kind·fn → k ≢ kind·key → h ≡ owner k → h ≡ 0 → eqb id 0 ≡ id-fits s k id
   unfolding id-fits
   id-none h n m o e z = rw (ne-eqb k kind·param n, ne-eqb k kind·fn m, ne-eqb k kind·key o, eq-eqb (owner k) 0 (sym e ∙ z), id-fits) refl
 
+  -- An id of a record.
   pub id-owned : (h c : ℕ) → k ≢ kind·param → k ≢ kind·fn → k ≢ kind·key → h ≡ owner k → h ≢ 0 → c ≡ at ws h → ltb id c ≡ id-fits s k id
   unfolding id-fits
   id-owned h c n m o e z f =
@@ -95,10 +101,12 @@ module _ (s ws : Words) (kn : Known s ws) where
   unfolding member-ok is-vis member-id
   member-known p v c i x y r a b e f g h = h ∙ λ t. holds (leb (a t) ((b ∙ kn .count header·definitions (omega arith)) t) ∷ leb (e t) 1 ∷ (g ∙ λ u. member-id s (e u) (f u)) t ∷ [])
 
+  -- The id of a child.
   pub member-child : (i x c : ℕ) → i ≡ 0 → c ≡ at ws header·definitions → ltb x c ≡ member-id s i x
   unfolding member-id is-id
   member-child i x c e f = rw (eq-eqb i 0 e, member-id) (ap (ltb x) (f ∙ kn .count header·definitions (omega arith)))
 
+  -- The id of an import.
   pub member-import : (i x c : ℕ) → i ≢ 0 → c ≡ at ws header·imports → ltb x c ≡ member-id s i x
   unfolding member-id is-id
   member-import i x c e f = rw (ne-eqb i 0 e, member-id) (ap (ltb x) (f ∙ kn .count header·imports (omega arith)))
@@ -108,11 +116,13 @@ module _ (s ws : Words) (kn : Known s ws) where
   unfolding args-core is-optional holds
   args-past t n c e l = rw (lt-leb t (many s header·traits) (omega (arith, e ∙ kn .count header·traits (omega arith))), holds) refl
 
+  -- There is no trait.
   pub args-none : (t n c : ℕ) → c ≡ at ws header·traits → t ≤ c → t ≡ 0 → eqb n 0 ≡ args-core s t n
   unfolding args-core is-optional holds arity
   args-none zero n c e l z = rw (le-leb 0 (many s header·traits) (omega arith)) (last (eqb n 0))
   args-none (suc t) n c e l z = absurd (omega arith)
 
+  -- There is a trait: its record's place is known.
   pub args-some : (t n c o p a : ℕ) → c ≡ at ws header·traits → t ≤ c → t ≢ 0 → o ≡ at ws (limit·sheet + (t - 1)) → p ≡ o → a ≡ at s (p + trait·arity) → eqb n a ≡ args-core s t n
   unfolding args-core is-optional holds arity trait-arity field
   args-some zero n c o p a e l z f′ f″ g = absurd (z refl)

@@ -33,6 +33,7 @@ unfolding all
 all-same f g h [] = refl
 all-same f g h (x ∷ xs) = λ t. elim (h x t) as (λ b. Bool) [ true ↦ all-same f g h xs t | false ↦ false ]
 
+-- All records of a chain pass a test.
 pub all-bad : (ok : ℕ → Bool) (ps : Words) → all ok ps ≡ leb (most (bad ok) ps) 0
 all-bad ok ps = all-same ok (λ p. leb (bad ok p) 0) (λ p. bad-leb (ok p)) ps ∙ most-leb (bad ok) 0 ps
 
@@ -70,6 +71,7 @@ all-three a b c (p ∷ ps) = go (a p) (b p) (c p) (all a ps) (all b ps) (all c p
 unfoldable pub cell-need : Words → ℕ → ℕ
 cell-need w c = suc (at w (c + cell·type) / 2)
 
+-- What the cells of a chain ask for.
 unfoldable pub bound : Words → ℕ → ℕ
 bound w h = most (cell-need w) (chain w h)
 
@@ -78,10 +80,12 @@ unfolding all
 all-map f g [] = refl
 all-map f g (x ∷ xs) = λ t. elim (f (g x)) as (λ b. Bool) [ true ↦ all-map f g xs t | false ↦ false ]
 
+-- A table of n nodes has all that the cells of a chain name.
 pub table-holds : (n : ℕ) (w : Words) (h : ℕ) → in-table n (cell-types w h) ≡ leb (bound w h) n
 unfolding cell-types type-of-word bound cell-need
 table-holds n w h = all-map (λ t. ltb (t .1) n) (λ c. type-of-word (at w (c + cell·type))) (chain w h) ∙ most-leb (cell-need w) n (chain w h)
 
+-- There are as many types as cells.
 pub cells-many : (w : Words) (h : ℕ) → length (cell-types w h) ≡ length (chain w h)
 unfolding cell-types
 cells-many w h = length-map (chain w h) (λ c. type-of-word (at w (c + cell·type)))
@@ -90,6 +94,7 @@ cells-many w h = length-map (chain w h) (λ c. type-of-word (at w (c + cell·typ
 unfoldable pub owners : Words
 owners = 0 ∷ 0 ∷ 0 ∷ header·opaques ∷ header·structs ∷ header·enums ∷ header·unions ∷ 0 ∷ header·closures ∷ []
 
+-- The header word of kind k.
 abbrev pub owner : ℕ → ℕ
 owner k = at owners k
 
@@ -167,9 +172,11 @@ regroup true true true d e f g x d′ h = ap (λ y. holds (y ∷ e ∷ f ∷ g �
 unfoldable pub node-core : Words → Words → ℕ → Bool
 node-core s w p = core s (at w (p + node·kind)) (at w (p + node·inverted)) (at w (p + node·id)) (length (chain w (at w (p + node·children))))
 
+-- What it asks of the type parameters.
 unfoldable pub node-need : Words → ℕ → ℕ
 node-need w p = param-need (at w (p + node·kind)) (at w (p + node·id))
 
+-- What its children ask of the table.
 unfoldable pub node-child : Words → ℕ → ℕ
 node-child w p = bound w (at w (p + node·children))
 
@@ -214,6 +221,7 @@ two-of-three true true c = refl
 two-of-three true false c = refl
 two-of-three false b c = refl
 
+-- A trait? and its arguments: what they ask of the table, and the rest.
 pub args-whole : (s w : Words) (h t args : ℕ) → args-ok s w h t args ≡ holds (args-core s t (length (chain w args)) ∷ leb (bound w args) (length (chain w h)) ∷ [])
 unfolding args-ok args-core
 args-whole s w h t args =
@@ -224,9 +232,11 @@ args-whole s w h t args =
 unfoldable pub param-core : Words → ℕ → Bool
 param-core s p = args-core s (at s (p + impl-param·trait)) (length (chain s (at s (p + impl-param·args))))
 
+-- What the arguments of an impl parameter ask of the table.
 unfoldable pub param-child : Words → ℕ → ℕ
 param-child s p = bound s (at s (p + impl-param·args))
 
+-- All impl parameters of a chain.
 pub params-whole : (s : Words) (h : ℕ) (ps : Words) → all (λ i. args-ok s s h (at s (i + impl-param·trait)) (at s (i + impl-param·args))) ps ≡ holds (leb (most (bad (param-core s)) ps) 0 ∷ leb (most (param-child s) ps) (length (chain s h)) ∷ [])
 unfolding param-core param-child
 params-whole s h ps =

@@ -25,30 +25,39 @@ use Rattle.values.specs.Value.{value, table-value, link-value, node-mark
 abbrev pub plane·lengths : ℕ
 plane·lengths = 4 * limit·sheet
 
+-- What the cells of a chain ask of their table.
 abbrev pub plane·bounds : ℕ
 plane·bounds = 6 * limit·sheet
 
+-- Whether a node of a chain is out of range by itself.
 abbrev pub plane·cores : ℕ
 plane·cores = 8 * limit·sheet
 
+-- What its nodes ask of the type parameters.
 abbrev pub plane·needs : ℕ
 plane·needs = 10 * limit·sheet
 
+-- What their children ask of the table.
 abbrev pub plane·kids : ℕ
 plane·kids = 12 * limit·sheet
 
+-- Whether a binding of a chain is out of range.
 abbrev pub plane·bindings : ℕ
 plane·bindings = 14 * limit·sheet
 
+-- Whether a member is.
 abbrev pub plane·members : ℕ
 plane·members = 16 * limit·sheet
 
+-- Whether an impl parameter is.
 abbrev pub plane·params : ℕ
 plane·params = 18 * limit·sheet
 
+-- What their arguments ask of the table.
 abbrev pub plane·args : ℕ
 plane·args = 20 * limit·sheet
 
+-- All of them together.
 abbrev pub planes·room : ℕ
 planes·room = 21 * limit·sheet
 
@@ -63,12 +72,15 @@ pub record Space (s w ws : Words) : Type 0 where
 pub record Counted (s : Words) (n : ℕ) (us : Words) : Type 0 where
   pub is : (h : ℕ) → h < n → at us h ≡ many s h
 
+-- None is noted yet.
 pub counted-none : (s us : Words) → Counted s 0 us
 counted-none s us = record { is = λ h l. absurd (omega arith) }
 
+-- A count is a word.
 pub count-fits : (s : Words) (h c : ℕ) → length s ≤ limit·sheet → c ≡ many s h → c ≤ 4294967295
 count-fits s h c small e = omega (arith, many-within s h)
 
+-- One header word more.
 pub counted-more : (s us : Words) (h c r m : ℕ) → Counted s h us → length us ≡ m → planes·room ≤ m → h < header·length → c ≡ many s h → r ≡ c → Counted s (h + 1) (set us h r)
 counted-more s us h c r m n lm lr lh e f = record { is = λ j k. go j k (ℕ-discrete j h) }
   where
@@ -76,12 +88,15 @@ counted-more s us h c r m n lm lr lh e f = record { is = λ j k. go j k (ℕ-dis
     go j k (yes q) = subst (λ x. at (set us h r) x ≡ many s x) (sym q) (getD-set-same us h r 0 (omega arith) ∙ f ∙ e)
     go j k (no q) = getD-set-other us h j r 0 q ∙ n .is j (omega arith)
 
+-- All header words.
 pub counted-all : (s us : Words) (h : ℕ) → Counted s h us → header·length ≤ h → Counted s header·length us
 counted-all s us h n l = record { is = λ j k. n .is j (omega arith) }
 
+-- There is room for the index of traits.
 pub traits-room : (s ws us : Words) → length s ≤ limit·sheet → planes·room ≤ length ws → length us ≡ length ws → limit·sheet + many s header·traits ≤ length us
 traits-room s ws us small room e = omega (arith, many-within s header·traits)
 
+-- Counts and the index of traits: the sheet is known.
 pub known-made : (s ws us : Words) (n : ℕ) → Counted s header·length ws → Indexed s (at s header·traits) ws us limit·sheet n → Known s us
 known-made s ws us n c x = record {
   count = λ h l. x .below h (omega arith) ∙ c .is h l;
@@ -108,6 +123,7 @@ none-folded : (w : Words) (c : Bool) (vs : Words) (f : ℕ) → fold c (plane vs
 unfolding fold
 none-folded w c vs f = ap (fold c (plane vs f)) (chain-none w)
 
+-- Values of places, folded along chains.
 pub most-made : (s w ws vs us : Words) (b x to : ℕ) → Space s w ws → 2 * limit·sheet ≤ b → b + 3 * limit·sheet ≤ to → Noted to (value s w ws b x) 0 (length w) ws vs → Folded w (to + limit·sheet) (folded w false vs to (to + limit·sheet)) 1 vs us → Most s w ws us b x to
 most-made s w ws vs us b x to q lb lt n f = record {
   long = f .long ∙ n .long;
@@ -123,6 +139,7 @@ most-made s w ws vs us b x to q lb lt n f = record {
   };
 }
 
+-- The sheet stays known after a pass.
 pub space-fold : (s w ws us : Words) (f : ℕ → ℕ) (b lo : ℕ) → 2 * limit·sheet ≤ b → Space s w ws → Folded w b f lo ws us → Space s w us
 space-fold s w ws us f b lo l p m = record { known = known-same s ws us b (p .small) l (m .below) (p .known); small = p .small; part = p .part; room = omega (arith, p .room, m .long) }
 
@@ -136,10 +153,12 @@ pub record Below (to : ℕ) (ws us : Words) : Type 0 where
   pub same : (j : ℕ) → j < to → at us j ≡ at ws j
   pub long : length us ≡ length ws
 
+-- Both are noted, and nothing below them is changed.
 pub record CellsMade (w ws us : Words) : Type 0 where
   pub cells : Cells w us
   pub below : Below plane·lengths ws us
 
+-- A pass that counts, and one that folds what cells ask for.
 pub cells-made : (s w ws vs us : Words) (f : ℕ) → length w ≤ limit·sheet → Folded w plane·lengths (folded w true ws f plane·lengths) 1 ws vs → Most s w vs us (2 * limit·sheet) 0 (5 * limit·sheet) → CellsMade w ws us
 unfolding value table-value bound
 cells-made s w ws vs us f small n m = record {
@@ -164,6 +183,7 @@ pub record Nodes (s w us : Words) : Type 0 where
   pub needs : (h : ℕ) → Forward w h → chain-mark us plane·needs h ≡ most (node-need w) (chain w h)
   pub kids : (h : ℕ) → Rows w h node·children → chain-mark us plane·kids h ≡ most (node-child w) (chain w h)
 
+-- It is noted, and nothing below is changed.
 pub record NodesMade (s w ws us : Words) : Type 0 where
   pub cells : Cells w us
   pub nodes : Nodes s w us
@@ -187,9 +207,11 @@ cells-same w ws us to l same c = record {
   bounds = λ h o. mark-same ws us plane·bounds to h (omega arith) same ∙ c .bounds h o;
 }
 
+-- After a pass further up.
 pub cells-most : (s w ws us : Words) (b x to : ℕ) → 7 * limit·sheet ≤ to → Cells w ws → Most s w ws us b x to → Cells w us
 cells-most s w ws us b x to l c m = cells-same w ws us to l (m .below) c
 
+-- Three passes: cores, needs, children.
 pub nodes-made : (s w ws u₁ u₂ u₃ : Words) → Cells w ws → Most s w ws u₁ plane·lengths 1 (7 * limit·sheet) → Most s w u₁ u₂ plane·lengths 2 (9 * limit·sheet) → Most s w u₂ u₃ plane·lengths 3 (11 * limit·sheet) → NodesMade s w ws u₃
 unfolding value table-value
 nodes-made s w ws u₁ u₂ u₃ c m₁ m₂ m₃ = record {
@@ -237,10 +259,12 @@ module _ (s ws : Words) (c : Cells s ws) (h : ℕ) (r : Rows s h impl-param·arg
   unfolding value link-value param-child
   link-args = fold-same false (value s s ws plane·lengths 7) (param-child s) (chain s h) (λ p m. c .bounds (at s (p + impl-param·args)) (r .inner p m))
 
+-- It is noted, and nothing below is changed.
 pub record LinksMade (s ws us : Words) : Type 0 where
   pub links : Links s us
   pub below : Below (13 * limit·sheet) ws us
 
+-- Four passes: bindings, members, impl parameters, their arguments.
 pub links-made : (s ws u₁ u₂ u₃ u₄ : Words) → Cells s ws → Most s s ws u₁ plane·lengths 4 (13 * limit·sheet) → Most s s u₁ u₂ plane·lengths 5 (15 * limit·sheet) → Most s s u₂ u₃ plane·lengths 6 (17 * limit·sheet) → Most s s u₃ u₄ plane·lengths 7 (19 * limit·sheet) → LinksMade s ws u₄
 unfolding value link-value
 links-made s ws u₁ u₂ u₃ u₄ c m₁ m₂ m₃ m₄ = record {
@@ -277,6 +301,7 @@ tables-made s w ws vs us p c n = record {
   nodes = n .nodes;
 }
 
+-- The sheet stays known after cells are noted.
 pub space-cells : (s w ws us : Words) → Space s w ws → CellsMade w ws us → Space s w us
 space-cells s w ws us p c = record { known = known-same s ws us plane·lengths (p .small) (omega arith) (c .below .same) (p .known); small = p .small; part = p .part; room = omega (arith, p .room, c .below .long) }
 
@@ -285,6 +310,7 @@ pub record Charted (s us : Words) : Type 0 where
   pub tables : Tables s s us
   pub links : Links s us
 
+-- The planes of its tables and of its other chains.
 pub charted : (s ws us : Words) → length s ≤ limit·sheet → Tables s s ws → LinksMade s ws us → Charted s us
 charted s ws us small t l = record {
   tables = record {

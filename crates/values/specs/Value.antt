@@ -22,6 +22,7 @@ use Rattle.values.specs.NodeLaws.{word·most, bad, cell-need, id-fits, c
 unfoldable pub node-mark : Words → Words → Words → ℕ → ℕ → ℕ
 node-mark s w ws b p = bit (not (core s (at w (p + node·kind)) (at w (p + node·inverted)) (at w (p + node·id)) (chain-mark ws b (at w (p + node·children)))))
 
+-- Of an impl parameter: whether its trait? or the number of its arguments is out of range.
 unfoldable pub param-mark : Words → Words → ℕ → ℕ → ℕ
 param-mark s ws b p = bit (not (args-core s (at s (p + impl-param·trait)) (chain-mark ws b (at s (p + impl-param·args)))))
 
@@ -41,14 +42,17 @@ link-value s ws b x p =
       | false ↦ elim (eqb x 5) [ true ↦ bad (member-ok s) p | false ↦ elim (eqb x 6) [ true ↦ param-mark s ws b p | false ↦ chain-mark ws (b + 2 * limit·sheet) (at s (p + impl-param·args)) ] ]
     ]
 
+-- What x says of place p.
 unfoldable pub value : Words → Words → Words → ℕ → ℕ → ℕ → ℕ
 value s w ws b x p = elim (ltb x 4) [ true ↦ table-value s w ws b x p | false ↦ link-value s ws b x p ]
 
 module _ (s w ws : Words) (b x p : ℕ) where
+  -- Of a table.
   pub value-table : (r : ℕ) → x < 4 → r ≡ table-value s w ws b x p → r ≡ value s w ws b x p
   unfolding value
   value-table r l e = rw (lt-ltb x 4 l, value) e
 
+  -- Of another chain.
   pub value-link : (r : ℕ) → 4 ≤ x → r ≡ link-value s ws b x p → r ≡ value s w ws b x p
   unfolding value
   value-link r l e = rw (le-ltb x 4 l, value) e
@@ -93,6 +97,7 @@ module _ (s w ws us : Words) (b to : ℕ) (l : b + 3 * limit·sheet ≤ to) (sam
   bounds : (h : ℕ) → chain-mark us (b + 2 * limit·sheet) h ≡ chain-mark ws (b + 2 * limit·sheet) h
   bounds h = mark-same ws us (b + 2 * limit·sheet) to h (omega arith) same
 
+  -- What x says is the same.
   pub value-same : (x p : ℕ) → value s w us b x p ≡ value s w ws b x p
   unfolding value table-value link-value node-mark param-mark
   value-same x p =
@@ -128,26 +133,32 @@ pub node-marked : (s w ws : Words) (b p k inv id c n r : ℕ) (y : Bool) → k �
 unfolding node-mark
 node-marked s w ws b p k inv id c n r y a d e f g h j = j ∙ λ t. bit (not ((h ∙ λ u. core s (a u) (d u) (e u) ((g ∙ ap (chain-mark ws b) f) u)) t))
 
+-- Those of an impl parameter's mark.
 pub param-marked : (s ws : Words) (b p t c n r : ℕ) (y : Bool) → t ≡ at s (p + impl-param·trait) → c ≡ at s (p + impl-param·args) → n ≡ chain-mark ws b c → y ≡ args-core s t n → r ≡ bit (not y) → r ≡ param-mark s ws b p
 unfolding param-mark
 param-marked s ws b p t c n r y a d e f g = g ∙ λ i. bit (not ((f ∙ λ u. args-core s (a u) ((e ∙ ap (chain-mark ws b) d) u)) i))
 
+-- Of another kind than Param.
 pub need-none : (w : Words) (p k : ℕ) → k ≡ at w (p + node·kind) → k ≢ kind·param → 0 ≡ node-need w p
 unfolding node-need param-need
 need-none w p k e n = rw (ne-eqb (at w (p + node·kind)) kind·param (λ q. n (e ∙ q)), param-need) refl
 
+-- Of a Param.
 pub need-some : (w : Words) (p k id : ℕ) → k ≡ at w (p + node·kind) → id ≡ at w (p + node·id) → k ≡ kind·param → id < word·most → id + 1 ≡ node-need w p
 unfolding node-need param-need
 need-some w p k id e f g l = rw (eq-eqb (at w (p + node·kind)) kind·param (sym e ∙ g), lt-ltb (at w (p + node·id)) word·most (omega arith), param-need) (omega arith)
 
+-- Of a Param whose id is the largest word.
 pub need-past : (w : Words) (p k id : ℕ) → k ≡ at w (p + node·kind) → id ≡ at w (p + node·id) → k ≡ kind·param → word·most ≤ id → 0 ≡ node-need w p
 unfolding node-need param-need
 need-past w p k id e f g l = rw (eq-eqb (at w (p + node·kind)) kind·param (sym e ∙ g), le-ltb (at w (p + node·id)) word·most (omega arith), param-need) refl
 
+-- Of a cell: its type word.
 pub cell-found : (w : Words) (p t : ℕ) → t ≡ at w (p + cell·type) → t / 2 + 1 ≡ cell-need w p
 unfolding cell-need
 cell-found w p t e = omega (arith, ap (λ x. x / 2) e)
 
+-- The six tests of a node.
 pub core-found : (s : Words) (k inv id n l m : ℕ) (up fits r : Bool) → up ≡ (ltb 0 k || eqb inv 0) → fits ≡ id-fits s k id → l ≡ kind-row k row·least → m ≡ kind-row k row·most →
     r ≡ holds (ltb k kind·count ∷ leb inv 1 ∷ up ∷ fits ∷ leb l n ∷ leb n m ∷ []) → r ≡ core s k inv id n
 unfolding core

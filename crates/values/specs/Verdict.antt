@@ -47,6 +47,7 @@ table-found s w ws params h a b c n q r er eq t rows l ea eb ec en =
     ∙ (λ i. holds (leb ((ea ∙ t .nodes .cores h rows) i) 0 ∷ leb ((eb ∙ t .nodes .needs h (rows .forward)) i) (eq i) ∷ leb ((ec ∙ t .nodes .kids h rows) i) ((en ∙ t .cells .lengths h (rows .forward)) i) ∷ []))
     ∙ sym (table-whole s w params l h)
 
+-- A trait? and its arguments.
 pub args-found : (s w ws : Words) (h t args n bd m : ℕ) (y r : Bool) → Tables s w ws → Forward w h → Forward w args → n ≡ chain-mark ws plane·lengths args → y ≡ args-core s t n →
     bd ≡ chain-mark ws plane·bounds args → m ≡ chain-mark ws plane·lengths h → r ≡ holds (y ∷ leb bd m ∷ []) → r ≡ args-ok s w h t args
 args-found s w ws h t args n bd m y r p fh fa en ey eb em er =
@@ -56,6 +57,7 @@ args-found s w ws h t args n bd m y r p fh fa en ey eb em er =
 unfoldable pub params-ok : Words → ℕ → ℕ → Bool
 params-ok s table h = all (λ i. args-ok s s table (at s (i + impl-param·trait)) (at s (i + impl-param·args))) (chain s h)
 
+-- Two planes tell.
 pub params-found : (s ws : Words) (table h a b n : ℕ) (r : Bool) → Charted s ws → Forward s table → Rows s h impl-param·args → a ≡ chain-mark ws plane·params h → b ≡ chain-mark ws plane·args h →
     n ≡ chain-mark ws plane·lengths table → r ≡ holds (leb a 0 ∷ leb b n ∷ []) → r ≡ params-ok s table h
 unfolding params-ok
@@ -64,15 +66,19 @@ params-found s ws table h a b n r c f rows ea eb en er =
 
 -- Generics: their heads, and their record.
 module _ (s : Words) (p : ℕ) (m : Member s header·generics p) where
+  -- The table.
   pub generics-table-rows : (t : ℕ) → t ≡ at s (p + generics·table) → Rows s t node·children
   generics-table-rows t e = subst (λ x. Rows s x node·children) (sym e) (m .kept .generics p (m .is) .table)
 
+  -- Its chain.
   pub generics-table-forward : (t : ℕ) → t ≡ at s (p + generics·table) → Forward s t
   generics-table-forward t e = generics-table-rows t e .forward
 
+  -- The impl parameters.
   pub generics-params-rows : (i : ℕ) → i ≡ at s (p + generics·impl-params) → Rows s i impl-param·args
   generics-params-rows i e = subst (λ x. Rows s x impl-param·args) (sym e) (m .kept .generics p (m .is) .params)
 
+  -- The record.
   pub generics-found : (ws : Words) (tp q t i n : ℕ) (x y r : Bool) → Charted s ws → tp ≡ at s (p + generics·type-params) → q ≡ tp → t ≡ at s (p + generics·table) → i ≡ at s (p + generics·impl-params) →
       x ≡ table-ok s s tp t → n ≡ chain-mark ws plane·lengths i → y ≡ params-ok s t i → r ≡ holds (leb q limit·type-params ∷ x ∷ leb n limit·impl-params ∷ y ∷ []) → r ≡ generics-ok s p
   unfolding generics-ok params-ok
@@ -81,12 +87,15 @@ module _ (s : Words) (p : ℕ) (m : Member s header·generics p) where
 
 -- Impls.
 module _ (s : Words) (p : ℕ) (m : Member s header·impls p) where
+  -- The table.
   pub impl-table-rows : (t : ℕ) → t ≡ at s (p + impl·table) → Rows s t node·children
   impl-table-rows t e = subst (λ x. Rows s x node·children) (sym e) (m .kept .impls p (m .is) .table)
 
+  -- Its chain.
   pub impl-table-forward : (t : ℕ) → t ≡ at s (p + impl·table) → Forward s t
   impl-table-forward t e = impl-table-rows t e .forward
 
+  -- The arguments.
   pub impl-args-forward : (a : ℕ) → a ≡ at s (p + impl·args) → Forward s a
   impl-args-forward a e = subst (Forward s) (sym e) (m .kept .impls p (m .is) .args)
 
@@ -94,6 +103,7 @@ module _ (s : Words) (p : ℕ) (m : Member s header·impls p) where
 unfoldable pub impl-types : Words → ℕ → ℕ → Bool
 impl-types s p g = holds (table-ok s s (type-params s g) (at s (p + impl·table)) ∷ args-ok s s (at s (p + impl·table)) (at s (p + impl·trait)) (at s (p + impl·args)) ∷ [])
 
+-- Both together.
 pub impl-types-found : (s : Words) (p g tp h t a : ℕ) (x y r : Bool) → tp ≡ type-params s g → h ≡ at s (p + impl·table) → t ≡ at s (p + impl·trait) → a ≡ at s (p + impl·args) →
     x ≡ table-ok s s tp h → y ≡ args-ok s s h t a → r ≡ holds (x ∷ y ∷ []) → r ≡ impl-types s p g
 unfolding impl-types
@@ -105,6 +115,7 @@ two-last false b c d = refl
 two-last true false c d = refl
 two-last true true c d = append [] (c ∷ d ∷ [])
 
+-- The record.
 pub impl-found : (s ws : Words) (p g c f : ℕ) (x r : Bool) → Known s ws → g ≡ at s (p + impl·generics) → c ≡ at ws header·generics → f ≡ at s (p + impl·flags) → x ≡ impl-types s p g → r ≡ holds (ltb g c ∷ leb f flag·all ∷ x ∷ []) → r ≡ impl-ok s p
 unfolding impl-ok is-id impl-types
 impl-found s ws p g c f x r kn eg ec ef ex er =
@@ -112,6 +123,7 @@ impl-found s ws p g c f x r kn eg ec ef ex er =
     ∙ (λ z. holds (ltb (eg z) ((ec ∙ kn .count header·generics (omega arith)) z) ∷ leb (ef z) flag·all ∷ (ex ∙ ap (impl-types s p) eg) z ∷ []))
     ∙ two-last (ltb (at s (p + impl·generics)) (many s header·generics)) (leb (at s (p + impl·flags)) flag·all) (table-ok s s (type-params s (at s (p + impl·generics))) (at s (p + impl·table))) (args-ok s s (at s (p + impl·table)) (at s (p + impl·trait)) (at s (p + impl·args)))
 
+-- The count of type parameters of generics, as it is read.
 pub params-word : (s : Words) (g head p r : ℕ) → head ≡ at s header·generics → p ≡ at (chain s head) g → r ≡ at s (p + generics·type-params) → r ≡ type-params s g
 unfolding type-params field records
 params-word s g head p r e f h = h ∙ ap (λ x. at s (x + generics·type-params)) (f ∙ ap (λ x. at (chain s x) g) e)
@@ -120,6 +132,7 @@ params-word s g head p r e f h = h ∙ ap (λ x. at s (x + generics·type-params
 unfoldable pub links-ok : Words → ℕ → Bool
 links-ok s p = holds (all (binding-ok s) (chain s (at s (p + definition·bindings))) ∷ all (member-ok s) (chain s (at s (p + definition·named))) ∷ all (member-ok s) (chain s (at s (p + definition·implicit))) ∷ [])
 
+-- Two planes tell.
 pub links-found : (s ws : Words) (p b n i x y z : ℕ) (r : Bool) → Charted s ws → Member s header·definitions p → b ≡ at s (p + definition·bindings) → n ≡ at s (p + definition·named) → i ≡ at s (p + definition·implicit) →
     x ≡ chain-mark ws plane·bindings b → y ≡ chain-mark ws plane·members n → z ≡ chain-mark ws plane·members i → r ≡ holds (leb x 0 ∷ leb y 0 ∷ leb z 0 ∷ []) → r ≡ links-ok s p
 unfolding links-ok
@@ -131,6 +144,7 @@ links-found s ws p b n i x y z r ch m eb en ei ex ey ez er =
     ∷ (ap (λ q. leb q 0) (ez ∙ ap (chain-mark ws plane·members) ei ∙ ch .links .members (at s (p + definition·implicit)) (f .implicit)) ∙ sym (all-bad (member-ok s) (chain s (at s (p + definition·implicit))))) j
     ∷ [])
 
+-- The record.
 pub definition-found : (s ws : Words) (d p pa v c t e : ℕ) (x r : Bool) → Charted s ws → pa ≡ at s (p + definition·parent) → v ≡ at s (p + definition·trait-vis) → c ≡ at ws header·definitions →
     t ≡ at s (p + definition·trait) → e ≡ at ws header·traits → x ≡ links-ok s p → r ≡ holds (leb pa d ∷ leb v c ∷ leb t e ∷ x ∷ []) → r ≡ definition-ok s d p
 unfolding definition-ok is-vis is-optional links-ok
@@ -143,22 +157,27 @@ definition-found s ws d p pa v c t e x r ch epa ev ec et ee ex er =
 
 -- Records with no heads in them.
 module _ (s ws : Words) (kn : Known s ws) (p : ℕ) where
+  -- A trait.
   pub trait-found : (d c a i : ℕ) (r : Bool) → d ≡ at s (p + trait·definition) → c ≡ at ws header·definitions → a ≡ at s (p + trait·arity) → i ≡ at s (p + trait·inherent) → r ≡ holds (ltb d c ∷ leb a limit·arity ∷ leb i a ∷ []) → r ≡ trait-ok s p
   unfolding trait-ok is-id
   trait-found d c a i r ed ec ea ei er = er ∙ λ z. holds (ltb (ed z) ((ec ∙ kn .count header·definitions (omega arith)) z) ∷ leb (ea z) limit·arity ∷ leb (ei z) (ea z) ∷ [])
 
+  -- An opaque type or an enum.
   pub opaque-found : (d c : ℕ) → d ≡ at s (p + owner·definition) → c ≡ at ws header·definitions → ltb d c ≡ opaque-ok s p
   unfolding opaque-ok is-id
   opaque-found d c ed ec = λ z. ltb (ed z) ((ec ∙ kn .count header·definitions (omega arith)) z)
 
+  -- A struct or a union.
   pub struct-found : (d c a : ℕ) (r : Bool) → d ≡ at s (p + owner·definition) → c ≡ at ws header·definitions → a ≡ at s (p + owner·self-dual) → r ≡ holds (ltb d c ∷ leb a 1 ∷ []) → r ≡ struct-ok s p
   unfolding struct-ok is-id
   struct-found d c a r ed ec ea er = er ∙ λ z. holds (ltb (ed z) ((ec ∙ kn .count header·definitions (omega arith)) z) ∷ leb (ea z) 1 ∷ [])
 
+  -- An import.
   pub import-found : (d c : ℕ) → d ≡ at s (p + import·definition) → c ≡ at ws header·definitions → leb d c ≡ import-ok s p
   unfolding import-ok is-optional
   import-found d c ed ec = λ z. leb (ed z) ((ec ∙ kn .count header·definitions (omega arith)) z)
 
+-- A closure.
 pub closure-found : (s : Words) (p a : ℕ) → a ≡ at s (p + closure·flex) → leb a flex·both ≡ closure-ok s p
 unfolding closure-ok
 closure-found s p a e = ap (λ x. leb x flex·both) e
@@ -224,6 +243,7 @@ module _ (s : Words) (h d p : ℕ) (r : Bool) where
   unfolding record-ok
   record-plain n m o f = rw (ne-eqb h header·definitions n, ne-eqb h header·generics m, ne-eqb h header·impls o, record-ok) f
 
+-- The same of a header word that is equal.
 pub member-of : (s : Words) (h h′ p : ℕ) → h ≡ h′ → Member s h p → Member s h′ p
 member-of s h h′ p e m = subst (λ x. Member s x p) e m
 
@@ -232,6 +252,7 @@ unfoldable pub rows-ok : Words → ℕ → ℕ → Words → Bool
 rows-ok s h d [] = true
 rows-ok s h d (p ∷ ps) = elim (record-ok s h d p) [ true ↦ rows-ok s h (suc d) ps | false ↦ false ]
 
+-- All of them.
 unfoldable pub chain-ok : Words → ℕ → Bool
 chain-ok s h = rows-ok s h 0 (records s h)
 
@@ -253,11 +274,13 @@ pub record Walk (s : Words) (h d left i : ℕ) : Type 0 where
   pub among : (p : ℕ) → In p (chain-of left s i) → In p (records s h)
   pub sum : d + left ≡ length s
 
+-- The walk begins.
 pub walk-begin : (s : Words) (h head left : ℕ) → head ≡ at s h → left ≡ length s → Walk s h 0 left head
 unfolding chain-ok records chain
 walk-begin s h head left e f = subst (λ x. Walk s h 0 left x) (sym e) (subst (λ n. Walk s h 0 n (at s h)) (sym f) (record { rest = refl; among = λ p m. m; sum = zero-add (length s) }))
 
 module _ (s : Words) (h d left i : ℕ) (w : Walk s h d left i) where
+  -- The count is used up.
   pub walk-out : left ≡ 0 → true ≡ chain-ok s h
   unfolding chain-of rows-ok
   walk-out e = sym (ap (λ n. rows-ok s h d (chain-of n s i)) e) ∙ w .rest
@@ -265,17 +288,21 @@ module _ (s : Words) (h d left i : ℕ) (w : Walk s h d left i) where
   step : left ≢ 0 → i ≢ 0 → chain-of left s i ≡ i ∷ chain-of (left - 1) s (at s i)
   step nl ni = chain-more s left i nl ni
 
+  -- The chain ends.
   pub walk-last : left ≢ 0 → i ≡ 0 → true ≡ chain-ok s h
   unfolding rows-ok
   walk-last nl e = sym (ap (rows-ok s h d) (chain-stop s left i e)) ∙ w .rest
 
+  -- It stands on a record of the chain.
   pub walk-member : Kept s → left ≢ 0 → i ≢ 0 → Member s h i
   walk-member k nl ni = record { kept = k; is = w .among i (subst (In i) (sym (step nl ni)) first) }
 
+  -- That record is out of range.
   pub walk-stop : (r : Bool) → left ≢ 0 → i ≢ 0 → r ≡ record-ok s h d i → r ≡ false → false ≡ chain-ok s h
   unfolding rows-ok
   walk-stop r nl ni e f = sym (ap (λ x. elim x as (λ b. Bool) [ true ↦ rows-ok s h (suc d) (chain-of (left - 1) s (at s i)) | false ↦ false ]) (sym e ∙ f)) ∙ sym (ap (rows-ok s h d) (step nl ni)) ∙ w .rest
 
+  -- It is not, and the next one follows.
   pub walk-more : (r : Bool) (j : ℕ) → left ≢ 0 → i ≢ 0 → r ≡ record-ok s h d i → r ≡ true → j ≡ at s i → Walk s h (d + 1) (left - 1) j
   unfolding rows-ok
   walk-more r j nl ni e f g = subst (λ x. Walk s h (d + 1) (left - 1) x) (sym g) (record {
@@ -289,11 +316,13 @@ pub chains-done : (s : Words) (h n : ℕ) (x : Bool) → n ≡ 0 → all (chain-
 unfolding all range
 chains-done s h n x e v = sym (ap (λ k. all (chain-ok s) (range h k)) e) ∙ v
 
+-- One of them is out of range.
 pub chains-stop : (s : Words) (h n : ℕ) (x r : Bool) → n ≢ 0 → r ≡ chain-ok s h → r ≡ false → all (chain-ok s) (range h n) ≡ x → false ≡ x
 unfolding all range
 chains-stop s h zero x r nn e f v = absurd (nn refl)
 chains-stop s h (suc n) x r nn e f v = sym (ap (λ b. elim b as (λ c. Bool) [ true ↦ all (chain-ok s) (range (suc h) n) | false ↦ false ]) (sym e ∙ f)) ∙ v
 
+-- It is not, and the next one follows.
 pub chains-more : (s : Words) (h n : ℕ) (x r : Bool) → n ≢ 0 → r ≡ chain-ok s h → r ≡ true → all (chain-ok s) (range h n) ≡ x → all (chain-ok s) (range (h + 1) (n - 1)) ≡ x
 unfolding all range
 chains-more s h zero x r nn e f v = absurd (nn refl)
@@ -349,16 +378,19 @@ chains-all s = λ t. holds (
 unfoldable pub limits-ok : Words → Bool
 limits-ok s = holds (leb (many s header·definitions) limit·definitions ∷ leb (many s header·impls) limit·impls ∷ is-optional s header·definitions (at s header·prelude) ∷ flex-trait-ok s (at s header·fork) ∷ [])
 
+-- drop?, duplicate?, erase?.
 unfoldable pub words-ok : Words → Bool
 words-ok s = holds (flex-trait-ok s (at s header·drop) ∷ is-optional s header·impls (at s header·duplicate) ∷ is-optional s header·impls (at s header·erase) ∷ [])
 
 module _ (s ws : Words) (kn : Known s ws) where
+  -- The first four tests.
   pub limits-found : (d i p f : ℕ) (x r : Bool) → d ≡ at ws header·definitions → i ≡ at ws header·impls → p ≡ at s header·prelude → f ≡ at s header·fork → x ≡ flex-trait-ok s f → r ≡ holds (leb d limit·definitions ∷ leb i limit·impls ∷ leb p d ∷ x ∷ []) → r ≡ limits-ok s
   unfolding limits-ok is-optional
   limits-found d i p f x r ed ei ep ef ex er =
       let dd = ed ∙ kn .count header·definitions (omega arith) in
       er ∙ λ t. holds (leb (dd t) limit·definitions ∷ leb ((ei ∙ kn .count header·impls (omega arith)) t) limit·impls ∷ leb (ep t) (dd t) ∷ (ex ∙ ap (flex-trait-ok s) ef) t ∷ [])
 
+  -- The next three.
   pub words-found : (i f u e : ℕ) (x r : Bool) → i ≡ at ws header·impls → f ≡ at s header·drop → u ≡ at s header·duplicate → e ≡ at s header·erase → x ≡ flex-trait-ok s f → r ≡ holds (x ∷ leb u i ∷ leb e i ∷ []) → r ≡ words-ok s
   unfolding words-ok is-optional
   words-found i f u e x r ei ef eu ee ex er =
@@ -368,10 +400,12 @@ module _ (s ws : Words) (kn : Known s ws) where
 swap-eqb : (a b : ℕ) → eqb a b ≡ eqb b a
 swap-eqb a b = same-test (eqb a b) (eqb b a) (λ t. subst T (sym (eq-eqb b a (sym (eqb→eq a b t)))) tt, λ t. subst T (sym (eq-eqb a b (sym (eqb→eq b a t)))) tt)
 
+-- fork? or drop? is not set.
 pub flex-none : (s : Words) (t : ℕ) → t ≡ 0 → true ≡ flex-trait-ok s t
 unfolding flex-trait-ok is-optional holds
 flex-none s t e = rw (le-leb t (many s header·traits) (omega arith), eq-eqb t 0 e) refl
 
+-- It is a trait with one argument.
 pub flex-some : (s : Words) (t : ℕ) (r : Bool) → t ≢ 0 → r ≡ args-core s t 1 → r ≡ flex-trait-ok s t
 unfolding flex-trait-ok args-core holds
 flex-some s t r n e = e ∙ λ i. holds (is-optional s header·traits t ∷ (ap (λ b. b || eqb 1 (arity s t)) (sym (ne-eqb t 0 n)) ∙ ap (λ b. eqb t 0 || b) (swap-eqb 1 (arity s t))) i ∷ [])
@@ -406,22 +440,28 @@ values-found s x y z r ex ey ez er =
 
 -- 12: an impl question, and a flex question.
 module _ (q : Words) (k : T (impl-question-keeps q)) where
+  -- The table of an impl question.
   pub question-rows : (h : ℕ) → h ≡ at q question·table → Rows q h node·children
   question-rows h e = subst (λ x. Rows q x node·children) (sym e) (asked q k .table)
 
+  -- Its chain.
   pub question-forward : (h : ℕ) → h ≡ at q question·table → Forward q h
   question-forward h e = question-rows h e .forward
 
+  -- The arguments.
   pub question-args-forward : (a : ℕ) → a ≡ at q question·args → Forward q a
   question-args-forward a e = subst (Forward q) (sym e) (asked q k .args)
 
+-- Both together.
 pub impl-question-found : (s q : Words) (g tp h t a : ℕ) (x y r : Bool) → r ≡ holds (x ∷ y ∷ []) → x ≡ table-ok s q tp h → y ≡ args-ok s q h t a → tp ≡ type-params s g → h ≡ at q question·table → t ≡ at q question·trait → a ≡ at q question·args → r ≡ impl-question-values s g q
 unfolding impl-question-values
 impl-question-found s q g tp h t a x y r er ex ey etp eh et ea = er ∙ λ z. holds ((ex ∙ λ u. table-ok s q (etp u) (eh u)) z ∷ (ey ∙ λ u. args-ok s q (eh u) (et u) (ea u)) z ∷ [])
 
+-- The table of a flex question.
 pub flex-rows : (q : Words) (h : ℕ) → T (flex-question-keeps q) → h ≡ at q question·table → Rows q h node·children
 flex-rows q h k e = subst (λ x. Rows q x node·children) (sym e) (flex-asked q k)
 
+-- The table, the type word and the zero.
 pub flex-question-found : (s q ws : Words) (g tp h t o n : ℕ) (x r : Bool) → r ≡ holds (x ∷ ltb (t / 2) n ∷ eqb o 0 ∷ []) → x ≡ table-ok s q tp h → Tables s q ws → T (flex-question-keeps q) → tp ≡ type-params s g → h ≡ at q question·table →
     t ≡ at q question·type → o ≡ at q question·zero → n ≡ chain-mark ws plane·lengths h → r ≡ flex-question-values s g q
 unfolding flex-question-values

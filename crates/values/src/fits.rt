@@ -67,7 +67,11 @@ const OWNERS: [usize; 9] = [
 fn owner(k: usize) -> usize
     ensures { λ r. ⌜ r ≡ owner k ⌝ }
 {
-    if k < 9 { OWNERS[k] } else { 0 }
+    if k < limits::OWNER_KINDS {
+        OWNERS[k]
+    } else {
+        0
+    }
 }
 
 // The id of a node is in range, but for a Param's, which depends on the generics concerned.

@@ -38,3 +38,26 @@ pub const MEMBERS: usize = 16 * PLANE;
 pub const PARAMS: usize = 18 * PLANE;
 
 pub const ARGS: usize = 20 * PLANE;
+
+// The planes that are folded into them: what a record at a place asks for.
+pub const CELL_VALUES: usize = 5 * PLANE;
+
+pub const NODE_VALUES: usize = 7 * PLANE;
+
+pub const NEED_VALUES: usize = 9 * PLANE;
+
+pub const CHILD_VALUES: usize = 11 * PLANE;
+
+pub const BINDING_VALUES: usize = 13 * PLANE;
+
+pub const MEMBER_VALUES: usize = 15 * PLANE;
+
+pub const PARAM_VALUES: usize = 17 * PLANE;
+
+pub const ARGS_VALUES: usize = 19 * PLANE;
+
+// The chains of the header.
+pub const CHAINS: usize = 10;
+
+// The kinds up to the last one whose id names a record.
+pub const OWNER_KINDS: usize = 9;

@@ -57,7 +57,14 @@ fn prepare_cells(s: &[u32], w: &[u32], ws: &mut [u32])
     ensures { λ _. ⌜ CellsMade (now (w .entry)) (now (ws .entry)) (now (ws .exit)) ⌝ }
 {
     folds::mark_fold(w, true, ws, 0, limits::LENGTHS);
-    note_most(s, w, ws, 2 * limits::PLANE, planes::CELL, 5 * limits::PLANE);
+    note_most(
+        s,
+        w,
+        ws,
+        2 * limits::PLANE,
+        planes::CELL,
+        limits::CELL_VALUES,
+    );
 }
 
 // What nodes ask for.
@@ -65,9 +72,16 @@ fn prepare_nodes(s: &[u32], w: &[u32], ws: &mut [u32])
     requires { ⌜ Space (now s) (now w) (now ws) × Cells (now w) (now ws) ⌝ }
     ensures { λ _. ⌜ NodesMade (now (s .entry)) (now (w .entry)) (now (ws .entry)) (now (ws .exit)) ⌝ }
 {
-    note_most(s, w, ws, limits::LENGTHS, planes::NODE, 7 * limits::PLANE);
-    note_most(s, w, ws, limits::LENGTHS, planes::NEED, 9 * limits::PLANE);
-    note_most(s, w, ws, limits::LENGTHS, planes::CHILD, 11 * limits::PLANE);
+    note_most(s, w, ws, limits::LENGTHS, planes::NODE, limits::NODE_VALUES);
+    note_most(s, w, ws, limits::LENGTHS, planes::NEED, limits::NEED_VALUES);
+    note_most(
+        s,
+        w,
+        ws,
+        limits::LENGTHS,
+        planes::CHILD,
+        limits::CHILD_VALUES,
+    );
 }
 
 // What bindings, members and impl parameters ask for.
@@ -81,7 +95,7 @@ fn prepare_links(s: &[u32], ws: &mut [u32])
         ws,
         limits::LENGTHS,
         planes::BINDING,
-        13 * limits::PLANE,
+        limits::BINDING_VALUES,
     );
     note_most(
         s,
@@ -89,10 +103,17 @@ fn prepare_links(s: &[u32], ws: &mut [u32])
         ws,
         limits::LENGTHS,
         planes::MEMBER,
-        15 * limits::PLANE,
+        limits::MEMBER_VALUES,
     );
-    note_most(s, s, ws, limits::LENGTHS, planes::PARAM, 17 * limits::PLANE);
-    note_most(s, s, ws, limits::LENGTHS, planes::ARGS, 19 * limits::PLANE);
+    note_most(
+        s,
+        s,
+        ws,
+        limits::LENGTHS,
+        planes::PARAM,
+        limits::PARAM_VALUES,
+    );
+    note_most(s, s, ws, limits::LENGTHS, planes::ARGS, limits::ARGS_VALUES);
 }
 
 // The planes of the tables of a slice.

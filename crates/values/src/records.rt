@@ -250,8 +250,8 @@ pub fn chains_ok(s: &[u32], ws: &[u32]) -> bool
     requires { ⌜ Charted (now s) (now ws) × Kept (now s) ⌝ }
     ensures { λ r. ⌜ r ≡ all (chain-ok (now (s .entry))) (range 1 10) ⌝ }
 {
-    let mut h: usize = 1;
-    let mut left: usize = 10;
+    let mut h = layout::DEFINITIONS;
+    let mut left = limits::CHAINS;
     while left != 0 {
         if !chain_ok(s, ws, h) {
             return false;

@@ -10,9 +10,6 @@ mark-fold-requires c κs = search needs
 mul-note-most : tie.Need-mul-note-most
 mul-note-most c = search needs
 
-mul-note-most-2 : tie.Need-mul-note-most-2
-mul-note-most-2 c = search needs
-
 note-most-requires : tie.Need-note-most-requires
 note-most-requires c κs = search (needs, space-fold)
 
@@ -24,11 +21,4 @@ returns c = search (needs, cells-made)
 
 pub prepare-cells-spec : {M : Type 1} → statement M
 prepare-cells-spec =
-    tie.close
-    (tie.spec
-    mark-fold-requires
-    mul-note-most
-    mul-note-most-2
-    note-most-requires
-    same-length
-    returns)
+    tie.close (tie.spec mark-fold-requires mul-note-most note-most-requires same-length returns)
