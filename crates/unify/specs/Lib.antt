@@ -6,3 +6,4 @@ pub mod Known
 pub mod Children
 pub mod Pairs
 pub mod Lists
+pub mod Robinson

@@ -342,13 +342,13 @@ pub fn unify_types(
         return UnifyResult::Failure;
     }
     let mut v = UnifyResult::Success;
-    let mut i: usize = 0;
-    while i < xs.len() {
-        let a = words::word(xs, i);
-        let b = words::word(ys, i);
+    let mut k: usize = 0;
+    while k < xs.len() {
+        let a = words::word(xs, k);
+        let b = words::word(ys, k);
         let r = unify(s, ws, marks, a, b);
         v = and(v, r);
-        i += 1;
+        k += 1;
     }
     v
 }

@@ -8,10 +8,10 @@ use Rattle.unify.proofs.unify_types.Statement.{statement}
 use Rattle.unify.proofs.unify_types.Tie as tie
 
 abbrev Inv-loop : tie.InvT-loop
-Inv-loop s ws₀ marks₀ xs ys v₀ i₀ ws marks v i = (length ws ≡ length ws₀) × ((length marks ≡ length marks₀) × Going s ws₀ ws xs ys v i)
+Inv-loop s ws₀ marks₀ xs ys v₀ k₀ ws marks v k = (length ws ≡ length ws₀) × ((length marks ≡ length marks₀) × Going s ws₀ ws xs ys v k)
 
 abbrev μ-loop : tie.MeasureT-loop
-μ-loop s ws₀ marks₀ xs ys v₀ i₀ ws marks v i = length xs - i
+μ-loop s ws₀ marks₀ xs ys v₀ k₀ ws marks v k = length xs - k
 
 returns : tie.Need-returns Inv-loop μ-loop
 returns c = search (needs, types-differ)
@@ -31,8 +31,8 @@ unify-requires c κs = (search needs, (search (needs, going-left), (search (need
 and-requires : tie.Need-and-requires Inv-loop μ-loop
 and-requires c κs = search needs
 
-add-i : tie.Need-add-i Inv-loop μ-loop
-add-i c = search needs
+add-k : tie.Need-add-k Inv-loop μ-loop
+add-k c = search needs
 
 loop-less : tie.Need-loop-less Inv-loop μ-loop
 loop-less c = search needs
@@ -63,7 +63,7 @@ unify-types-spec =
     word-requires-2
     unify-requires
     and-requires
-    add-i
+    add-k
     loop-less
     loop-again
     same-length
