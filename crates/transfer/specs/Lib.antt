@@ -1,3 +1,5 @@
 pub mod Source
 pub mod Records
 pub mod Moving
+pub mod Steps
+pub mod Leaves

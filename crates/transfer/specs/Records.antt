@@ -21,11 +21,11 @@ use Rattle.table.specs.Packing.{kind-in, inverted-in, id-in, up-at, kind-at, in
 use Rattle.table.specs.Nodes.{word-type, node-past}
 use Rattle.transfer.specs.Source.{indexed}
 
-mapped-length : {A B : Type 0} (f : A → B) (l : List A) → length (map f l) ≡ length l
+pub mapped-length : {A B : Type 0} (f : A → B) (l : List A) → length (map f l) ≡ length l
 mapped-length f [] = refl
 mapped-length f (x ∷ l) = ap suc (mapped-length f l)
 
-mapped-at : {B : Type 0} (f : ℕ → B) (l : Words) (n : ℕ) (d : B) → n < length l → getD (map f l) n d ≡ f (at l n)
+pub mapped-at : {B : Type 0} (f : ℕ → B) (l : Words) (n : ℕ) (d : B) → n < length l → getD (map f l) n d ≡ f (at l n)
 mapped-at f [] n d h = absurd (not-suc-le-zero h)
 mapped-at f (x ∷ l) zero d h = refl
 mapped-at f (x ∷ l) (suc n) d h = mapped-at f l n d (le-of-suc-le-suc h)

@@ -1,3 +1,116 @@
 // `TypeTransfer` of the Rust: types moved from one table to another, with all that they reach.
+// The source is packed words or the records of a chain (source.rt); the table that is filled is packed. The mapping has a word for each node
+// of the source: 0, or 1 and the type word of what it became. Where parameters are given (`with`), a Param is the type in its place.
+ghost use mathlib.Core.Path.{_≡_};
+ghost use mathlib.Core.Logic.{_≢_};
+ghost use mathlib.Core.Bool.{Bool, true, false};
+ghost use mathlib.Core.List.{map as map-list};
+ghost use Prim.Native.Nat.{ℕ, suc, _+_, _*_, _/_, _<_, _≤_};
+ghost use lib.ListN.{length, getD, set, take};
+ghost use Rattle.rules.specs.Sheet.{at};
+ghost use Rattle.rules.specs.Solutions.{rep};
+ghost use Rattle.rules.specs.Slim.{Slim};
+ghost use Rattle.rules.specs.Neat.{Neat};
+ghost use Rattle.rules.specs.Transfer.{type-of-word, transfer-in, transfer-each};
+ghost use Rattle.table.specs.Packing.{types-of, Packed, TypeWords, kind-at};
+ghost use Rattle.transfer.specs.Source.{source as source-of};
+ghost use Rattle.transfer.specs.Moving.{params-of, Mapping, Level, Levels, Rooted, Param, Settles, Enters, Typed, Read, Fills, Transfers, TransfersAll, fresh, filled};
+
 pub mod records; // records.rt: a table as the records of a chain
 pub mod source; // source.rt: a source, packed or as records
+
+const PARAM: u32 = 1;
+
+// What root type r stands for as a Param: 0, or 1 and its type word.
+fn param_type(packed: bool, s: &[u32], places: &[u32], with: bool, ps: &[u32], r: u32) -> u32
+    requires { ⌜ TypeWords (now ps) ⌝ }
+    ensures { λ q. ⌜ Param (source-of packed (now (s .entry)) (now (places .entry))) (params-of with (now (ps .entry))) r q ⌝ }
+{
+    if with {
+        if source::kind_of(packed, s, places, r / 2) == PARAM {
+            let d = source::id_of(packed, s, places, r / 2);
+            let p = words::word(ps, words::wide(d));
+            let u = table::invert_if(source::inverted_of(packed, s, places, r / 2), p);
+            return table::invert_if(table::is_inverted(r), u) + 1;
+        }
+        return 0;
+    }
+    0
+}
+
+// What stands for root type r already, where it went or its parameter: 0, or 1 and its type word.
+fn settled_type(
+    packed: bool,
+    s: &[u32],
+    places: &[u32],
+    map: &[u32],
+    with: bool,
+    ps: &[u32],
+    r: u32,
+) -> u32
+    requires { ⌜ TypeWords (now ps) ⌝ }
+    requires { ⌜ Mapping (length (source-of packed (now s) (now places))) (now map) ⌝ }
+    requires { ⌜ r / 2 < length (source-of packed (now s) (now places)) ⌝ }
+    ensures { λ q. ⌜ Settles (source-of packed (now (s .entry)) (now (places .entry))) (params-of with (now (ps .entry))) (now (map .entry)) r q ⌝ }
+{
+    let q = words::word(map, words::wide(r / 2));
+    if q != 0 {
+        return table::invert_if(table::is_inverted(r), q - 1) + 1;
+    }
+    param_type(packed, s, places, with, ps, r)
+}
+
+// Pushes a node for root type r, unknown as yet, and gives its number. At the limit the number is NODES, and nothing changes.
+fn push_node(dst: &mut [u32], map: &mut [u32], r: u32) -> u32
+    requires { ⌜ Packed (now dst) ⌝ }
+    requires { ⌜ r / 2 < length (now map) ⌝ }
+    ensures { λ n. ⌜ Enters (now (dst .entry)) (now (map .entry)) (now (dst .exit)) (now (map .exit)) r n ⌝ }
+{
+    let n = table::new_var(dst);
+    if n < table::NODES {
+        let i = words::wide(r / 2);
+        map[i] = 2 * n + 1;
+        return n;
+    }
+    n
+}
+
+// The type of node n, inverted as root type r is: 1 and its type word.
+fn new_type(n: u32, r: u32) -> u32
+    requires { ⌜ n < 256 ⌝ }
+    ensures { λ q. ⌜ Typed r n q ⌝ }
+{
+    2 * n + r % 2 + 1
+}
+
+// Reads the children of node n of the source, and says how many there are.
+fn read_children(packed: bool, s: &[u32], places: &[u32], n: u32, cs: &mut [u32]) -> usize
+    requires { ⌜ Slim (source-of packed (now s) (now places)) ⌝ }
+    requires { ⌜ 8 ≤ length (now cs) ⌝ }
+    ensures { λ m. ⌜ Read (source-of packed (now (s .entry)) (now (places .entry))) n (now (cs .exit)) m ⌝ }
+{
+    let m = source::child_count(packed, s, places, n);
+    let mut j = 0;
+    while j < m {
+        cs[j] = source::child(packed, s, places, n, j);
+        j += 1;
+    }
+    m
+}
+
+// Fills node n in as root type r of the source is, with the children cs, and gives its type: 1 and its type word.
+fn fill(packed: bool, s: &[u32], places: &[u32], r: u32, dst: &mut [u32], n: u32, cs: &[u32]) -> u32
+    requires { ⌜ Packed (now dst) ⌝ }
+    requires { ⌜ n < length (types-of (now dst)) ⌝ }
+    requires { ⌜ rep (types-of (now dst)) n ≡ n ⌝ }
+    requires { ⌜ kind-at (source-of packed (now s) (now places)) (r / 2) ≢ 0 ⌝ }
+    requires { ⌜ length (now cs) ≤ 8 ⌝ }
+    requires { ⌜ TypeWords (now cs) ⌝ }
+    ensures { λ q. ⌜ Fills (source-of packed (now (s .entry)) (now (places .entry))) (now (dst .entry)) (now (dst .exit)) (now (cs .entry)) r n q ⌝ }
+{
+    let i = source::inverted_of(packed, s, places, r / 2);
+    let k = source::kind_of(packed, s, places, r / 2);
+    let d = source::id_of(packed, s, places, r / 2);
+    table::set_known(dst, n, i, k, d, cs);
+    new_type(n, r)
+}
