@@ -27,7 +27,7 @@ use Rattle.transfer.specs.Records.{mapped-length}
 use Rattle.rules.specs.Answer.{word-of-type}
 use Rattle.table.specs.Packing.{types-of, Packed, Pushes, Becomes, kind-in, inverted-in, id-in, kind-at, inverted-at, id-at, TypeWords}
 use Rattle.table.specs.Nodes.{type-word, word-type}
-use Rattle.transfer.specs.Moving.{params-of, entry, Maps, Mapping, param-as, settled, Param, Settles, Enters, Typed, Read, Fills}
+use Rattle.transfer.specs.Moving.{params-of, entry, Maps, Mapping, param-as, settled, Param, Settles, Enters, Typed, Read, Fills, Known}
 use Rattle.transfer.specs.Steps.{known-parts, settled-mapped, settled-else, param-none}
 
 -- A type word below 512 stays below, inverted or not.
@@ -56,12 +56,12 @@ pub entry-none : (q : ℕ) → q ≡ 0 → entry q ≡ none
 unfolding entry
 entry-none q e = ap entry e
 
--- A parameter by its number.
-param-word : (ps : Words) (d : ℕ) → getD (map type-of-word ps) d (false, 0) ≡ type-of-word (at ps d)
+-- A type by its number; past the end it is type word 0.
+pub type-at : (ps : Words) (d : ℕ) → getD (map type-of-word ps) d (false, 0) ≡ type-of-word (at ps d)
 unfolding type-of-word
-param-word [] d = refl
-param-word (p ∷ ps) zero = refl
-param-word (p ∷ ps) (suc d) = param-word ps d
+type-at [] d = refl
+type-at (p ∷ ps) zero = refl
+type-at (p ∷ ps) (suc d) = type-at ps d
 
 -- Parameters. b says whether there are any; p is the one that the Param of root type r names, and u what that stands for there.
 module _ (src : Types) (b : Bool) (ps : Words) (r : ℕ) where
@@ -106,7 +106,7 @@ module _ (ps : Words) (p w : ℕ) (s : TypeWords ps) (ep : p ≡ at ps w) where
           parts = known-parts src (r / 2) (λ q. omega arith)
 
           there : param-for (params-of true ps) (state-at src (r / 2)) ≡ some (invert-if i (type-of-word p))
-          there = ap (param-for (params-of true ps)) parts ∙ rw (eq-eqb (kind-at src (r / 2)) 1 (sym ek ∙ z), param-for) (ap₂ {C = Option Ty} (λ (x : Bool) (y : Ty). some (invert-if x y)) (sym ei) (param-word ps (id-at src (r / 2)) ∙ ap type-of-word (sym (ep ∙ ap (at ps) (ew ∙ ed)))))
+          there = ap (param-for (params-of true ps)) parts ∙ rw (eq-eqb (kind-at src (r / 2)) 1 (sym ek ∙ z), param-for) (ap₂ {C = Option Ty} (λ (x : Bool) (y : Ty). some (invert-if x y)) (sym ei) (type-at ps (id-at src (r / 2)) ∙ ap type-of-word (sym (ep ∙ ap (at ps) (ew ∙ ed)))))
 
           whole : (b : Bool) → b ≡ true → param-as src (params-of b ps) (type-of-word r) ≡ some (invert-if c (type-of-word u))
           whole b e = ap (λ x. param-as src (params-of x ps) (type-of-word r)) e ∙ rw (there, param-as) (ap₂ {C = Option Ty} (λ (x : Bool) (y : Ty). some (invert-if x y)) (sym ec) (sym (ap type-of-word eu ∙ type-word (invert-if i (type-of-word p)))))
@@ -198,6 +198,7 @@ module _ (src : Types) (n : ℕ) (cs : Words) (m j : ℕ) (g : Reading src n cs 
 
   pub reading-done : m ≤ j → Read src n cs m
   reading-done l = record {
+    long = g .long;
     count = g .count;
     is = ext-getD (false, 0) (map type-of-word (take m cs)) (children-at src n) (mapped-length type-of-word (take m cs) ∙ length-take m cs ∙ size) (λ i h. one i (omega (arith, mapped-length type-of-word (take m cs), length-take m cs)));
   }
@@ -206,11 +207,14 @@ module _ (src : Types) (n : ℕ) (cs : Words) (m j : ℕ) (g : Reading src n cs 
       size = omega (arith, g .few, g .long, g .count)
 
       one : (i : ℕ) → i < m → getD (map type-of-word (take m cs)) i (false, 0) ≡ getD (children-at src n) i (false, 0)
-      one i h = param-word (take m cs) i ∙ ap type-of-word (getD-take m cs i 0 h) ∙ g .each i (omega (arith, g .within))
+      one i h = type-at (take m cs) i ∙ ap type-of-word (getD-take m cs i 0 h) ∙ g .each i (omega (arith, g .within))
 
 -- A node is filled in.
-pub kind-there : (src : Types) (n k : ℕ) → kind-at src n ≢ 0 → k ≡ kind-at src n → k ≢ 0
-kind-there src n k z e q = z (sym e ∙ q)
+pub kind-there : (src : Types) (n k : ℕ) → Known src n → k ≡ kind-at src n → k ≢ 0
+kind-there src n k z e q = z .is (sym e ∙ q)
+
+pub kind-known : (src : Types) (n k : ℕ) → k ≡ kind-at src n → k ≢ 0 → Known src n
+kind-known src n k e z = record { is = λ q. z (e ∙ q) }
 
 pub fills : (src : Types) (ws us cs : Words) (r n q k d : ℕ) (i : Bool) → i ≡ inverted-at src (r / 2) → k ≡ kind-at src (r / 2) → d ≡ id-at src (r / 2) → Becomes us (set (types-of ws) n (new-node n (known i k d (map type-of-word cs)))) → Typed r n q → Fills src ws us cs r n q
 fills src ws us cs r n q k d i ei ek ed b t = record { becomes = subst (λ (st : TypeState). Becomes us (set (types-of ws) n (new-node n st))) (cc) b; typed = t }

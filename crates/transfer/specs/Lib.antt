@@ -3,3 +3,4 @@ pub mod Records
 pub mod Moving
 pub mod Steps
 pub mod Leaves
+pub mod Ways

@@ -51,6 +51,15 @@ pub record Rooted (src : Types) (r k : ℕ) : Type 0 where
 pub record Levels (src : Types) (ts : Words) (k : ℕ) : Type 0 where
   pub each : (j : ℕ) → j < length ts → Level src (type-of-word (at ts j)) k
 
+-- A node of a table, its own root.
+pub record Own (ts : Types) (n : ℕ) : Type 0 where
+  pub inside : n < length ts
+  pub root : rep ts n ≡ n
+
+-- A node that is not unknown.
+pub record Known (ts : Types) (n : ℕ) : Type 0 where
+  pub is : kind-at ts n ≢ 0
+
 -- Nodes stay, with their roots.
 pub record Keeps (ts us : Types) : Type 0 where
   pub long : length ts ≤ length us
@@ -109,6 +118,7 @@ pub record TransfersAll (src : Types) (o : Transfer → List Ty × Transfer) (ws
   pub mapping : Mapping (length src) ns
   pub keeps : Keeps (types-of ws) (types-of us)
   pub small : r ≡ true → TypeWords (take n vs)
+  pub len : length vs ≡ length ts
   pub rest : (j : ℕ) → n ≤ j → at vs j ≡ at ts j
   pub moves : (m : List (ℕ × Ty)) → Maps (length src) m ms → AllMove (length src) us ns (take n vs) (o (m, types-of ws)) r
 
@@ -136,6 +146,7 @@ pub record Typed (r n q : ℕ) : Type 0 where
 
 -- The children of node n of a source, in a buffer.
 pub record Read (src : Types) (n : ℕ) (vs : Words) (m : ℕ) : Type 0 where
+  pub long : 8 ≤ length vs
   pub count : m ≡ length (children-at src n)
   pub is : map type-of-word (take m vs) ≡ children-at src n
 

@@ -19,7 +19,8 @@ use Rattle.rules.specs.Transfer.{type-of-word, cell-types, node-state, new-node
 use Rattle.rules.specs.Answer.{word-of-type}
 use Rattle.table.specs.Packing.{kind-in, inverted-in, id-in, up-at, kind-at, inverted-at, id-at}
 use Rattle.table.specs.Nodes.{word-type, node-past}
-use Rattle.transfer.specs.Source.{indexed}
+use Rattle.table.specs.Reads.{unknown-here as packed-unknown}
+use Rattle.transfer.specs.Source.{indexed, source}
 
 pub mapped-length : {A B : Type 0} (f : A → B) (l : List A) → length (map f l) ≡ length l
 mapped-length f [] = refl
@@ -176,3 +177,9 @@ module _ (s places : Words) (n : ℕ) where
     pub child-past : m ≤ j → 0 ≡ word-of-type (getD (children-at (indexed s places) n) j (false, 0))
     unfolding word-of-type
     child-past l = sym (ap word-of-type (List·getD-eq-default (children-at (indexed s places) n) (false, 0) (omega arith)))
+
+-- A node of either source whose kind is 0 is unknown.
+pub source-unknown : (b : Bool) (s places : Words) (n k : ℕ) → k ≡ kind-at (source b s places) n → k ≡ 0 → state-at (source b s places) n ≡ unknown
+unfolding source
+source-unknown true s places n k e z = packed-unknown s n k e z
+source-unknown false s places n k e z = unknown-here s places n k e z

@@ -2,19 +2,17 @@
 // The source is packed words or the records of a chain (source.rt); the table that is filled is packed. The mapping has a word for each node
 // of the source: 0, or 1 and the type word of what it became. Where parameters are given (`with`), a Param is the type in its place.
 ghost use mathlib.Core.Path.{_≡_};
-ghost use mathlib.Core.Logic.{_≢_};
 ghost use mathlib.Core.Bool.{Bool, true, false};
 ghost use mathlib.Core.List.{map as map-list};
 ghost use Prim.Native.Nat.{ℕ, suc, _+_, _*_, _/_, _<_, _≤_};
 ghost use lib.ListN.{length, getD, set, take};
 ghost use Rattle.rules.specs.Sheet.{at};
-ghost use Rattle.rules.specs.Solutions.{rep};
 ghost use Rattle.rules.specs.Slim.{Slim};
 ghost use Rattle.rules.specs.Neat.{Neat};
 ghost use Rattle.rules.specs.Transfer.{type-of-word, transfer-in, transfer-each};
-ghost use Rattle.table.specs.Packing.{types-of, Packed, TypeWords, kind-at};
+ghost use Rattle.table.specs.Packing.{types-of, Packed, TypeWords};
 ghost use Rattle.transfer.specs.Source.{source as source-of};
-ghost use Rattle.transfer.specs.Moving.{params-of, Mapping, Level, Levels, Rooted, Param, Settles, Enters, Typed, Read, Fills, Transfers, TransfersAll, fresh, filled};
+ghost use Rattle.transfer.specs.Moving.{params-of, Mapping, Level, Levels, Rooted, Own, Known, Param, Settles, Enters, Typed, Read, Fills, Transfers, TransfersAll, fresh, filled};
 
 pub mod records; // records.rt: a table as the records of a chain
 pub mod source; // source.rt: a source, packed or as records
@@ -101,9 +99,8 @@ fn read_children(packed: bool, s: &[u32], places: &[u32], n: u32, cs: &mut [u32]
 // Fills node n in as root type r of the source is, with the children cs, and gives its type: 1 and its type word.
 fn fill(packed: bool, s: &[u32], places: &[u32], r: u32, dst: &mut [u32], n: u32, cs: &[u32]) -> u32
     requires { ⌜ Packed (now dst) ⌝ }
-    requires { ⌜ n < length (types-of (now dst)) ⌝ }
-    requires { ⌜ rep (types-of (now dst)) n ≡ n ⌝ }
-    requires { ⌜ kind-at (source-of packed (now s) (now places)) (r / 2) ≢ 0 ⌝ }
+    requires { ⌜ Own (types-of (now dst)) n ⌝ }
+    requires { ⌜ Known (source-of packed (now s) (now places)) (r / 2) ⌝ }
     requires { ⌜ length (now cs) ≤ 8 ⌝ }
     requires { ⌜ TypeWords (now cs) ⌝ }
     ensures { λ q. ⌜ Fills (source-of packed (now (s .entry)) (now (places .entry))) (now (dst .entry)) (now (dst .exit)) (now (cs .entry)) r n q ⌝ }
@@ -113,4 +110,126 @@ fn fill(packed: bool, s: &[u32], places: &[u32], r: u32, dst: &mut [u32], n: u32
     let d = source::id_of(packed, s, places, r / 2);
     table::set_known(dst, n, i, k, d, cs);
     new_type(n, r)
+}
+
+// `transfer_type`: moves a type, with all that it reaches, from which every way down has at most `left` steps. 1 and its type word in the table that is
+// filled; 0 where that has no room.
+pub fn transfer_type(
+    packed: bool,
+    s: &[u32],
+    places: &[u32],
+    dst: &mut [u32],
+    map: &mut [u32],
+    with: bool,
+    ps: &[u32],
+    t: u32,
+    left: usize,
+) -> u32
+    requires { ⌜ Neat (source-of packed (now s) (now places)) ⌝ }
+    requires { ⌜ TypeWords (now ps) ⌝ }
+    requires { ⌜ Packed (now dst) ⌝ }
+    requires { ⌜ Mapping (length (source-of packed (now s) (now places))) (now map) ⌝ }
+    requires { ⌜ Level (source-of packed (now s) (now places)) (type-of-word t) (suc left) ⌝ }
+    ensures { λ q. ⌜ Transfers (source-of packed (now (s .entry)) (now (places .entry))) (transfer-in (suc left) (source-of packed (now (s .entry)) (now (places .entry))) (params-of with (now (ps .entry))) (type-of-word t)) (now (dst .entry)) (now (map .entry)) (now (dst .exit)) (now (map .exit)) q ⌝ }
+{
+    let r = source::find(packed, s, places, t);
+    let q = settled_type(packed, s, places, map, with, ps, r);
+    if q != 0 {
+        return q;
+    }
+    transfer_root(packed, s, places, dst, map, with, ps, r, left)
+}
+
+// Moves root type r, for which nothing stands yet: a new node, and then its children.
+fn transfer_root(
+    packed: bool,
+    s: &[u32],
+    places: &[u32],
+    dst: &mut [u32],
+    map: &mut [u32],
+    with: bool,
+    ps: &[u32],
+    r: u32,
+    left: usize,
+) -> u32
+    requires { ⌜ Neat (source-of packed (now s) (now places)) ⌝ }
+    requires { ⌜ TypeWords (now ps) ⌝ }
+    requires { ⌜ Packed (now dst) ⌝ }
+    requires { ⌜ Mapping (length (source-of packed (now s) (now places))) (now map) ⌝ }
+    requires { ⌜ Rooted (source-of packed (now s) (now places)) (r / 2) (suc left) ⌝ }
+    ensures { λ q. ⌜ Transfers (source-of packed (now (s .entry)) (now (places .entry))) (fresh left (source-of packed (now (s .entry)) (now (places .entry))) (params-of with (now (ps .entry))) (type-of-word r)) (now (dst .entry)) (now (map .entry)) (now (dst .exit)) (now (map .exit)) q ⌝ }
+{
+    let n = push_node(dst, map, r);
+    if n >= table::NODES {
+        return 0;
+    }
+    if source::kind_of(packed, s, places, r / 2) == 0 {
+        return new_type(n, r);
+    }
+    transfer_known(packed, s, places, dst, map, with, ps, r, n, left)
+}
+
+// Moves the children of root type r, and fills its node n in.
+fn transfer_known(
+    packed: bool,
+    s: &[u32],
+    places: &[u32],
+    dst: &mut [u32],
+    map: &mut [u32],
+    with: bool,
+    ps: &[u32],
+    r: u32,
+    n: u32,
+    left: usize,
+) -> u32
+    requires { ⌜ Neat (source-of packed (now s) (now places)) ⌝ }
+    requires { ⌜ TypeWords (now ps) ⌝ }
+    requires { ⌜ Packed (now dst) ⌝ }
+    requires { ⌜ Mapping (length (source-of packed (now s) (now places))) (now map) ⌝ }
+    requires { ⌜ Rooted (source-of packed (now s) (now places)) (r / 2) (suc left) ⌝ }
+    requires { ⌜ Known (source-of packed (now s) (now places)) (r / 2) ⌝ }
+    requires { ⌜ Own (types-of (now dst)) n ⌝ }
+    ensures { λ q. ⌜ Transfers (source-of packed (now (s .entry)) (now (places .entry))) (filled left (source-of packed (now (s .entry)) (now (places .entry))) (params-of with (now (ps .entry))) (type-of-word r) n) (now (dst .entry)) (now (map .entry)) (now (dst .exit)) (now (map .exit)) q ⌝ }
+{
+    let mut cs = [0u32; 8];
+    let m = read_children(packed, s, places, r / 2, &mut cs);
+    let done = transfer_each(packed, s, places, dst, map, with, ps, &mut cs, m, left);
+    if done {
+        return fill(packed, s, places, r, dst, n, &cs[..m]);
+    }
+    0
+}
+
+// Moves the first m types of ts, in place, from each of which every way down has fewer than `left` steps; false where there is no room.
+fn transfer_each(
+    packed: bool,
+    s: &[u32],
+    places: &[u32],
+    dst: &mut [u32],
+    map: &mut [u32],
+    with: bool,
+    ps: &[u32],
+    ts: &mut [u32],
+    m: usize,
+    left: usize,
+) -> bool
+    requires { ⌜ Neat (source-of packed (now s) (now places)) ⌝ }
+    requires { ⌜ TypeWords (now ps) ⌝ }
+    requires { ⌜ Packed (now dst) ⌝ }
+    requires { ⌜ Mapping (length (source-of packed (now s) (now places))) (now map) ⌝ }
+    requires { ⌜ m ≤ length (now ts) ⌝ }
+    requires { ⌜ Levels (source-of packed (now s) (now places)) (take m (now ts)) left ⌝ }
+    ensures { λ q. ⌜ TransfersAll (source-of packed (now (s .entry)) (now (places .entry))) (transfer-each (transfer-in left (source-of packed (now (s .entry)) (now (places .entry))) (params-of with (now (ps .entry)))) (map-list type-of-word (take m (now (ts .entry))))) (now (dst .entry)) (now (map .entry)) (now (dst .exit)) (now (map .exit)) (now (ts .entry)) (now (ts .exit)) m q ⌝ }
+{
+    let mut i = 0;
+    while i < m {
+        let t = ts[i];
+        let q = transfer_type(packed, s, places, dst, map, with, ps, t, left - 1);
+        if q == 0 {
+            return false;
+        }
+        ts[i] = q - 1;
+        i += 1;
+    }
+    true
 }

@@ -1,5 +1,5 @@
 -- A node filled in.
-use Rattle.transfer.specs.Leaves.{kind-there, fills}
+use Rattle.transfer.specs.Leaves.{fills, kind-there}
 use Rattle.table.specs.Writes.{node-low}
 use borrow.Author.Needs.{needs}
 use Rattle.transfer.proofs.fill.Statement.{statement}
