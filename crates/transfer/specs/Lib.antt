@@ -4,3 +4,4 @@ pub mod Moving
 pub mod Steps
 pub mod Leaves
 pub mod Ways
+pub mod Imports

@@ -9,10 +9,11 @@ ghost use lib.ListN.{length, getD, set, take};
 ghost use Rattle.rules.specs.Sheet.{at};
 ghost use Rattle.rules.specs.Slim.{Slim};
 ghost use Rattle.rules.specs.Neat.{Neat};
-ghost use Rattle.rules.specs.Transfer.{type-of-word, transfer-in, transfer-each};
+ghost use Rattle.rules.specs.Transfer.{type-of-word, transfer-in, transfer-each, transfer-types, import-types, export-types};
 ghost use Rattle.table.specs.Packing.{types-of, Packed, TypeWords};
 ghost use Rattle.transfer.specs.Source.{source as source-of};
 ghost use Rattle.transfer.specs.Moving.{params-of, Mapping, Level, Levels, Rooted, Own, Known, Param, Settles, Enters, Typed, Read, Fills, Transfers, TransfersAll, fresh, filled};
+ghost use Rattle.transfer.specs.Imports.{types-in, Inside, Imports, ImportsImpl, ImportsImpls};
 
 pub mod records; // records.rt: a table as the records of a chain
 pub mod source; // source.rt: a source, packed or as records
@@ -232,4 +233,120 @@ fn transfer_each(
         i += 1;
     }
     true
+}
+
+// `transfer` of the first m types of ts, in place: the mapping goes on. False where there is no room.
+pub fn transfer_types(
+    packed: bool,
+    s: &[u32],
+    places: &[u32],
+    dst: &mut [u32],
+    map: &mut [u32],
+    with: bool,
+    ps: &[u32],
+    ts: &mut [u32],
+    m: usize,
+) -> bool
+    requires { ⌜ Neat (source-of packed (now s) (now places)) ⌝ }
+    requires { ⌜ TypeWords (now ps) ⌝ }
+    requires { ⌜ Packed (now dst) ⌝ }
+    requires { ⌜ Mapping (length (source-of packed (now s) (now places))) (now map) ⌝ }
+    requires { ⌜ m ≤ length (now ts) ⌝ }
+    requires { ⌜ Inside (source-of packed (now s) (now places)) (take m (now ts)) ⌝ }
+    ensures { λ q. ⌜ TransfersAll (source-of packed (now (s .entry)) (now (places .entry))) (transfer-types (source-of packed (now (s .entry)) (now (places .entry))) (params-of with (now (ps .entry))) (types-in m (now (ts .entry)))) (now (dst .entry)) (now (map .entry)) (now (dst .exit)) (now (map .exit)) (now (ts .entry)) (now (ts .exit)) m q ⌝ }
+{
+    let n = source::count(packed, s, places);
+    transfer_each(packed, s, places, dst, map, with, ps, ts, m, n + 1)
+}
+
+// `import` of the first m types of ts, in place. False where there is no room.
+pub fn import_types(
+    packed: bool,
+    s: &[u32],
+    places: &[u32],
+    dst: &mut [u32],
+    map: &mut [u32],
+    with: bool,
+    ps: &[u32],
+    ts: &mut [u32],
+    m: usize,
+) -> bool
+    requires { ⌜ Neat (source-of packed (now s) (now places)) ⌝ }
+    requires { ⌜ TypeWords (now ps) ⌝ }
+    requires { ⌜ Packed (now dst) ⌝ }
+    requires { ⌜ length (source-of packed (now s) (now places)) ≤ length (now map) ⌝ }
+    requires { ⌜ m ≤ length (now ts) ⌝ }
+    requires { ⌜ Inside (source-of packed (now s) (now places)) (take m (now ts)) ⌝ }
+    ensures { λ q. ⌜ Imports (import-types (source-of packed (now (s .entry)) (now (places .entry))) (params-of with (now (ps .entry))) (types-in m (now (ts .entry))) (types-of (now (dst .entry)))) (now (dst .exit)) (now (ts .entry)) (now (ts .exit)) m q ⌝ }
+{
+    let n = source::count(packed, s, places);
+    words::clear(map, n);
+    transfer_types(packed, s, places, dst, map, with, ps, ts, m)
+}
+
+// `export` of the first m types of ts, in place, into a table of its own. False where there is no room.
+pub fn export_types(
+    packed: bool,
+    s: &[u32],
+    places: &[u32],
+    dst: &mut [u32],
+    map: &mut [u32],
+    ts: &mut [u32],
+    m: usize,
+) -> bool
+    requires { ⌜ Neat (source-of packed (now s) (now places)) ⌝ }
+    requires { ⌜ 1537 ≤ length (now dst) ⌝ }
+    requires { ⌜ length (source-of packed (now s) (now places)) ≤ length (now map) ⌝ }
+    requires { ⌜ m ≤ length (now ts) ⌝ }
+    requires { ⌜ Inside (source-of packed (now s) (now places)) (take m (now ts)) ⌝ }
+    ensures { λ q. ⌜ Imports (export-types (source-of packed (now (s .entry)) (now (places .entry))) (types-in m (now (ts .entry)))) (now (dst .exit)) (now (ts .entry)) (now (ts .exit)) m q ⌝ }
+{
+    table::clear_table(dst);
+    import_types(packed, s, places, dst, map, false, &s[..0], ts, m)
+}
+
+// `import` of an `ImplType` of any trait, whose arguments are the first m types of ts, in place. False where there is no room.
+pub fn import_impl_type(
+    packed: bool,
+    s: &[u32],
+    places: &[u32],
+    dst: &mut [u32],
+    map: &mut [u32],
+    with: bool,
+    ps: &[u32],
+    ts: &mut [u32],
+    m: usize,
+) -> bool
+    requires { ⌜ Neat (source-of packed (now s) (now places)) ⌝ }
+    requires { ⌜ TypeWords (now ps) ⌝ }
+    requires { ⌜ Packed (now dst) ⌝ }
+    requires { ⌜ length (source-of packed (now s) (now places)) ≤ length (now map) ⌝ }
+    requires { ⌜ m ≤ length (now ts) ⌝ }
+    requires { ⌜ Inside (source-of packed (now s) (now places)) (take m (now ts)) ⌝ }
+    ensures { λ q. ⌜ ImportsImpl (source-of packed (now (s .entry)) (now (places .entry))) (params-of with (now (ps .entry))) (now (dst .entry)) (now (dst .exit)) (now (ts .entry)) (now (ts .exit)) m q ⌝ }
+{
+    import_types(packed, s, places, dst, map, with, ps, ts, m)
+}
+
+// `import` of some `ImplType`s, whose arguments are in one row the first m types of ts, in place. False where there is no room.
+pub fn import_impl_types(
+    packed: bool,
+    s: &[u32],
+    places: &[u32],
+    dst: &mut [u32],
+    map: &mut [u32],
+    with: bool,
+    ps: &[u32],
+    ts: &mut [u32],
+    m: usize,
+) -> bool
+    requires { ⌜ Neat (source-of packed (now s) (now places)) ⌝ }
+    requires { ⌜ TypeWords (now ps) ⌝ }
+    requires { ⌜ Packed (now dst) ⌝ }
+    requires { ⌜ length (source-of packed (now s) (now places)) ≤ length (now map) ⌝ }
+    requires { ⌜ m ≤ length (now ts) ⌝ }
+    requires { ⌜ Inside (source-of packed (now s) (now places)) (take m (now ts)) ⌝ }
+    ensures { λ q. ⌜ ImportsImpls (source-of packed (now (s .entry)) (now (places .entry))) (params-of with (now (ps .entry))) (now (dst .entry)) (now (dst .exit)) (now (ts .entry)) (now (ts .exit)) m q ⌝ }
+{
+    import_types(packed, s, places, dst, map, with, ps, ts, m)
 }
