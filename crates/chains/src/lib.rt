@@ -1,5 +1,6 @@
 // Checks 7 and 11, the chain rule for every chain that a head anywhere heads: in passes over planes of marks, each linear in the slice.
 // Plane k of a slice of n words is the n words of the workspace from k * n on.
+use chart::layout;
 ghost use mathlib.Core.Path.{_≡_};
 ghost use Prim.Native.Nat.{_+_, _*_, _≤_, _<_};
 ghost use mathlib.Core.Bool.{_&&_};
@@ -8,68 +9,6 @@ ghost use Rattle.chains.specs.Marked.{Typed, Listed, Defined, Passes, Ma
 ghost use Rattle.rules.specs.Layout.{header·length};
 ghost use Rattle.rules.specs.Chains.{sheet-keeps, impl-question-keeps, flex-question-keeps};
 
-const HEADER_LENGTH: usize = 16;
-
-const DEFINITIONS: usize = 1;
-
-const GENERICS: usize = 2;
-
-const TRAITS: usize = 3;
-
-const IMPLS: usize = 4;
-
-const OPAQUES: usize = 5;
-
-const STRUCTS: usize = 6;
-
-const ENUMS: usize = 7;
-
-const UNIONS: usize = 8;
-
-const CLOSURES: usize = 9;
-
-const IMPORTS: usize = 10;
-
-const QUESTION_TABLE: usize = 0;
-
-const QUESTION_ARGS: usize = 2;
-
-const QUESTION_LENGTH: usize = 3;
-
-const DEFINITION_BINDINGS: usize = 4;
-
-const DEFINITION_NAMED: usize = 5;
-
-const DEFINITION_IMPLICIT: usize = 6;
-
-const DEFINITION_LENGTH: usize = 7;
-
-const GENERICS_TABLE: usize = 2;
-
-const GENERICS_IMPL_PARAMS: usize = 3;
-
-const GENERICS_LENGTH: usize = 4;
-
-const IMPL_TABLE: usize = 4;
-
-const IMPL_ARGS: usize = 5;
-
-const IMPL_LENGTH: usize = 6;
-
-const BINDING_LENGTH: usize = 3;
-
-const MEMBER_LENGTH: usize = 4;
-
-const IMPL_PARAM_ARGS: usize = 2;
-
-const IMPL_PARAM_LENGTH: usize = 3;
-
-const CELL_LENGTH: usize = 2;
-
-const NODE_LENGTH: usize = 5;
-
-const NODE_CHILDREN: usize = 4;
-
 // Planes 0 to 3: ones, cells, the child heads of nodes, nodes. Heads are zero or at least lo.
 pub fn mark_nodes(s: &[u32], lo: usize, ws: &mut [u32])
     requires { ⌜ (0 < lo) × (0 < length (now s)) × (length (now s) ≤ 4096) × (4 * length (now s) ≤ length (now ws)) ⌝ }
@@ -77,9 +16,9 @@ pub fn mark_nodes(s: &[u32], lo: usize, ws: &mut [u32])
 {
     let n = s.len();
     marks::note_ones(n, ws, 0);
-    marks::mark_keeps(s, CELL_LENGTH, ws, 0, n);
-    marks::note_heads(s, lo, NODE_CHILDREN, ws, n, 2 * n);
-    marks::mark_keeps(s, NODE_LENGTH, ws, 2 * n, 3 * n);
+    marks::mark_keeps(s, layout::CELL_LENGTH, ws, 0, n);
+    marks::note_heads(s, lo, layout::NODE_CHILDREN, ws, n, 2 * n);
+    marks::mark_keeps(s, layout::NODE_LENGTH, ws, 2 * n, 3 * n);
 }
 
 // Planes 4 to 7: records of three and of four words with no heads in them, the argument heads of impl parameters, impl parameters.
@@ -89,10 +28,17 @@ fn mark_lists(s: &[u32], ws: &mut [u32])
     ensures { λ _. ⌜ Listed (now (s .entry)) (now (ws .exit)) ⌝ }
 {
     let n = s.len();
-    marks::mark_keeps(s, BINDING_LENGTH, ws, 0, 4 * n);
-    marks::mark_keeps(s, MEMBER_LENGTH, ws, 0, 5 * n);
-    marks::note_heads(s, HEADER_LENGTH, IMPL_PARAM_ARGS, ws, n, 6 * n);
-    marks::mark_keeps(s, IMPL_PARAM_LENGTH, ws, 6 * n, 7 * n);
+    marks::mark_keeps(s, layout::BINDING_LENGTH, ws, 0, 4 * n);
+    marks::mark_keeps(s, layout::MEMBER_LENGTH, ws, 0, 5 * n);
+    marks::note_heads(
+        s,
+        layout::HEADER_LENGTH,
+        layout::IMPL_PARAM_ARGS,
+        ws,
+        n,
+        6 * n,
+    );
+    marks::mark_keeps(s, layout::IMPL_PARAM_LENGTH, ws, 6 * n, 7 * n);
 }
 
 // Planes 8 to 13: the three heads of definitions, all of them together, definitions.
@@ -102,12 +48,33 @@ fn mark_definitions(s: &[u32], ws: &mut [u32])
     ensures { λ _. ⌜ Defined (now (s .entry)) (now (ws .exit)) ⌝ }
 {
     let n = s.len();
-    marks::note_heads(s, HEADER_LENGTH, DEFINITION_BINDINGS, ws, 4 * n, 8 * n);
-    marks::note_heads(s, HEADER_LENGTH, DEFINITION_NAMED, ws, 5 * n, 9 * n);
-    marks::note_heads(s, HEADER_LENGTH, DEFINITION_IMPLICIT, ws, 5 * n, 10 * n);
+    marks::note_heads(
+        s,
+        layout::HEADER_LENGTH,
+        layout::DEFINITION_BINDINGS,
+        ws,
+        4 * n,
+        8 * n,
+    );
+    marks::note_heads(
+        s,
+        layout::HEADER_LENGTH,
+        layout::DEFINITION_NAMED,
+        ws,
+        5 * n,
+        9 * n,
+    );
+    marks::note_heads(
+        s,
+        layout::HEADER_LENGTH,
+        layout::DEFINITION_IMPLICIT,
+        ws,
+        5 * n,
+        10 * n,
+    );
     marks::note_and(n, ws, 8 * n, 9 * n, 11 * n);
     marks::note_and(n, ws, 11 * n, 10 * n, 12 * n);
-    marks::mark_keeps(s, DEFINITION_LENGTH, ws, 12 * n, 13 * n);
+    marks::mark_keeps(s, layout::DEFINITION_LENGTH, ws, 12 * n, 13 * n);
 }
 
 // Four planes from k for records of len words with two heads: each head, both, and the chains.
@@ -125,8 +92,8 @@ fn mark_pairs(
     ensures { λ _. ⌜ Passes (now (s .entry)) len offx cx offy cy k (now (ws .entry)) (now (ws .exit)) ⌝ }
 {
     let n = s.len();
-    marks::note_heads(s, HEADER_LENGTH, offx, ws, cx, k);
-    marks::note_heads(s, HEADER_LENGTH, offy, ws, cy, k + n);
+    marks::note_heads(s, layout::HEADER_LENGTH, offx, ws, cx, k);
+    marks::note_heads(s, layout::HEADER_LENGTH, offy, ws, cy, k + n);
     marks::note_and(n, ws, k, k + n, k + 2 * n);
     marks::mark_keeps(s, len, ws, k + 2 * n, k + 3 * n);
 }
@@ -137,20 +104,29 @@ pub fn mark_sheet(s: &[u32], ws: &mut [u32])
     ensures { λ _. ⌜ Marked (now (s .entry)) (now (ws .exit)) ⌝ }
 {
     let n = s.len();
-    mark_nodes(s, HEADER_LENGTH, ws);
+    mark_nodes(s, layout::HEADER_LENGTH, ws);
     mark_lists(s, ws);
     mark_definitions(s, ws);
     mark_pairs(
         s,
-        GENERICS_LENGTH,
-        GENERICS_TABLE,
+        layout::GENERICS_LENGTH,
+        layout::GENERICS_TABLE,
         3 * n,
-        GENERICS_IMPL_PARAMS,
+        layout::GENERICS_IMPL_PARAMS,
         7 * n,
         ws,
         14 * n,
     );
-    mark_pairs(s, IMPL_LENGTH, IMPL_TABLE, 3 * n, IMPL_ARGS, n, ws, 18 * n);
+    mark_pairs(
+        s,
+        layout::IMPL_LENGTH,
+        layout::IMPL_TABLE,
+        3 * n,
+        layout::IMPL_ARGS,
+        n,
+        ws,
+        18 * n,
+    );
 }
 
 fn both(a: bool, b: bool) -> bool
@@ -174,11 +150,11 @@ fn first_heads(s: &[u32], ws: &[u32]) -> bool
     ensures { λ r. ⌜ r ≡ first-chains (now (s .entry)) ⌝ }
 {
     let n = s.len();
-    let definitions = head_test(s, HEADER_LENGTH, ws, 13 * n, DEFINITIONS);
-    let generics = head_test(s, HEADER_LENGTH, ws, 17 * n, GENERICS);
-    let traits = head_test(s, HEADER_LENGTH, ws, 5 * n, TRAITS);
-    let impls = head_test(s, HEADER_LENGTH, ws, 21 * n, IMPLS);
-    let opaques = head_test(s, HEADER_LENGTH, ws, n, OPAQUES);
+    let definitions = head_test(s, layout::HEADER_LENGTH, ws, 13 * n, layout::DEFINITIONS);
+    let generics = head_test(s, layout::HEADER_LENGTH, ws, 17 * n, layout::GENERICS);
+    let traits = head_test(s, layout::HEADER_LENGTH, ws, 5 * n, layout::TRAITS);
+    let impls = head_test(s, layout::HEADER_LENGTH, ws, 21 * n, layout::IMPLS);
+    let opaques = head_test(s, layout::HEADER_LENGTH, ws, n, layout::OPAQUES);
     both(
         both(both(both(definitions, generics), traits), impls),
         opaques,
@@ -191,11 +167,11 @@ fn last_heads(s: &[u32], ws: &[u32]) -> bool
     ensures { λ r. ⌜ r ≡ last-chains (now (s .entry)) ⌝ }
 {
     let n = s.len();
-    let structs = head_test(s, HEADER_LENGTH, ws, 4 * n, STRUCTS);
-    let enums = head_test(s, HEADER_LENGTH, ws, n, ENUMS);
-    let unions = head_test(s, HEADER_LENGTH, ws, 4 * n, UNIONS);
-    let closures = head_test(s, HEADER_LENGTH, ws, n, CLOSURES);
-    let imports = head_test(s, HEADER_LENGTH, ws, n, IMPORTS);
+    let structs = head_test(s, layout::HEADER_LENGTH, ws, 4 * n, layout::STRUCTS);
+    let enums = head_test(s, layout::HEADER_LENGTH, ws, n, layout::ENUMS);
+    let unions = head_test(s, layout::HEADER_LENGTH, ws, 4 * n, layout::UNIONS);
+    let closures = head_test(s, layout::HEADER_LENGTH, ws, n, layout::CLOSURES);
+    let imports = head_test(s, layout::HEADER_LENGTH, ws, n, layout::IMPORTS);
     both(both(both(both(structs, enums), unions), closures), imports)
 }
 
@@ -216,9 +192,15 @@ pub fn impl_question_keeps(q: &[u32], ws: &mut [u32]) -> bool
     ensures { λ r. ⌜ r ≡ impl-question-keeps (now (q .entry)) ⌝ }
 {
     let n = q.len();
-    mark_nodes(q, QUESTION_LENGTH, ws);
-    let table = head_test(q, QUESTION_LENGTH, ws, 3 * n, QUESTION_TABLE);
-    let args = head_test(q, QUESTION_LENGTH, ws, n, QUESTION_ARGS);
+    mark_nodes(q, layout::QUESTION_LENGTH, ws);
+    let table = head_test(
+        q,
+        layout::QUESTION_LENGTH,
+        ws,
+        3 * n,
+        layout::QUESTION_TABLE,
+    );
+    let args = head_test(q, layout::QUESTION_LENGTH, ws, n, layout::QUESTION_ARGS);
     both(table, args)
 }
 
@@ -228,6 +210,12 @@ pub fn flex_question_keeps(q: &[u32], ws: &mut [u32]) -> bool
     ensures { λ r. ⌜ r ≡ flex-question-keeps (now (q .entry)) ⌝ }
 {
     let n = q.len();
-    mark_nodes(q, QUESTION_LENGTH, ws);
-    head_test(q, QUESTION_LENGTH, ws, 3 * n, QUESTION_TABLE)
+    mark_nodes(q, layout::QUESTION_LENGTH, ws);
+    head_test(
+        q,
+        layout::QUESTION_LENGTH,
+        ws,
+        3 * n,
+        layout::QUESTION_TABLE,
+    )
 }

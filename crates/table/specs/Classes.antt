@@ -100,6 +100,14 @@ module _ (lo hi : ℕ) (b : Bool) (ne : lo ≢ hi) where
   members-beside [] r a c = refl
   members-beside (nd ∷ ts) r a c = omega (arith, marks (relabel lo (b, hi) nd) (map (relabel lo (b, hi)) ts) r, marks nd ts r, mark-beside nd r a c, members-beside ts r a c)
 
+pub relabel-size : (lo : ℕ) (t : Ty) (nd : TypeNode) → (relabel lo t nd) .size ≡ nd .size
+unfolding relabel
+relabel-size lo t nd = elim (ℕ-discrete (nd .up .1) lo) [ yes e ↦ rw (eq-eqb (nd .up .1) lo e, relabel) | no e ↦ rw (ne-eqb (nd .up .1) lo e, relabel) ]
+
+pub relabel-state : (lo : ℕ) (t : Ty) (nd : TypeNode) → (relabel lo t nd) .state ≡ nd .state
+unfolding relabel
+relabel-state lo t nd = elim (ℕ-discrete (nd .up .1) lo) [ yes e ↦ rw (eq-eqb (nd .up .1) lo e, relabel) | no e ↦ rw (ne-eqb (nd .up .1) lo e, relabel) ]
+
 -- Node n of a table with node N behind it, or with node N stored.
 rep-same : (ts us : Types) (n m : ℕ) → node-at us n ≡ node-at ts m → rep us n ≡ rep ts m
 unfolding rep
@@ -197,8 +205,76 @@ counted-set ts m st hm rm k = record { inside = λ n h. inside n h (ℕ-discrete
     sizes r h e (yes q) = omega (arith, there r q, own us r r h e)
     sizes r h e (no q) = omega (arith, else r q, members-kept ts m (new-node m st) r hm (sym rm), k .sizes r (omega (arith, long)) (sym (else r q .0) ∙ e))
 
+pub map-node : (f : TypeNode → TypeNode) (ts : Types) (n : ℕ) → n < length ts → node-at (map f ts) n ≡ f (node-at ts n)
+unfolding node-at
+map-node f ts n h = map-at f ts n (new-node 0 unknown) h
+
+-- A relabelled node's root and size.
+module _ (ts us : Types) (n lo hi : ℕ) (b : Bool) (e : node-at us n ≡ relabel lo (b, hi) (node-at ts n)) where
+  rep-moved : lo ≢ hi → rep ts n ≡ lo → rep us n ≡ hi
+  unfolding rep
+  rep-moved ne q = ap (λ nd. nd .up .1) e ∙ moved-up lo hi b ne (node-at ts n) q
+
+  rep-kept : lo ≢ hi → rep ts n ≢ lo → rep us n ≡ rep ts n
+  unfolding rep
+  rep-kept ne q = ap (λ nd. nd .up .1) e ∙ kept-up lo hi b ne (node-at ts n) q
+
+  size-kept : size-at us n ≡ size-at ts n
+  unfolding size-at
+  size-kept = ap (λ nd. nd .size) e ∙ relabel-size lo (b, hi) (node-at ts n)
+
 -- Two different roots, of which one is hung under the other.
 module _ (ts : Types) (lo hi : Ty) (hlo : lo .1 < length ts) (hhi : hi .1 < length ts) (rlo : rep ts (lo .1) ≡ lo .1) (rhi : rep ts (hi .1) ≡ hi .1) (ne : lo .1 ≢ hi .1) (k : Counted ts) where
   -- Their sizes together are below the limit of the table.
   pub sizes-most : size-at ts (hi .1) + size-at ts (lo .1) ≤ length ts
   sizes-most = omega (arith, k .sizes (lo .1) hlo rlo, k .sizes (hi .1) hhi rhi, members-into (lo .1) (hi .1) false ne ts, members-most (map (relabel (lo .1) (false, hi .1)) ts) (hi .1), map-length (relabel (lo .1) (false, hi .1)) ts)
+
+  -- After it every class is counted no larger than it is.
+  pub counted-hang : Counted (hang ts lo hi)
+  unfolding hang
+  counted-hang = record { inside = λ n h. inside n h (ℕ-discrete n (hi .1)); sizes = λ r h e. sizes r h e (ℕ-discrete r (hi .1)) }
+    where
+      f : TypeNode → TypeNode
+      f = relabel (lo .1) (xor (hi .0) (lo .0), hi .1)
+
+      ms : Types
+      ms = map (relabel (lo .1) (xor (hi .0) (lo .0), hi .1)) ts
+
+      top : TypeNode
+      top = record { up = (false, hi .1); state = or-else (state-at ts (hi .1)) (invert-state (xor (hi .0) (lo .0)) (state-at ts (lo .1))); size = size-at ts (hi .1) + size-at ts (lo .1) }
+
+      us : Types
+      us = set ms (hi .1) top
+
+      long : length ms ≡ length ts
+      long = map-length f ts
+
+      all : length us ≡ length ts
+      all = length-set ms (hi .1) top ∙ long
+
+      there : (n : ℕ) → n ≡ hi .1 → node-at us n ≡ top
+      there n q = set-there ms top (hi .1) n (omega (arith, long)) q
+
+      beside : (n : ℕ) → n < length ts → n ≢ hi .1 → node-at us n ≡ relabel (lo .1) (xor (hi .0) (lo .0), hi .1) (node-at ts n)
+      beside n h q = set-beside ms top (hi .1) n q ∙ map-node f ts n h
+
+      top-rep : hi .1 ≡ rep ms (hi .1)
+      top-rep = sym (rep-kept ts ms (hi .1) (lo .1) (hi .1) (xor (hi .0) (lo .0)) (map-node f ts (hi .1) hhi) ne (λ z. ne (sym z ∙ rhi)) ∙ rhi)
+
+      same : (r : ℕ) → members us r ≡ members ms r
+      same r = members-kept ms (hi .1) top r (omega (arith, long)) top-rep
+
+      inside : (n : ℕ) → n < length us → Dec (n ≡ hi .1) → rep us n < length us
+      inside n h (yes q) = omega (arith, all, rep-is us n top (there n q))
+      inside n h (no q) = let l : n < length ts = omega (arith, all) in elim (ℕ-discrete (rep ts n) (lo .1)) [
+        | yes e ↦ omega (arith, all, rep-moved ts us n (lo .1) (hi .1) (xor (hi .0) (lo .0)) (beside n l q) ne e)
+        | no e ↦ omega (arith, all, rep-kept ts us n (lo .1) (hi .1) (xor (hi .0) (lo .0)) (beside n l q) ne e, k .inside n l)
+      ]
+
+      sizes : (r : ℕ) → r < length us → rep us r ≡ r → Dec (r ≡ hi .1) → size-at us r ≤ members us r
+      sizes r h e (yes q) = omega (arith, size-is us r top (there r q), same r, ap (members ms) q, members-into (lo .1) (hi .1) (xor (hi .0) (lo .0)) ne ts, k .sizes (lo .1) hlo rlo, k .sizes (hi .1) hhi rhi)
+      sizes r h e (no q) = let l : r < length ts = omega (arith, all) in elim (ℕ-discrete (rep ts r) (lo .1)) [
+        | yes z ↦ absurd (q (sym e ∙ rep-moved ts us r (lo .1) (hi .1) (xor (hi .0) (lo .0)) (beside r l q) ne z))
+        | no z ↦ let own-root : rep ts r ≡ r = sym (rep-kept ts us r (lo .1) (hi .1) (xor (hi .0) (lo .0)) (beside r l q) ne z) ∙ e in
+            omega (arith, size-kept ts us r (lo .1) (hi .1) (xor (hi .0) (lo .0)) (beside r l q), same r, members-beside (lo .1) (hi .1) (xor (hi .0) (lo .0)) ne ts r (λ w. z (ap (rep ts) w ∙ rlo)) q, k .sizes r l own-root)
+      ]

@@ -4,3 +4,4 @@ pub mod Reads
 pub mod Classes
 pub mod Writes
 pub mod Copies
+pub mod Joins

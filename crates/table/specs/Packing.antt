@@ -12,7 +12,8 @@ use Rattle.rules.specs.Limits.{limit·nodes}
 use Rattle.rules.specs.Sheet.{at}
 use Rattle.rules.specs.Types.{Ty, TypeState, unknown, known, TypeNode, Types, new-node, node-at, state-at, size-at}
 use Rattle.rules.specs.Transfer.{type-of-word}
-use Rattle.rules.specs.Solutions.{rep}
+use Rattle.rules.specs.Solutions.{rep, WellFormed}
+use Rattle.rules.specs.Readings.{Acyclic}
 
 -- The words of a table.
 abbrev pub table·length : ℕ
@@ -145,3 +146,9 @@ pub record Head (h u size m : ℕ) (i : Bool) : Type 0 where
 -- Words that are types of a table: each below 512.
 pub record TypeWords (cs : Words) : Type 0 where
   pub small : (j : ℕ) → at cs j < 512
+
+-- Words that are a well-formed, acyclic table.
+pub record Good (ws : Words) : Type 0 where
+  pub packed : Packed ws
+  pub formed : WellFormed (types-of ws)
+  pub acyclic : Acyclic (types-of ws)

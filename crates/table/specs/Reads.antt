@@ -19,6 +19,7 @@ use Rattle.rules.specs.Acyclic.{children}
 use Rattle.rules.specs.AcyclicLaws.{children-at}
 use Rattle.rules.specs.Transfer.{type-of-word}
 use Rattle.rules.specs.Answer.{word-of-type}
+use Rattle.rules.specs.Solutions.{rep}
 use Rattle.table.specs.Packing.{types-of, node-of, node-from, state-of, eight, head·up, head·size, head·arity, head·inverted, kind-in, inverted-in, id-in, up-at, kind-at, inverted-at, id-at}
 use Rattle.table.specs.Nodes.{types-length, node-in, node-past, word-type, type-word}
 
@@ -204,3 +205,11 @@ module _ (b : Bool) (t : ℕ) where
   pub invert-not : b ≡ false → t ≡ word-of-type (invert-if b (type-of-word t))
   unfolding invert-if
   invert-not e = sym (ap (λ c. word-of-type (invert-if c (type-of-word t))) e ∙ word-type t)
+
+pub root-half : (ts : Types) (n u : ℕ) → u ≡ word-of-type (up-at ts n) → u / 2 ≡ rep ts n
+unfolding up-at rep word-of-type
+root-half ts n u e = go ((node-at ts n) .up) e
+  where
+    go : (t : Ty) → u ≡ 2 * t .1 + bit (t .0) → u / 2 ≡ t .1
+    go (true, m) q = omega arith
+    go (false, m) q = omega arith

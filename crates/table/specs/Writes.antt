@@ -199,7 +199,7 @@ eight-of cs h s = go cs h (s .small)
 pub put-is : (ws us : Words) (n : ℕ) (nd nd′ : TypeNode) → nd ≡ nd′ → Put ws us n nd → Put ws us n nd′
 put-is ws us n nd nd′ e p = subst (λ x. Put ws us n x) e p
 
-even-type : (n : ℕ) → type-of-word (2 * n) ≡ (false, n)
+pub even-type : (n : ℕ) → type-of-word (2 * n) ≡ (false, n)
 unfolding type-of-word
 even-type n =
     let a : 2 * n % 2 ≢ 1 = λ (e : 2 * n % 2 ≡ 1). omega arith in
@@ -222,7 +222,7 @@ bit-true b e = sym (ap bit e)
 pub bit-false : (b : Bool) → b ≡ false → 0 ≡ bit b
 bit-false b e = sym (ap bit e)
 
-bit-back : (b : Bool) (i : ℕ) → i ≡ bit b → eqb i 1 ≡ b
+pub bit-back : (b : Bool) (i : ℕ) → i ≡ bit b → eqb i 1 ≡ b
 bit-back true i e = ap (λ j. eqb j 1) e
 bit-back false i e = ap (λ j. eqb j 1) e
 
@@ -249,3 +249,9 @@ node-low ws n h = omega (arith, types-few ws)
 
 pub type-small : (cs : Words) (i r : ℕ) → TypeWords cs → r ≡ at cs i → r < 512
 type-small cs i r s e = omega (arith, s .small i)
+
+pub double-low : (ws : Words) (n : ℕ) → n < length (types-of ws) → 2 * n < 512
+double-low ws n h = omega (arith, types-few ws)
+
+pub place-in : (ws : Words) (n w : ℕ) → w ≡ n → n < length (types-of ws) → 1537 ≤ length ws → 6 * w + 1 < length ws
+place-in ws n w e h long = omega (arith, types-few ws)

@@ -9,14 +9,15 @@ ghost use mathlib.Core.List.{[], map};
 ghost use mathlib.Core.Logic.{_≢_};
 ghost use lib.Dec.{eqb};
 ghost use Rattle.rules.specs.Lists.{bit};
-ghost use Rattle.rules.specs.Types.{unknown, known, new-node, invert-if, find as find-in, size-at};
+ghost use Rattle.rules.specs.Types.{unknown, known, new-node, node-at, xor as xor-of, invert-if, invert-state, find as find-in, state-at, size-at, relabel, or-else, hang as hang-in, join as join-in};
 ghost use Rattle.rules.specs.Solutions.{rep};
 ghost use Rattle.rules.specs.AcyclicLaws.{children-at};
 ghost use Rattle.rules.specs.Transfer.{type-of-word};
 ghost use Rattle.rules.specs.Answer.{word-of-type};
 ghost use Rattle.table.specs.Reads.{digit};
-ghost use Rattle.table.specs.Packing.{types-of, node-from, Packed, Put, Pushes, Becomes, Head, TypeWords, up-at, kind-at, inverted-at, id-at};
+ghost use Rattle.table.specs.Packing.{types-of, node-from, Packed, Put, Rewritten, Pushes, Becomes, Roots, Head, TypeWords, up-at, kind-at, inverted-at, id-at};
 ghost use Rattle.table.specs.Writes.{triple};
+ghost use Rattle.table.specs.Joins.{moved, with-head, root-node};
 
 // The words of a table of the most nodes, and its most nodes.
 pub const TABLE: usize = 1537;
@@ -55,9 +56,17 @@ pub fn up_of(ws: &[u32], n: u32) -> u32
     }
 }
 
+// The root of node n.
+pub fn root_of(ws: &[u32], n: u32) -> u32
+    ensures { λ r. ⌜ r ≡ rep (types-of (now (ws .entry))) n ⌝ }
+{
+    up_of(ws, n) / 2
+}
+
 // The size of the class of root n.
 pub fn size_of(ws: &[u32], n: u32) -> u32
-    ensures { λ r. ⌜ r ≡ size-at (types-of (now (ws .entry))) n ⌝ }
+    ensures is { λ r. ⌜ r ≡ size-at (types-of (now (ws .entry))) n ⌝ }
+    ensures small { λ r. ⌜ r < 512 ⌝ }
 {
     if n < count(ws) {
         field(ws, n, 1) / 18 / 512 % 512
@@ -298,4 +307,154 @@ pub fn clear_table(ws: &mut [u32])
     ensures { λ _. ⌜ Becomes (now (ws .exit)) [] ⌝ }
 {
     ws[0] = 0;
+}
+
+pub fn xor(a: bool, b: bool) -> bool
+    ensures { λ r. ⌜ r ≡ xor-of a b ⌝ }
+{
+    if a { !b } else { b }
+}
+
+// The type word of node n, inverted or not.
+pub fn type_of(inverted: bool, n: u32) -> u32
+    requires { ⌜ n < 256 ⌝ }
+    ensures is { λ r. ⌜ r ≡ word-of-type (inverted, n) ⌝ }
+    ensures small { λ r. ⌜ r < 512 ⌝ }
+{
+    2 * n + bit_of(inverted)
+}
+
+// Makes node n type u of its root.
+fn set_up(ws: &mut [u32], n: u32, u: u32)
+    requires { ⌜ 1537 ≤ length (now ws) ⌝ }
+    requires { ⌜ n < length (types-of (now ws)) ⌝ }
+    requires { ⌜ u < 512 ⌝ }
+    ensures { λ _. ⌜ Rewritten (now (ws .entry)) (now (ws .exit)) (set (types-of (now (ws .entry))) n (moved (type-of-word u) (node-at (types-of (now (ws .entry))) n))) ⌝ }
+{
+    let h = field(ws, n, 1);
+    let w = wide(n);
+    ws[6 * w + 1] = h % 18 + 18 * (u + 512 * (h / 18 / 512 % 512));
+}
+
+// Node n, if it is of the class of root lo, goes into the class of which type t is.
+fn relabel_node(ws: &mut [u32], n: u32, lo: u32, t: u32)
+    requires { ⌜ 1537 ≤ length (now ws) ⌝ }
+    requires { ⌜ n < length (types-of (now ws)) ⌝ }
+    requires { ⌜ t < 512 ⌝ }
+    ensures { λ _. ⌜ Rewritten (now (ws .entry)) (now (ws .exit)) (set (types-of (now (ws .entry))) n (relabel lo (type-of-word t) (node-at (types-of (now (ws .entry))) n))) ⌝ }
+{
+    let u = up_of(ws, n);
+    if u / 2 != lo {
+        return;
+    }
+    let v = invert_if(is_inverted(u), t);
+    set_up(ws, n, v)
+}
+
+// The class of root lo goes into the class of which type t is.
+fn relabel_class(ws: &mut [u32], lo: u32, t: u32)
+    requires { ⌜ 1537 ≤ length (now ws) ⌝ }
+    requires { ⌜ t < 512 ⌝ }
+    ensures { λ _. ⌜ Rewritten (now (ws .entry)) (now (ws .exit)) (map (relabel lo (type-of-word t)) (types-of (now (ws .entry)))) ⌝ }
+{
+    let n = count(ws);
+    let mut i = 0;
+    while i < n {
+        relabel_node(ws, i, lo, t);
+        i += 1;
+    }
+}
+
+// The head of a root of a size, for the state that another head has, inverted or not.
+fn root_head(h: u32, n: u32, size: u32, inverted: bool) -> u32
+    requires { ⌜ n < 256 ⌝ }
+    requires { ⌜ size < 512 ⌝ }
+    ensures { λ r. ⌜ Head r (2 * n) size (h % 18 / 2) (xor-of inverted (eqb (h % 2) 1)) ⌝ }
+{
+    let i = bit_of(xor(inverted, h % 2 == 1));
+    head(2 * n, size, h % 18 / 2, i)
+}
+
+// Copies the words of node m to node n, all but the head.
+fn copy_node(ws: &mut [u32], n: u32, m: u32, h: u32)
+    requires { ⌜ n < 256 ⌝ }
+    requires { ⌜ 1537 ≤ length (now ws) ⌝ }
+    ensures { λ _. ⌜ Put (now (ws .entry)) (now (ws .exit)) n (with-head h (now (ws .entry)) m) ⌝ }
+{
+    let kind = field(ws, m, 2);
+    let id = field(ws, m, 3);
+    let x = field(ws, m, 4);
+    let y = field(ws, m, 5);
+    let z = field(ws, m, 6);
+    put(ws, n, h, kind, id, x, y, z)
+}
+
+// Makes node n a root of a size that is what node m is, inverted or not.
+fn write_state(ws: &mut [u32], n: u32, m: u32, inverted: bool, size: u32)
+    requires { ⌜ 1537 ≤ length (now ws) ⌝ }
+    requires { ⌜ n < length (types-of (now ws)) ⌝ }
+    requires { ⌜ m < length (types-of (now ws)) ⌝ }
+    requires { ⌜ size < 512 ⌝ }
+    ensures { λ _. ⌜ Rewritten (now (ws .entry)) (now (ws .exit)) (set (types-of (now (ws .entry))) n (root-node n (invert-state inverted (state-at (types-of (now (ws .entry))) m)) size)) ⌝ }
+{
+    let h = root_head(field(ws, m, 1), n, size, inverted);
+    copy_node(ws, n, m, h)
+}
+
+// Makes root n of a size know what either of n and m is, m inverted or not.
+fn set_root(ws: &mut [u32], n: u32, m: u32, inverted: bool, size: u32)
+    requires { ⌜ 1537 ≤ length (now ws) ⌝ }
+    requires { ⌜ n < length (types-of (now ws)) ⌝ }
+    requires { ⌜ m < length (types-of (now ws)) ⌝ }
+    requires { ⌜ size < 512 ⌝ }
+    ensures { λ _. ⌜ Rewritten (now (ws .entry)) (now (ws .exit)) (set (types-of (now (ws .entry))) n (root-node n (or-else (state-at (types-of (now (ws .entry))) n) (invert-state inverted (state-at (types-of (now (ws .entry))) m))) size)) ⌝ }
+{
+    if kind_of(ws, n) == 0 {
+        write_state(ws, n, m, inverted, size);
+        return;
+    }
+    write_state(ws, n, n, false, size)
+}
+
+// The sizes of two roots together.
+fn sizes(ws: &[u32], lo: u32, hi: u32) -> u32
+    requires { ⌜ Packed (now ws) ⌝ }
+    requires { ⌜ Roots (types-of (now ws)) (type-of-word lo) (type-of-word hi) ⌝ }
+    ensures is { λ r. ⌜ r ≡ size-at (types-of (now (ws .entry))) (hi / 2) + size-at (types-of (now (ws .entry))) (lo / 2) ⌝ }
+    ensures small { λ r. ⌜ r < 512 ⌝ }
+{
+    size_of(ws, hi / 2) + size_of(ws, lo / 2)
+}
+
+// Whether two types are inverted to each other.
+pub fn opposed(a: u32, b: u32) -> bool
+    ensures { λ r. ⌜ r ≡ xor-of ((type-of-word a) .0) ((type-of-word b) .0) ⌝ }
+{
+    xor(is_inverted(a), is_inverted(b))
+}
+
+// The class of root lo goes under that of root hi.
+fn hang(ws: &mut [u32], lo: u32, hi: u32)
+    requires { ⌜ Packed (now ws) ⌝ }
+    requires { ⌜ Roots (types-of (now ws)) (type-of-word lo) (type-of-word hi) ⌝ }
+    ensures { λ _. ⌜ Becomes (now (ws .exit)) (hang-in (types-of (now (ws .entry))) (type-of-word lo) (type-of-word hi)) ⌝ }
+{
+    let size = sizes(ws, lo, hi);
+    let b = opposed(hi, lo);
+    let t = type_of(b, hi / 2);
+    relabel_class(ws, lo / 2, t);
+    set_root(ws, hi / 2, lo / 2, b, size)
+}
+
+// Joining puts the smaller class under the larger, on a tie the first under the second.
+pub fn join(ws: &mut [u32], a: u32, b: u32)
+    requires { ⌜ Packed (now ws) ⌝ }
+    requires { ⌜ Roots (types-of (now ws)) (type-of-word a) (type-of-word b) ⌝ }
+    ensures { λ _. ⌜ Becomes (now (ws .exit)) (join-in (types-of (now (ws .entry))) (type-of-word a) (type-of-word b)) ⌝ }
+{
+    if size_of(ws, b / 2) < size_of(ws, a / 2) {
+        hang(ws, b, a);
+        return;
+    }
+    hang(ws, a, b)
 }

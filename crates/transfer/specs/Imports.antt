@@ -3,12 +3,12 @@ use Prim.Native.Nat.{ℕ, zero, suc, _+_, _≤_, _<_}
 use mathlib.Core.Path.{_≡_, refl, sym, _∙_, ap, ap₂, subst}
 use mathlib.Core.Bool.{Bool, true, false}
 use mathlib.Core.List.{List, [], _∷_, _++_, map}
-use mathlib.Core.Option.{Option, none, some}
+use mathlib.Core.Option.{Option}
 use native.Mathlib.Nat.{le-of-suc-le-suc, not-suc-le-zero}
 use native.Mathlib.Numerals.{add-one}
 use native.Mathlib.Omega.{arith}
-use lib.ListN.{length, getD, take, drop}
-use lib.Seq.{ext-getD, take-append-seam, drop-append-seam}
+use lib.ListN.{length, take, drop, length-take, length-drop}
+use lib.Seq.{ext-getD, getD-take, getD-drop, take-append-seam, drop-append-seam}
 use Rattle.rules.specs.Lists.{Words, concat-map}
 use Rattle.rules.specs.Limits.{limit·nodes}
 use Rattle.rules.specs.Sheet.{at, chain}
@@ -22,8 +22,8 @@ use Rattle.rules.specs.Carried.{each-length}
 use Rattle.rules.specs.Neat.{Neat}
 use Rattle.table.specs.Packing.{types-of, Packed, Becomes, TypeWords}
 use Rattle.words.specs.Buffers.{cleared, cleared-length}
-use Rattle.transfer.specs.Source.{indexed, table-indexed}
-use Rattle.transfer.specs.Moving.{params-of, entry, Maps, Mapping, Level, Levels, AllMoved, AllMove, TransfersAll}
+use Rattle.transfer.specs.Source.{indexed, source, table-indexed}
+use Rattle.transfer.specs.Moving.{params-of, entry, Maps, Mapping, Levels, AllMove, TransfersAll}
 use Rattle.transfer.specs.Records.{mapped-length}
 use Rattle.transfer.specs.Leaves.{type-at}
 
@@ -149,10 +149,18 @@ imports-impls src ps ws us ts vs n r i = record {
       };
 }
 
--- For callers: types that are nodes by the rules' notion, and a table by the places of its chain.
+-- For callers: types that are nodes by the rules' notion.
 pub inside-from : (src : Types) (n : ℕ) (ts : Words) → AllIn (length src) (types-in n ts) → Inside src (take n ts)
 unfolding types-in
 inside-from src n ts a = record { each = λ j l. subst (λ (t : Ty). t .1 < length src) (type-at (take n ts) j) (child-in (length src) (map type-of-word (take n ts)) j a (omega (arith, mapped-length type-of-word (take n ts)))) }
 
-pub places-table : (s : Words) (h : ℕ) (places : Words) → length places ≡ length (chain s h) → ((j : ℕ) → j < length places → at places j ≡ at (chain s h) j) → indexed s places ≡ table s h
-places-table s h places e f = ap (indexed s) (ext-getD 0 places (chain s h) e f) ∙ table-indexed s h
+-- For callers: the n words of a buffer from b on that are the places of a chain, as a source of records.
+pub places-chain : (s : Words) (h : ℕ) (us : Words) (b n : ℕ) → n ≡ length (chain s h) → ((i : ℕ) → i < n → at us (b + i) ≡ at (chain s h) i) → b + n ≤ length us → take n (drop b us) ≡ chain s h
+places-chain s h us b n e f l = ext-getD 0 (take n (drop b us)) (chain s h) (omega (arith, size)) (λ i k. getD-take n (drop b us) i 0 (omega (arith, size)) ∙ getD-drop b us i 0 ∙ f i (omega (arith, size)))
+  where
+    size : length (take n (drop b us)) ≡ n
+    size = omega (arith, length-take n (drop b us), length-drop b us)
+
+pub places-table : (s : Words) (h : ℕ) (places : Words) → places ≡ chain s h → source false s places ≡ table s h
+unfolding source
+places-table s h places e = ap (indexed s) e ∙ table-indexed s h

@@ -3,9 +3,9 @@ use Prim.Native.Nat.{ℕ, zero, suc, _+_, _-_, _*_, _/_, _%_, _≤_, _<_, min}
 use mathlib.Core.Path.{_≡_, refl, sym, _∙_, ap, ap₂, subst}
 use mathlib.Core.Logic.{_≢_}
 use mathlib.Core.Bool.{Bool, true, false}
-use mathlib.Core.List.{List, [], _∷_, _++_, map}
+use mathlib.Core.List.{List, [], _∷_, map}
 use mathlib.Core.Option.{Option, none, some}
-use native.Mathlib.Nat.{le-of-suc-le-suc, not-suc-le-zero}
+use native.Mathlib.Nat.{not-suc-le-zero}
 use native.Mathlib.Decide.{ℕ-discrete}
 use native.Mathlib.Numerals.{add-one}
 use native.Mathlib.Omega.{arith}
@@ -16,22 +16,21 @@ use lib.ListN.{length, getD, set, take, length-set, length-take}
 use lib.Seq.{getD-set-same, getD-set-other, getD-take, ext-getD}
 use borrow.Author.Tests.{eq-eqb, ne-eqb, eqb-true, eqb-false}
 use Rattle.rules.specs.Lists.{Words, bit}
-use Rattle.rules.specs.Limits.{limit·nodes}
 use Rattle.rules.specs.Sheet.{at}
 use Rattle.rules.specs.Types.{Ty, TypeState, unknown, known, Types, new-node, xor, invert-if, state-at}
 use Rattle.rules.specs.Slim.{Slim, SlimState, slim-at}
 use Rattle.rules.specs.Acyclic.{children}
 use Rattle.rules.specs.AcyclicLaws.{children-at}
-use Rattle.rules.specs.Transfer.{mapped, param-for, type-of-word}
+use Rattle.rules.specs.Transfer.{param-for, type-of-word}
 use Rattle.transfer.specs.Records.{mapped-length}
 use Rattle.rules.specs.Answer.{word-of-type}
-use Rattle.table.specs.Packing.{types-of, Packed, Pushes, Becomes, kind-in, inverted-in, id-in, kind-at, inverted-at, id-at, TypeWords}
-use Rattle.table.specs.Nodes.{type-word, word-type}
-use Rattle.transfer.specs.Moving.{params-of, entry, Maps, Mapping, param-as, settled, Param, Settles, Enters, Typed, Read, Fills, Known}
+use Rattle.table.specs.Packing.{types-of, Pushes, Becomes, kind-in, kind-at, inverted-at, id-at, TypeWords}
+use Rattle.table.specs.Nodes.{type-word}
+use Rattle.transfer.specs.Moving.{params-of, entry, Mapping, param-as, Param, Settles, Enters, Typed, Read, Fills, Known}
 use Rattle.transfer.specs.Steps.{known-parts, settled-mapped, settled-else, param-none}
 
 -- A type word below 512 stays below, inverted or not.
-pub invert-small : (b : Bool) (t u : ℕ) → t < 512 → u ≡ word-of-type (invert-if b (type-of-word t)) → u < 512
+invert-small : (b : Bool) (t u : ℕ) → t < 512 → u ≡ word-of-type (invert-if b (type-of-word t)) → u < 512
 unfolding word-of-type invert-if type-of-word
 invert-small b t u h e = go (xor b (eqb (t % 2) 1)) refl
   where
@@ -43,7 +42,7 @@ invert-small b t u h e = go (xor b (eqb (t % 2) 1)) refl
         bit-most false = omega arith
 
 -- A word of a type, and 1.
-pub entry-type : (v : ℕ) (t : Ty) → v ≡ word-of-type t → entry (v + 1) ≡ some t
+entry-type : (v : ℕ) (t : Ty) → v ≡ word-of-type t → entry (v + 1) ≡ some t
 unfolding entry
 entry-type v t e = ap entry (add-one v) ∙ ap {B = Option Ty} (λ (x : ℕ). some (type-of-word x)) e ∙ ap some (type-word t)
 

@@ -3,13 +3,13 @@ use Prim.Native.Nat.{ℕ, zero, suc, _+_, _*_, _/_, _≤_, _<_}
 use mathlib.Core.Path.{_≡_}
 use mathlib.Core.Logic.{_≢_}
 use mathlib.Core.Bool.{Bool, true, false}
-use mathlib.Core.List.{List, [], _∷_, _++_, map}
+use mathlib.Core.List.{List, map}
 use mathlib.Core.Option.{Option, none, some}
-use lib.ListN.{length, getD, set, take}
+use lib.ListN.{length, set, take}
 use Rattle.rules.specs.Lists.{Words}
 use Rattle.rules.specs.Limits.{limit·nodes}
 use Rattle.rules.specs.Sheet.{at}
-use Rattle.rules.specs.Types.{Ty, TypeState, unknown, known, Types, new-node, invert-if, find, state-at}
+use Rattle.rules.specs.Types.{Ty, unknown, known, Types, new-node, invert-if, state-at}
 use Rattle.rules.specs.Solutions.{rep}
 use Rattle.rules.specs.RootRank.{rank}
 use Rattle.rules.specs.AcyclicLaws.{children-at}

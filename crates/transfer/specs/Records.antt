@@ -1,7 +1,7 @@
 -- Laws of the readers of records: what a record's words are is what the node is.
 use Prim.Native.Nat.{ℕ, zero, suc, _+_, _*_, _/_, _%_, _≤_, _<_}
-use mathlib.Core.Path.{_≡_, refl, sym, _∙_, ap, ap₂, subst}
-use mathlib.Core.Bool.{Bool, true, false, not}
+use mathlib.Core.Path.{_≡_, refl, sym, _∙_, ap, ap₂}
+use mathlib.Core.Bool.{Bool, true, false}
 use mathlib.Core.List.{List, [], _∷_, map}
 use mathlib.Core.Logic.{_≢_, ⊎-elim}
 use native.Mathlib.Nat.{le-of-suc-le-suc, not-suc-le-zero, zero-add, add-zero, add-suc, suc-add}
@@ -11,13 +11,13 @@ use lib.ListN.{length, getD, List·getD-eq-default}
 use borrow.Author.Tests.{eq-eqb, ne-eqb, eqb-true, eqb-false}
 use Rattle.rules.specs.Lists.{Words, bit}
 use Rattle.rules.specs.Sheet.{at, chain}
-use Rattle.rules.specs.Types.{Ty, TypeState, unknown, known, TypeNode, Types, new-node, node-at, xor, invert-if, find, state-at}
+use Rattle.rules.specs.Types.{Ty, TypeState, unknown, known, TypeNode, new-node, node-at, xor, invert-if, find, state-at}
 use Rattle.rules.specs.Pigeonholes.{lt-or}
 use Rattle.rules.specs.Acyclic.{children}
 use Rattle.rules.specs.AcyclicLaws.{children-at}
 use Rattle.rules.specs.Transfer.{type-of-word, cell-types, node-state, new-nodes}
 use Rattle.rules.specs.Answer.{word-of-type}
-use Rattle.table.specs.Packing.{kind-in, inverted-in, id-in, up-at, kind-at, inverted-at, id-at}
+use Rattle.table.specs.Packing.{kind-in, inverted-in, id-in, kind-at, inverted-at, id-at}
 use Rattle.table.specs.Nodes.{word-type, node-past}
 use Rattle.table.specs.Reads.{unknown-here as packed-unknown}
 use Rattle.transfer.specs.Source.{indexed, source}
@@ -26,7 +26,7 @@ pub mapped-length : {A B : Type 0} (f : A → B) (l : List A) → length (map f 
 mapped-length f [] = refl
 mapped-length f (x ∷ l) = ap suc (mapped-length f l)
 
-pub mapped-at : {B : Type 0} (f : ℕ → B) (l : Words) (n : ℕ) (d : B) → n < length l → getD (map f l) n d ≡ f (at l n)
+mapped-at : {B : Type 0} (f : ℕ → B) (l : Words) (n : ℕ) (d : B) → n < length l → getD (map f l) n d ≡ f (at l n)
 mapped-at f [] n d h = absurd (not-suc-le-zero h)
 mapped-at f (x ∷ l) zero d h = refl
 mapped-at f (x ∷ l) (suc n) d h = mapped-at f l n d (le-of-suc-le-suc h)
@@ -43,7 +43,7 @@ new-at i (st ∷ sts) zero h = ap (λ k. new-node k st) (sym (add-zero i))
 new-at i (st ∷ sts) (suc n) h = new-at (suc i) sts n (le-of-suc-le-suc h) ∙ ap (λ k. new-node k (getD sts n unknown)) (suc-add i n ∙ sym (add-suc i n))
 
 module _ (s places : Words) where
-  pub indexed-length : length (indexed s places) ≡ length places
+  indexed-length : length (indexed s places) ≡ length places
   unfolding indexed
   indexed-length = new-length 0 (map (node-state s) places) ∙ mapped-length (node-state s) places
 
@@ -51,7 +51,7 @@ module _ (s places : Words) where
   indexed-count = sym indexed-length
 
   -- Node n is the record at its place, and its own root.
-  pub indexed-node : (n : ℕ) → n < length places → node-at (indexed s places) n ≡ new-node n (node-state s (at places n))
+  indexed-node : (n : ℕ) → n < length places → node-at (indexed s places) n ≡ new-node n (node-state s (at places n))
   unfolding indexed
   indexed-node n h = new-at 0 (map (node-state s) places) n (omega (arith, mapped-length (node-state s) places)) ∙ ap₂ new-node (zero-add n) (mapped-at (node-state s) places n unknown h)
 
@@ -127,7 +127,7 @@ module _ (s places : Words) (n : ℕ) where
     known-here : k ≢ 0 → state-at (indexed s places) n ≡ known (eqb (at s (at places n + 2)) 1) (at s (at places n + 1)) (at s (at places n + 3)) (cell-types s (at s (at places n + 4)))
     known-here z = state-in s places n (inside z) ∙ record-known s (at places n) (λ q. z (ek ∙ sym (kind-here n (at places n) (at s (at places n + 1)) refl (inside z) refl refl) ∙ q))
 
-    pub unknown-here : k ≡ 0 → state-at (indexed s places) n ≡ unknown
+    unknown-here : k ≡ 0 → state-at (indexed s places) n ≡ unknown
     unknown-here z = ⊎-elim
         (λ h. state-in s places n h ∙ record-unknown s (at places n) (kind-here n (at places n) (at s (at places n + 1)) refl h refl refl ∙ sym ek ∙ z))
         (λ l. state-past s places n l)

@@ -2,11 +2,11 @@
 use Prim.Native.Nat.{ℕ}
 use mathlib.Core.Path.{_≡_, refl, sym, _∙_, ap}
 use mathlib.Core.Bool.{Bool, true, false}
-use mathlib.Core.List.{List, map}
+use mathlib.Core.List.{map}
 use lib.ListN.{length, getD}
 use Rattle.rules.specs.Lists.{Words}
 use Rattle.rules.specs.Sheet.{chain}
-use Rattle.rules.specs.Types.{Ty, Types, find}
+use Rattle.rules.specs.Types.{Types, find}
 use Rattle.rules.specs.AcyclicLaws.{children-at}
 use Rattle.rules.specs.Transfer.{type-of-word, node-state, new-nodes, table}
 use Rattle.rules.specs.Answer.{word-of-type}
@@ -27,11 +27,11 @@ source true s places = types-of s
 source false s places = indexed s places
 
 module _ (b : Bool) (s places : Words) where
-  pub source-packed : b ≡ true → types-of s ≡ source b s places
+  source-packed : b ≡ true → types-of s ≡ source b s places
   unfolding source
   source-packed e = sym (ap (λ c. source c s places) e)
 
-  pub source-records : b ≡ false → indexed s places ≡ source b s places
+  source-records : b ≡ false → indexed s places ≡ source b s places
   unfolding source
   source-records e = sym (ap (λ c. source c s places) e)
 

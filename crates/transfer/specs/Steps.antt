@@ -2,15 +2,15 @@
 use Prim.Native.Nat.{ℕ, zero, suc, _+_, _≤_, _<_}
 use mathlib.Core.Path.{_≡_, refl, sym, _∙_, ap, subst}
 use mathlib.Core.Logic.{_≢_}
-use mathlib.Core.Bool.{Bool, true, false}
+use mathlib.Core.Bool.{Bool, false}
 use mathlib.Core.List.{List, [], _∷_, _++_}
-use mathlib.Core.Option.{Option, none, some, Option·none-ne-some, Option·some-injective}
+use mathlib.Core.Option.{Option, none, some}
 use native.Mathlib.Nat.{le-refl, le-trans}
 use native.Mathlib.Omega.{arith}
 use lib.ListN.{length, getD, set, length-set, length-append}
-use Rattle.rules.specs.Types.{Ty, TypeState, unknown, known, TypeNode, Types, new-node, node-at, xor, invert-if, find, state-at}
+use Rattle.rules.specs.Types.{Ty, TypeState, unknown, known, Types, new-node, invert-if, find, state-at}
 use Rattle.rules.specs.Solutions.{rep, ChildrenIn}
-use Rattle.rules.specs.RootRank.{rank, child-in}
+use Rattle.rules.specs.RootRank.{child-in}
 use Rattle.rules.specs.Readings.{readable-ranked, rank-root}
 use Rattle.rules.specs.Acyclic.{children}
 use Rattle.rules.specs.AcyclicLaws.{children-at}
@@ -106,7 +106,7 @@ unfolding transfer-each
 each-grows f g [] m = le-refl _
 each-grows f g (t ∷ ts) m = le-trans (g t m) (each-grows f g ts ((f t m) .1))
 
-pub pushed-grows : (m : Transfer) (r : ℕ) → length (m .1) < length ((pushed m r) .1)
+pushed-grows : (m : Transfer) (r : ℕ) → length (m .1) < length ((pushed m r) .1)
 pushed-grows m r = omega (arith, length-append (m .1) (new-node (length (m .1)) unknown ∷ []))
 
 pub in-grows : (k : ℕ) (src : Types) (ps : Option (List Ty)) (t : Ty) (m : Transfer) → length (m .1) ≤ length ((transfer-in k src ps t m) .1 .1)

@@ -4,32 +4,31 @@ use mathlib.Core.Path.{_≡_, refl, sym, _∙_, ap, ap₂, subst}
 use mathlib.Core.Logic.{_≢_, ⊎-elim}
 use mathlib.Core.Bool.{Bool, true, false, true≢false}
 use mathlib.Core.List.{List, [], _∷_, _++_, map, map-append}
-use mathlib.Core.Option.{Option, none, some, Option·some-injective}
+use mathlib.Core.Option.{Option, some, Option·some-injective}
 use native.Mathlib.Nat.{le-trans, le-of-suc-le-suc, not-suc-le-zero}
 use native.Mathlib.Decide.{ℕ-discrete}
 use native.Mathlib.Numerals.{add-one}
 use native.Mathlib.Omega.{arith}
 use lib.Dec.{eqb}
-use lib.ListN.{length, getD, set, take, drop, length-set, length-take, length-append, List·getD-append, List·getD-eq-default}
-use lib.Seq.{getD-set-same, getD-set-other, getD-take, take-suc-set, take-suc, getD-at}
+use lib.ListN.{length, getD, set, take, length-set, length-take, length-append, List·getD-eq-default}
+use lib.Seq.{getD-set-same, getD-set-other, getD-take, take-suc-set, take-suc}
 use borrow.Author.Tests.{eq-eqb, ne-eqb}
 use Rattle.rules.specs.Lists.{Words}
 use Rattle.rules.specs.Limits.{limit·nodes}
 use Rattle.rules.specs.Sheet.{at}
 use Rattle.rules.specs.Types.{Ty, TypeState, unknown, known, TypeNode, Types, new-node, node-at, find, state-at}
 use Rattle.rules.specs.Solutions.{rep}
-use Rattle.rules.specs.RootRank.{rank}
 use Rattle.rules.specs.AcyclicLaws.{children-at}
 use Rattle.rules.specs.Transfer.{Transfer, mapped, transfer-each, transfer-in, type-of-word}
 use Rattle.rules.specs.Answer.{word-of-type}
 use Rattle.rules.specs.Carried.{pushed}
 use Rattle.rules.specs.Pigeonholes.{lt-or}
 use Rattle.rules.specs.Neat.{Neat}
-use Rattle.table.specs.Packing.{types-of, Packed, Pushes, Becomes, kind-at, inverted-at, id-at, TypeWords}
-use Rattle.table.specs.Nodes.{type-word, word-type, types-few}
+use Rattle.table.specs.Packing.{types-of, Packed, kind-at, inverted-at, id-at, TypeWords}
+use Rattle.table.specs.Nodes.{type-word}
 use Rattle.table.specs.Classes.{push-last, push-before, set-there, set-beside}
-use Rattle.transfer.specs.Moving.{entry, Maps, Mapping, Level, Levels, Rooted, Own, Known, Keeps, settled, filled, fresh, Moved, Moves, Transfers, AllMoved, AllMove, TransfersAll, Settles, Enters, Typed, Read, Fills}
-use Rattle.transfer.specs.Steps.{fresh-unknown, fresh-known, in-settled, in-fresh, each-append, each-grows, in-grows, filled-grows, fresh-grows, level-root, root-child}
+use Rattle.transfer.specs.Moving.{entry, Maps, Mapping, Level, Levels, Rooted, Own, Known, Keeps, settled, filled, fresh, Moved, Moves, Transfers, AllMoved, TransfersAll, Settles, Enters, Typed, Read, Fills}
+use Rattle.transfer.specs.Steps.{fresh-unknown, fresh-known, in-settled, in-fresh, each-append, each-grows, in-grows, fresh-grows, level-root, root-child}
 use Rattle.transfer.specs.Records.{mapped-length}
 use Rattle.transfer.specs.Leaves.{type-at, entry-of, entry-none, few-children}
 
@@ -208,7 +207,7 @@ read-levels src n cs m k g h d = record {
   each = λ j l. subst (λ (t : Ty). Level src t k) (sym (sym (type-at (take m cs) j) ∙ ap (λ (xs : List Ty). getD xs j (false, 0)) (d .is))) (root-child src (g .proper) n k h j (omega (arith, sym (ap (λ (xs : List Ty). length xs) (d .is)), mapped-length type-of-word (take m cs))));
 }
 
-pub own-kept : (ts us : Types) (n : ℕ) → Own ts n → Keeps ts us → Own us n
+own-kept : (ts us : Types) (n : ℕ) → Own ts n → Keeps ts us → Own us n
 own-kept ts us n o k = record { inside = omega (arith, o .inside, k .long); root = k .roots n (o .inside) ∙ o .root }
 
 module _ (src : Types) (f : Transfer → List Ty × Transfer) (ws ms us ns cs vs : Words) (m : ℕ) (b : Bool) (a : TransfersAll src f ws ms us ns cs vs m b) where
@@ -286,7 +285,7 @@ going-start src f ws ms ts m p g h = record {
   moves = λ l k. record { is = refl; maps = k; types = refl };
 }
 
-pub going-level : (src : Types) (f : Ty → Transfer → Ty × Transfer) (ws ms us ns ts vs : Words) (m i left : ℕ) → Going src f ws ms us ns ts vs m i → i < m → Levels src (take m ts) left → Level src (type-of-word (at vs i)) left
+going-level : (src : Types) (f : Ty → Transfer → Ty × Transfer) (ws ms us ns ts vs : Words) (m i left : ℕ) → Going src f ws ms us ns ts vs m i → i < m → Levels src (take m ts) left → Level src (type-of-word (at vs i)) left
 going-level src f ws ms us ns ts vs m i left g h d = subst (λ x. Level src (type-of-word x) left) (getD-take m ts i 0 h ∙ sym (g .rest i (omega arith))) (d .each i (omega (arith, length-take m ts, g .room)))
 
 pub going-left : (src : Types) (f : Ty → Transfer → Ty × Transfer) (ws ms us ns ts vs : Words) (m i left : ℕ) → Going src f ws ms us ns ts vs m i → i < m → Levels src (take m ts) left → 1 ≤ left

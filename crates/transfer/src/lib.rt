@@ -1,12 +1,10 @@
 // `TypeTransfer` of the Rust: types moved from one table to another, with all that they reach.
 // The source is packed words or the records of a chain (source.rt); the table that is filled is packed. The mapping has a word for each node
 // of the source: 0, or 1 and the type word of what it became. Where parameters are given (`with`), a Param is the type in its place.
-ghost use mathlib.Core.Path.{_≡_};
-ghost use mathlib.Core.Bool.{Bool, true, false};
+ghost use mathlib.Core.Bool.{true, false};
 ghost use mathlib.Core.List.{map as map-list};
-ghost use Prim.Native.Nat.{ℕ, suc, _+_, _*_, _/_, _<_, _≤_};
-ghost use lib.ListN.{length, getD, set, take};
-ghost use Rattle.rules.specs.Sheet.{at};
+ghost use Prim.Native.Nat.{suc, _+_, _*_, _/_, _<_, _≤_};
+ghost use lib.ListN.{length, take};
 ghost use Rattle.rules.specs.Slim.{Slim};
 ghost use Rattle.rules.specs.Neat.{Neat};
 ghost use Rattle.rules.specs.Transfer.{type-of-word, transfer-in, transfer-each, transfer-types, import-types, export-types};

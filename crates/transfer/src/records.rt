@@ -1,6 +1,6 @@
 // A table as the records of a chain: node n is the record at places[n], its own root.
 ghost use mathlib.Core.Path.{_≡_};
-ghost use mathlib.Core.Bool.{Bool, true, false};
+ghost use mathlib.Core.Bool.{false};
 ghost use Prim.Native.Nat.{_+_};
 ghost use lib.ListN.{length, getD};
 ghost use Rattle.rules.specs.Sheet.{at};

@@ -1,6 +1,6 @@
 // A table to read from, in either of two forms: packed words, or the records of a chain, by their places.
 ghost use mathlib.Core.Path.{_≡_};
-ghost use mathlib.Core.Bool.{Bool, true, false};
+ghost use mathlib.Core.Bool.{false};
 ghost use lib.ListN.{length, getD};
 ghost use Rattle.rules.specs.Types.{find as find-in};
 ghost use Rattle.rules.specs.AcyclicLaws.{children-at};

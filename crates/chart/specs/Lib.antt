@@ -1,0 +1,4 @@
+pub mod Fields
+pub mod Index
+pub mod Kinds
+pub mod Scope
