@@ -7,25 +7,20 @@ use mathlib.Core.Option.{Option}
 use native.Mathlib.Nat.{le-of-suc-le-suc, not-suc-le-zero}
 use native.Mathlib.Numerals.{add-one}
 use native.Mathlib.Omega.{arith}
-use lib.ListN.{length, take, drop, length-take, length-drop}
-use lib.Seq.{ext-getD, getD-take, getD-drop, take-append-seam, drop-append-seam}
+use lib.ListN.{length, take, drop}
+use lib.Seq.{take-append-seam, drop-append-seam}
 use Rattle.rules.specs.Lists.{Words, concat-map}
 use Rattle.rules.specs.Limits.{limit·nodes}
-use Rattle.rules.specs.Sheet.{at, chain}
+use Rattle.rules.specs.Sheet.{at}
 use Rattle.rules.specs.Types.{Ty, Types, ImplType}
-use Rattle.rules.specs.Solutions.{AllIn}
 use Rattle.rules.specs.Readings.{readable-most}
-use Rattle.rules.specs.RootRank.{child-in}
-use Rattle.rules.specs.Transfer.{Transfer, mapped, transfer-each, transfer-in, transfer-types, import-types, import-impl-type, transfer-impl-types, import-impl-types, export-types, type-of-word, table}
+use Rattle.rules.specs.Transfer.{Transfer, mapped, transfer-each, transfer-in, transfer-types, import-types, import-impl-type, transfer-impl-types, import-impl-types, export-types, type-of-word}
 use Rattle.rules.specs.TransferCount.{row, row-moves}
 use Rattle.rules.specs.Carried.{each-length}
 use Rattle.rules.specs.Neat.{Neat}
 use Rattle.table.specs.Packing.{types-of, Packed, Becomes, TypeWords}
 use Rattle.words.specs.Buffers.{cleared, cleared-length}
-use Rattle.transfer.specs.Source.{indexed, source, table-indexed}
 use Rattle.transfer.specs.Moving.{params-of, entry, Maps, Mapping, Levels, AllMove, TransfersAll}
-use Rattle.transfer.specs.Records.{mapped-length}
-use Rattle.transfer.specs.Leaves.{type-at}
 
 -- The types that the first n of some type words are.
 unfoldable pub types-in : ℕ → Words → List Ty
@@ -148,19 +143,3 @@ imports-impls src ps ws us ts vs n r i = record {
             ap₂ {C = List ImplType × Types} (λ (x : List ImplType) (y : Types). (x, y)) (impls-regroup src ps qs ([], types-of ws) ∙ ap (λ (o : List Ty × Types). regroup qs (o .0)) both) (ap (λ (o : List Ty × Types). o .1) both);
       };
 }
-
--- For callers: types that are nodes by the rules' notion.
-pub inside-from : (src : Types) (n : ℕ) (ts : Words) → AllIn (length src) (types-in n ts) → Inside src (take n ts)
-unfolding types-in
-inside-from src n ts a = record { each = λ j l. subst (λ (t : Ty). t .1 < length src) (type-at (take n ts) j) (child-in (length src) (map type-of-word (take n ts)) j a (omega (arith, mapped-length type-of-word (take n ts)))) }
-
--- For callers: the n words of a buffer from b on that are the places of a chain, as a source of records.
-pub places-chain : (s : Words) (h : ℕ) (us : Words) (b n : ℕ) → n ≡ length (chain s h) → ((i : ℕ) → i < n → at us (b + i) ≡ at (chain s h) i) → b + n ≤ length us → take n (drop b us) ≡ chain s h
-places-chain s h us b n e f l = ext-getD 0 (take n (drop b us)) (chain s h) (omega (arith, size)) (λ i k. getD-take n (drop b us) i 0 (omega (arith, size)) ∙ getD-drop b us i 0 ∙ f i (omega (arith, size)))
-  where
-    size : length (take n (drop b us)) ≡ n
-    size = omega (arith, length-take n (drop b us), length-drop b us)
-
-pub places-table : (s : Words) (h : ℕ) (places : Words) → places ≡ chain s h → source false s places ≡ table s h
-unfolding source
-places-table s h places e = ap (indexed s) e ∙ table-indexed s h

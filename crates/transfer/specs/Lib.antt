@@ -5,3 +5,4 @@ pub mod Steps
 pub mod Leaves
 pub mod Ways
 pub mod Imports
+pub mod Callers
