@@ -1,0 +1,4 @@
+pub mod Steps
+pub mod Marking
+pub mod Occurs
+pub mod SelfInverse
