@@ -55,6 +55,12 @@ tabled ws us a b n e few p room c = record {
   high = λ i l. c .high i (omega arith);
 }
 
+pub filled-packed : (ws : Words) (a : ℕ) → Filled ws a → Packed (drop a ws)
+filled-packed ws a f = f .slot .table .packed
+
+pub filled-trees : (ws : Words) (a r : ℕ) → Filled ws a → r ≡ at ws (a + 1537) → r ≤ 256
+filled-trees ws a r f e = omega (arith, f .slot .trees .count, f .slot .trees .few)
+
 pub filled-room : (ws : Words) (a : ℕ) → Filled ws a → a + 1794 ≤ length ws
 filled-room ws a f = f .slot .room
 
@@ -62,11 +68,11 @@ pub trees-apart : (a b : ℕ) → Beside a b → Apart (a + 1537) (b + 1537)
 trees-apart a b p = record { either = ⊎-elim (λ q. inl (omega arith)) (λ q. inr (omega arith)) (p .either) }
 
 -- The trees of a slot beside the copied table are as they were.
-trees-kept : (ws us : Words) (a b c : ℕ) (ts : Trees) → Tabled ws us a b → Beside c b → Holds ws (c + 1537) ts → Holds us (c + 1537) ts
+pub trees-kept : (ws us : Words) (a b c : ℕ) (ts : Trees) → Tabled ws us a b → Beside c b → Holds ws (c + 1537) ts → Holds us (c + 1537) ts
 trees-kept ws us a b c ts t p h = holds-same ws us (c + 1537) ts (λ i l m. ⊎-elim (λ q. t .low i (omega arith)) (λ q. t .high i (omega arith)) (p .either)) h
 
-pub trees-few : (ws us : Words) (a b : ℕ) → Filled ws a → Beside a b → Tabled ws us a b → at us (a + 1537) ≤ 256
-trees-few ws us a b f p t = let h = trees-kept ws us a b a (f .result .1) t p (f .slot .trees) in omega (arith, h .count, h .few)
+pub trees-few : (ws us : Words) (a b c : ℕ) → Filled ws c → Beside c b → Tabled ws us a b → at us (c + 1537) ≤ 256
+trees-few ws us a b c f p t = let h = trees-kept ws us a b c (f .result .1) t p (f .slot .trees) in omega (arith, h .count, h .few)
 
 -- A table copied, and trees behind it.
 pub with-trees : (ws us vs : Words) (a b : ℕ) (ts : Trees) → Tabled ws us a b → b + 1794 ≤ length ws → Held us vs (b + 1537) ts → Written ws vs b (types-of (drop a ws), ts)
