@@ -1,3 +1,4 @@
 pub mod Slots
 pub mod Copies
 pub mod Adding
+pub mod Turns

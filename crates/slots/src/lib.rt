@@ -27,6 +27,12 @@ pub enum Adding {
     Refused { number: u32 },
 }
 
+// What a search answers: so many results, or a refusal; with the count of steps.
+pub enum Asked {
+    Found { count: u32, n: usize },
+    Refused { number: u32, count: u32 },
+}
+
 // Carries n words, upwards or to a place apart.
 fn carry(ws: &mut [u32], a: usize, b: usize, n: usize)
     requires { ⌜ a + n ≤ length (now ws) ⌝ }
