@@ -31,11 +31,11 @@ pub record Enters (fs : List Result) (g : Result) (us : Words) (o : Adding) : Ty
   pub goes : o ≡ Added → (gs : List Result) → add-results fs (g ∷ gs) ≡ add-results (fs ++ (g ∷ [])) gs
   pub stops : (m : ℕ) → o ≡ Refused m → (gs : List Result) → add-results fs (g ∷ gs) ≡ stop m
   pub stand : o ≡ Added → Slots us slot·length (fs ++ (g ∷ []))
-  pub few : o ≡ Added → length fs < limit·results
 
 -- A result is added behind n; slot 0 and what lies behind slot 4 is as it was.
 pub record Adds (ws us : Words) (n : ℕ) (g : Result) (o : Adding) : Type 0 where
   pub len : length us ≡ length ws
+  pub few : o ≡ Added → n < limit·results
   pub low : (i : ℕ) → i < slot·length → at us i ≡ at ws i
   pub high : (i : ℕ) → results·end ≤ i → at us i ≡ at ws i
   pub at : (fs : List Result) → length fs ≡ n → Slots ws slot·length fs → Enters fs g us o
@@ -81,33 +81,31 @@ unfolding add-results
 add-one-more fs g gs l h = rw (lt-ltb (length fs) limit·results l, le-ltb limit·tree-nodes (tree-size (g .1)) h, add-results)
 
 -- What the answer says.
+not-added : (m : ℕ) → Refused m ≡ Added → ⊥
+not-added m e = let z : _≡_ {A = ℕ} 0 1 = cc in omega arith
+
 enters-stop : (fs : List Result) (g : Result) (us : Words) (m : ℕ) → ((gs : List Result) → add-results fs (g ∷ gs) ≡ stop m) → Enters fs g us (Refused m)
 enters-stop fs g us m h = record {
-  goes = λ e. absurd (no e);
+  goes = λ e. absurd (not-added m e);
   stops = λ k e gs. h gs ∙ ap stop (number k e);
-  stand = λ e. absurd (no e);
-  few = λ e. absurd (no e);
+  stand = λ e. absurd (not-added m e);
 }
   where
-    no : Refused m ≡ Added → ⊥
-    no e = let z : _≡_ {A = ℕ} 0 1 = cc in omega arith
-
     number : (k : ℕ) → Refused m ≡ Refused k → m ≡ k
     number k e = cc
 
-enters-added : (fs : List Result) (g : Result) (us : Words) → ((gs : List Result) → add-results fs (g ∷ gs) ≡ add-results (fs ++ (g ∷ [])) gs) → Slots us slot·length (fs ++ (g ∷ [])) → length fs < limit·results → Enters fs g us Added
-enters-added fs g us h s l = record {
+enters-added : (fs : List Result) (g : Result) (us : Words) → ((gs : List Result) → add-results fs (g ∷ gs) ≡ add-results (fs ++ (g ∷ [])) gs) → Slots us slot·length (fs ++ (g ∷ [])) → Enters fs g us Added
+enters-added fs g us h s = record {
   goes = λ e. h;
   stops = λ k e. absurd (no k e);
   stand = λ e. s;
-  few = λ e. l;
 }
   where
     no : (k : ℕ) → Added ≡ Refused k → ⊥
     no k e = let z : _≡_ {A = ℕ} 0 1 = cc in omega arith
 
 adds-same : (ws : Words) (n : ℕ) (g : Result) (m : ℕ) → ((fs gs : List Result) → length fs ≡ n → add-results fs (g ∷ gs) ≡ stop m) → Adds ws ws n g (Refused m)
-adds-same ws n g m h = record { len = refl; low = λ i l. refl; high = λ i l. refl; at = λ fs e s. enters-stop fs g ws m (λ gs. h fs gs e) }
+adds-same ws n g m h = record { len = refl; few = λ e. absurd (not-added m e); low = λ i l. refl; high = λ i l. refl; at = λ fs e s. enters-stop fs g ws m (λ gs. h fs gs e) }
 
 pub adds-full : (ws : Words) (n : ℕ) (g : Result) → n ≡ 4 → Adds ws ws n g (Refused 16)
 adds-full ws n g e = adds-same ws n g 16 (λ fs gs l. add-full fs g gs (l ∙ e))
@@ -119,10 +117,11 @@ adds-big ws n g h b = adds-same ws n g 17 (λ fs gs l. add-big fs g gs (omega ar
 pub adds-written : (ws us : Words) (n : ℕ) (g : Result) → n < 4 → Written ws us (1794 + 1794 * n) g → Adds ws us n g Added
 adds-written ws us n g h w = record {
   len = w .len;
+  few = λ e. h;
   low = λ i l. w .low i (omega arith);
   high = λ i l. w .high i (omega arith);
   at = λ fs e s. enters-added fs g us (λ gs. add-one-more fs g gs (omega arith) (w .slot .trees .few))
-      (slots-more us slot·length n fs g e (slots-kept ws us slot·length fs (w .len) (λ i p q. w .low i (omega arith)) s) (w .slot)) (omega arith);
+      (slots-more us slot·length n fs g e (slots-kept ws us slot·length fs (w .len) (λ i p q. w .low i (omega arith)) s) (w .slot));
 }
 
 -- Slots 1 to 4 are beside those behind them, and beside slot 0.

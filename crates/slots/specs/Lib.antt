@@ -2,3 +2,4 @@ pub mod Slots
 pub mod Copies
 pub mod Adding
 pub mod Turns
+pub mod Gathering

@@ -10,6 +10,7 @@ ghost use Rattle.trees.specs.Carries.{Carries, Clear};
 ghost use Rattle.slots.specs.Slots.{Slot, Slots, Written};
 ghost use Rattle.slots.specs.Copies.{Beside, Filled, Tabled, Doubles};
 ghost use Rattle.slots.specs.Adding.{Adds, Gives, plain, under, Element, Joined, Joins};
+ghost use Rattle.slots.specs.Gathering.{Row, Gathers, JoinGathers};
 
 // The words of a slot, and where its trees stand in it.
 pub const SLOT: usize = 1794;
@@ -186,4 +187,68 @@ pub fn add_leaf(ws: &mut [u32], n: usize, from: usize, kind: u32, id: u32) -> Ad
     copy_table(ws, from, to);
     trees::put_leaf(ws, to + TREES, kind, id);
     Adding::Added
+}
+
+// Adds m results of sub-questions behind n, each under the Def of an impl.
+pub fn gather_wrapped(ws: &mut [u32], n: usize, from: usize, m: usize, count: u32, id: u32) -> Asked
+    requires { ⌜ n ≤ 4 ⌝ }
+    requires { ⌜ m ≤ 4 ⌝ }
+    requires { ⌜ 8970 ≤ from ⌝ }
+    requires { ⌜ from + 7176 ≤ length (now ws) ⌝ }
+    requires { ⌜ Row (now ws) from m ⌝ }
+    requires { ⌜ count ≤ 4000000000 ⌝ }
+    requires { ⌜ id < 4096 ⌝ }
+    ensures { λ r. ⌜ Gathers (under id) (now (ws .entry)) (now (ws .exit)) n from m count r ⌝ }
+{
+    let mut found = n;
+    let mut k = 0;
+    while k < m {
+        let one = add_wrapped(ws, found, from + SLOT * k, id);
+        match one {
+            Adding::Refused { number } => {
+                return Asked::Refused { number, count };
+            }
+            Adding::Added => {
+                found += 1;
+            }
+        }
+        k += 1;
+    }
+    Asked::Found { count, n: found }
+}
+
+// Adds m results of the sub-questions that are left behind n, each behind the tree of the element that they were asked of.
+pub fn gather_joined(
+    ws: &mut [u32],
+    n: usize,
+    element: usize,
+    from: usize,
+    m: usize,
+    count: u32,
+) -> Asked
+    requires { ⌜ n ≤ 4 ⌝ }
+    requires { ⌜ m ≤ 4 ⌝ }
+    requires { ⌜ 8970 ≤ element ⌝ }
+    requires { ⌜ 8970 ≤ from ⌝ }
+    requires { ⌜ from + 7176 ≤ length (now ws) ⌝ }
+    requires { ⌜ Element (now ws) element ⌝ }
+    requires { ⌜ Row (now ws) from m ⌝ }
+    requires { ⌜ count ≤ 4000000000 ⌝ }
+    ensures { λ r. ⌜ JoinGathers (now (ws .entry)) (now (ws .exit)) n element from m count r ⌝ }
+{
+    let mut found = n;
+    let mut k = 0;
+    while k < m {
+        let one = add_joined(ws, found, element, from + SLOT * k);
+        match one {
+            Adding::Refused { number } => {
+                return Asked::Refused { number, count };
+            }
+            Adding::Added => {
+                found += 1;
+            }
+        }
+        k += 1;
+    }
+    Asked::Found { count, n: found }
 }
