@@ -11,6 +11,7 @@ ghost use Rattle.slots.specs.Slots.{Slot, Slots, Written};
 ghost use Rattle.slots.specs.Copies.{Beside, Filled, Tabled, Doubles};
 ghost use Rattle.slots.specs.Adding.{Adds, Gives, plain, under, Element, Joined, Joins};
 ghost use Rattle.slots.specs.Gathering.{Row, Gathers, JoinGathers};
+ghost use Rattle.slots.specs.Settling.{Sub, Settles, JoinSettles};
 
 // The words of a slot, and where its trees stand in it.
 pub const SLOT: usize = 1794;
@@ -190,7 +191,7 @@ pub fn add_leaf(ws: &mut [u32], n: usize, from: usize, kind: u32, id: u32) -> Ad
 }
 
 // Adds m results of sub-questions behind n, each under the Def of an impl.
-pub fn gather_wrapped(ws: &mut [u32], n: usize, from: usize, m: usize, count: u32, id: u32) -> Asked
+fn gather_wrapped(ws: &mut [u32], n: usize, from: usize, m: usize, count: u32, id: u32) -> Asked
     requires { ⌜ n ≤ 4 ⌝ }
     requires { ⌜ m ≤ 4 ⌝ }
     requires { ⌜ 8970 ≤ from ⌝ }
@@ -218,7 +219,7 @@ pub fn gather_wrapped(ws: &mut [u32], n: usize, from: usize, m: usize, count: u3
 }
 
 // Adds m results of the sub-questions that are left behind n, each behind the tree of the element that they were asked of.
-pub fn gather_joined(
+fn gather_joined(
     ws: &mut [u32],
     n: usize,
     element: usize,
@@ -251,4 +252,35 @@ pub fn gather_joined(
         k += 1;
     }
     Asked::Found { count, n: found }
+}
+
+// Adds what sub-questions answered behind n, each result under the Def of an impl; a refusal is handed on.
+pub fn settle_wrapped(ws: &mut [u32], asked: Asked, n: usize, from: usize, id: u32) -> Asked
+    requires { ⌜ n ≤ 4 ⌝ }
+    requires { ⌜ 8970 ≤ from ⌝ }
+    requires { ⌜ from + 7176 ≤ length (now ws) ⌝ }
+    requires { ⌜ Sub (now ws) from asked ⌝ }
+    requires { ⌜ id < 4096 ⌝ }
+    ensures { λ r. ⌜ Settles (under id) (now (ws .entry)) (now (ws .exit)) n from asked r ⌝ }
+{
+    match asked {
+        Asked::Refused { number, count } => Asked::Refused { number, count },
+        Asked::Found { count, n: m } => gather_wrapped(ws, n, from, m, count, id),
+    }
+}
+
+// Adds what the sub-questions that are left answered behind n, each result behind the tree of an element; a refusal is handed on.
+pub fn settle_joined(ws: &mut [u32], asked: Asked, n: usize, element: usize, from: usize) -> Asked
+    requires { ⌜ n ≤ 4 ⌝ }
+    requires { ⌜ 8970 ≤ element ⌝ }
+    requires { ⌜ 8970 ≤ from ⌝ }
+    requires { ⌜ from + 7176 ≤ length (now ws) ⌝ }
+    requires { ⌜ Element (now ws) element ⌝ }
+    requires { ⌜ Sub (now ws) from asked ⌝ }
+    ensures { λ r. ⌜ JoinSettles (now (ws .entry)) (now (ws .exit)) n element from asked r ⌝ }
+{
+    match asked {
+        Asked::Refused { number, count } => Asked::Refused { number, count },
+        Asked::Found { count, n: m } => gather_joined(ws, n, element, from, m, count),
+    }
 }
