@@ -7,7 +7,6 @@ use mathlib.Core.Option.{none, some}
 use mathlib.Core.Logic.{_≢_}
 use native.Mathlib.Numerals.{add-one}
 use native.Mathlib.Omega.{arith}
-use lib.Dec.{eqb}
 use Rattle.rules.specs.Lists.{Words, any, optional, optional-list, is-in}
 use Rattle.rules.specs.Layout.{header·definitions, header·imports, definition·parent, import·definition, member·import, member·id}
 use Rattle.rules.specs.Sheet.{at, field, many, parent, import-def}

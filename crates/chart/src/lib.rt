@@ -3,7 +3,7 @@
 ghost use mathlib.Core.Path.{_≡_};
 ghost use Prim.Native.Nat.{_+_, _<_, _≤_};
 ghost use lib.ListN.{length};
-ghost use Rattle.rules.specs.Sheet.{at, chain, records, many, field, impl-flag};
+ghost use Rattle.rules.specs.Sheet.{at, chain, many, field, impl-flag};
 ghost use Rattle.rules.specs.Layout.{header·definitions, header·generics, header·traits, header·impls, header·opaques, header·structs, header·enums, header·unions, header·closures, header·imports, definition·parent, definition·trait-vis, definition·trait, definition·bindings, definition·named, definition·implicit, import·definition, generics·type-params, generics·table, generics·impl-params, trait·definition, trait·arity, trait·inherent, impl·generics, impl·flags, impl·trait, impl·table, impl·args, owner·definition, owner·self-dual, closure·flex};
 ghost use Rattle.chart.specs.Index.{Indexed};
 
@@ -15,13 +15,7 @@ pub mod scope; // scope.rt: `get_member`, `visible`
 pub fn field_at(s: &[u32], p: usize, k: usize) -> usize
     ensures { λ r. ⌜ r ≡ at (now (s .entry)) (p + k) ⌝ }
 {
-    wide(words::offset(s, p, k))
-}
-
-fn wide(w: u32) -> usize
-    ensures { λ r. ⌜ r ≡ w ⌝ }
-{
-    w as usize
+    words::wide(words::offset(s, p, k))
 }
 
 // Word k of record `id` of the chain that header word h heads.
@@ -236,7 +230,7 @@ pub fn index_chain(s: &[u32], head: u32, ws: &mut [u32], b: usize) -> usize
             return n;
         }
         ws[b + n] = i;
-        i = words::word(s, wide(i));
+        i = words::word(s, words::wide(i));
         n += 1;
     }
     n

@@ -11,13 +11,15 @@ use lib.Dec.{T, eqb, ltb, leb}
 use lib.ListN.{length}
 use Rattle.rules.specs.Lists.{Words, holds}
 use Rattle.rules.specs.Limits.{limit·sheet, limit·question, limit·answer, limit·workspace, limit·count}
-use Rattle.rules.specs.Layout.{header·length, header·definitions, header·generics, header·edition, edition·1, question·length}
+use Rattle.rules.specs.Layout.{header·length, header·definitions, header·generics, header·edition, edition·1, question·length, question·table}
 use Rattle.rules.specs.Sheet.{at, many}
 use Rattle.rules.specs.Chains.{sheet-keeps, impl-question-keeps, flex-question-keeps}
 use Rattle.rules.specs.Values.{is-id, sheet-values, impl-question-values, flex-question-values}
 use Rattle.rules.specs.Acyclic.{sheet-acyclic, question-acyclic}
 use Rattle.rules.specs.Search.{Finder}
-use Rattle.rules.specs.Check.{Checks, refusal, of-length, entry, of-sheet, of-ids, of-impl-question, of-flex-question}
+use Rattle.acyclic.specs.Nodes.{Inside}
+use Rattle.acyclic.specs.Sheets.{impl-question-inside, flex-question-inside}
+use Rattle.rules.specs.Check.{Checks, refusal, of-length, entry, of-sheet, of-ids, of-impl-question, of-flex-question, impl-checks, flex-checks}
 
 -- The number of some checks: that of the first condition that holds, 0 for none.
 unfoldable pub number : Checks → ℕ
@@ -28,23 +30,26 @@ pub holds-so : (b c : Bool) → b ≡ c → not b ≡ false → T c
 holds-so true c e f = subst T e tt
 holds-so false c e f = absurd (subst T f tt)
 
--- Three tests in a row: the question's.
-module _ (a b c : ℕ) (x y z : Bool) where
-  pub three-first : (r : Bool) → r ≡ x → not r ≡ true → a ≡ number ((a, not x) ∷ (b, not y) ∷ (c, not z) ∷ [])
-  unfolding number refusal
-  three-first r e f = rw (sym (ap not e) ∙ f)
+-- A question whose values are good has its nodes inside.
+pub impl-inside : (s : Words) (g : ℕ) (q : Words) (r : Bool) → r ≡ impl-question-values s g q → not r ≡ false → Inside q (at q question·table)
+impl-inside s g q r e f = impl-question-inside s g q (holds-so r _ e f)
 
-  pub three-second : (r s : Bool) → r ≡ x → s ≡ y → not r ≡ false → not s ≡ true → b ≡ number ((a, not x) ∷ (b, not y) ∷ (c, not z) ∷ [])
-  unfolding number refusal
-  three-second r s e f g h = rw (sym (ap not e) ∙ g, sym (ap not f) ∙ h)
+pub flex-inside : (s : Words) (g : ℕ) (q : Words) (r : Bool) → r ≡ flex-question-values s g q → not r ≡ false → Inside q (at q question·table)
+flex-inside s g q r e f = flex-question-inside s g q (holds-so r _ e f)
 
-  pub three-third : (r s t : Bool) → r ≡ x → s ≡ y → t ≡ z → not r ≡ false → not s ≡ false → not t ≡ true → c ≡ number ((a, not x) ∷ (b, not y) ∷ (c, not z) ∷ [])
+-- A test that fails decides; one that passes leaves the word to those after it.
+module _ (n : ℕ) (x : Bool) (cs : Checks) (r : Bool) (e : r ≡ x) where
+  pub test-fails : not r ≡ true → n ≡ number ((n, not x) ∷ cs)
   unfolding number refusal
-  three-third r s t e f g h k l = rw (sym (ap not e) ∙ h, sym (ap not f) ∙ k, sym (ap not g) ∙ l)
+  test-fails f = rw (sym (ap not e) ∙ f)
 
-  pub three-none : (r s t : Bool) → r ≡ x → s ≡ y → t ≡ z → not r ≡ false → not s ≡ false → not t ≡ false → 0 ≡ number ((a, not x) ∷ (b, not y) ∷ (c, not z) ∷ [])
+  pub test-passes : (m : ℕ) → m ≡ number cs → not r ≡ false → m ≡ number ((n, not x) ∷ cs)
   unfolding number refusal
-  three-none r s t e f g h k l = rw (sym (ap not e) ∙ h, sym (ap not f) ∙ k, sym (ap not g) ∙ l)
+  test-passes m v f = rw (sym (ap not e) ∙ f) v
+
+pub none-left : 0 ≡ number []
+unfolding number refusal
+none-left = refl
 
 -- A check that does not refuse leaves the word to those after it; one that does decides.
 pub number-past : (n : ℕ) (b : Bool) (cs : Checks) → b ≡ false → number ((n, b) ∷ cs) ≡ number cs
@@ -159,3 +164,90 @@ module _ (s : Words) (source generics basic : ℕ) where
   pub ids-there : (d g : ℕ) → d ≡ many s header·definitions → g ≡ many s header·generics → source < d → generics < g → basic ≤ 1 → 0 ≡ number (of-ids (finder s source generics) basic)
   unfolding of-ids holds is-id number refusal
   ids-there d g e f h k b = rw (lt-ltb source (many s header·definitions) (omega arith), lt-ltb generics (many s header·generics) (omega arith), le-leb basic 1 b)
+
+-- The three tests of a sheet, and of a question.
+abbrev pub sheet-tests : Words → Checks
+sheet-tests s = (7, not (sheet-keeps s)) ∷ (8, not (sheet-values s)) ∷ (9, not (sheet-acyclic s)) ∷ []
+
+abbrev pub impl-question-tests : Words → ℕ → Words → Checks
+impl-question-tests s g q = (11, not (impl-question-keeps q)) ∷ (12, not (impl-question-values s g q)) ∷ (13, not (question-acyclic q)) ∷ []
+
+abbrev pub flex-question-tests : Words → ℕ → Words → Checks
+flex-question-tests s g q = (11, not (flex-question-keeps q)) ∷ (12, not (flex-question-values s g q)) ∷ (13, not (question-acyclic q)) ∷ []
+
+-- 6 to 9: the edition, then those of the sheet.
+module _ (s : Words) (e : ℕ) (q : e ≡ at s header·edition) where
+  pub sheet-edition : e ≢ 1 → 6 ≡ number (of-sheet s)
+  unfolding of-sheet
+  sheet-edition d = number-here 6 _ _ (ap not (ne-eqb (at s header·edition) edition·1 (λ z. d (q ∙ z))))
+
+  pub sheet-further : (n : ℕ) → n ≡ number (sheet-tests s) → e ≡ 1 → n ≡ number (of-sheet s)
+  unfolding of-sheet
+  sheet-further n v z = v ∙ sym (number-past 6 _ _ (ap not (eq-eqb (at s header·edition) edition·1 (sym q ∙ z))))
+
+-- Checks one after the other: the first that refuses decides.
+abbrev Positive : Checks → Type 0
+Positive [] = Unit {0}
+Positive (c ∷ cs) = (0 < c .0) × Positive cs
+
+front : (xs ys : Checks) (n : ℕ) → n ≡ number xs → n ≢ 0 → n ≡ number (xs ++ ys)
+unfolding number refusal
+front [] ys n e d = absurd (d e)
+front (x ∷ xs) ys n e d = go (x .1) e (front xs ys n)
+  where
+    go : (b : Bool) → n ≡ number ((x .0, b) ∷ xs) → (n ≡ number xs → n ≢ 0 → n ≡ number (xs ++ ys)) → n ≡ number ((x .0, b) ∷ (xs ++ ys))
+    go true e ih = e
+    go false e ih = ih e d
+
+behind : (xs ys : Checks) → Positive xs → 0 ≡ number xs → number (xs ++ ys) ≡ number ys
+unfolding number refusal
+behind [] ys p e = refl
+behind (x ∷ xs) ys p e = go (x .1) e (behind xs ys (p .1))
+  where
+    go : (b : Bool) → 0 ≡ number ((x .0, b) ∷ xs) → (0 ≡ number xs → number (xs ++ ys) ≡ number ys) → number ((x .0, b) ∷ (xs ++ ys)) ≡ number ys
+    go true e ih = absurd (omega (arith, p .0))
+    go false e ih = ih e
+
+module _ (s : Words) (source generics basic : ℕ) (n : ℕ) (e : n ≡ number (of-sheet s)) where
+  module _ (tail : Checks) where
+    in-sheet : n ≢ 0 → n ≡ number (of-sheet s ++ of-ids (finder s source generics) basic ++ tail)
+    in-sheet d = front (of-sheet s ++ of-ids (finder s source generics) basic) tail n (front (of-sheet s) (of-ids (finder s source generics) basic) n e d) d
+
+    past-sheet : n ≡ 0 → number (of-sheet s ++ of-ids (finder s source generics) basic) ≡ number (of-ids (finder s source generics) basic)
+    unfolding of-sheet
+    past-sheet z = behind (of-sheet s) (of-ids (finder s source generics) basic) (omega arith) (sym z ∙ e)
+
+    in-ids : n ≡ 0 → (m : ℕ) → m ≡ number (of-ids (finder s source generics) basic) → m ≢ 0 → m ≡ number (of-sheet s ++ of-ids (finder s source generics) basic ++ tail)
+    in-ids z m f d = front (of-sheet s ++ of-ids (finder s source generics) basic) tail m (f ∙ sym (past-sheet z)) d
+
+    in-question : n ≡ 0 → (m : ℕ) → m ≡ number (of-ids (finder s source generics) basic) → m ≡ 0 → (k : ℕ) → k ≡ number tail → k ≡ number (of-sheet s ++ of-ids (finder s source generics) basic ++ tail)
+    unfolding of-sheet of-ids
+    in-question z m f y k g = g ∙ sym (behind (of-sheet s ++ of-ids (finder s source generics) basic) tail (omega arith) (sym y ∙ f ∙ sym (past-sheet z)))
+
+  -- The checks of the impl call between entry and search.
+  module _ (q : Words) where
+    pub impl-sheet : n ≢ 0 → n ≡ number (impl-checks (finder s source generics) basic q)
+    unfolding impl-checks
+    impl-sheet d = in-sheet (of-impl-question (finder s source generics) q) d
+
+    pub impl-ids : (m : ℕ) → m ≡ number (of-ids (finder s source generics) basic) → n ≡ 0 → m ≢ 0 → m ≡ number (impl-checks (finder s source generics) basic q)
+    unfolding impl-checks
+    impl-ids m f z d = in-ids (of-impl-question (finder s source generics) q) z m f d
+
+    pub impl-question : (m k : ℕ) → m ≡ number (of-ids (finder s source generics) basic) → k ≡ number (impl-question-tests s generics q) → n ≡ 0 → m ≡ 0 → k ≡ number (impl-checks (finder s source generics) basic q)
+    unfolding impl-checks of-impl-question
+    impl-question m k f g z y = in-question (of-impl-question (finder s source generics) q) z m f y k g
+
+-- The checks of the flex call between entry and search.
+module _ (s : Words) (source generics : ℕ) (n : ℕ) (e : n ≡ number (of-sheet s)) (q : Words) where
+  pub flex-sheet : n ≢ 0 → n ≡ number (flex-checks (finder s source generics) q)
+  unfolding flex-checks
+  flex-sheet d = in-sheet s source generics 0 n e (of-flex-question (finder s source generics) q) d
+
+  pub flex-ids : (m : ℕ) → m ≡ number (of-ids (finder s source generics) 0) → n ≡ 0 → m ≢ 0 → m ≡ number (flex-checks (finder s source generics) q)
+  unfolding flex-checks
+  flex-ids m f z d = in-ids s source generics 0 n e (of-flex-question (finder s source generics) q) z m f d
+
+  pub flex-question : (m k : ℕ) → m ≡ number (of-ids (finder s source generics) 0) → k ≡ number (flex-question-tests s generics q) → n ≡ 0 → m ≡ 0 → k ≡ number (flex-checks (finder s source generics) q)
+  unfolding flex-checks of-flex-question
+  flex-question m k f g z y = in-question s source generics 0 n e (of-flex-question (finder s source generics) q) z m f y k g

@@ -1,8 +1,19 @@
 // Checks 1 to 13 in their order: the number of the first that refuses, 0 for none.
 use chart::layout;
 ghost use mathlib.Core.Path.{_≡_};
-ghost use Rattle.rules.specs.Check.{of-length, entry, of-ids};
-ghost use Rattle.checks.specs.Numbers.{number, finder};
+ghost use Prim.Native.Nat.{_<_, _≤_};
+ghost use mathlib.Core.Bool.{not};
+ghost use mathlib.Core.List.{[], _∷_};
+ghost use lib.Dec.{T};
+ghost use lib.ListN.{length};
+ghost use Rattle.rules.specs.Layout.{question·table};
+ghost use Rattle.rules.specs.Sheet.{at};
+ghost use Rattle.rules.specs.Chains.{sheet-keeps, impl-question-keeps, flex-question-keeps};
+ghost use Rattle.rules.specs.Values.{sheet-values, impl-question-values, flex-question-values};
+ghost use Rattle.rules.specs.Acyclic.{sheet-acyclic, question-acyclic};
+ghost use Rattle.acyclic.specs.Nodes.{Inside};
+ghost use Rattle.rules.specs.Check.{of-length, entry, of-sheet, of-ids, impl-checks, flex-checks};
+ghost use Rattle.checks.specs.Numbers.{number, finder, sheet-tests, impl-question-tests, flex-question-tests};
 
 pub const SHEET: usize = 4096;
 
@@ -69,4 +80,184 @@ pub fn check_ids(s: &[u32], source: usize, generics: usize, basic: u32) -> u32
         return 10;
     }
     0
+}
+
+// The words of the workspace that the checks use.
+pub const ROOM: usize = 90112;
+
+// 9: no type reaches itself.
+fn sheet_ends(s: &[u32], ws: &mut [u32]) -> u32
+    requires { ⌜ T (sheet-values (now s)) ⌝ }
+    requires { ⌜ length (now s) ≤ 4096 ⌝ }
+    requires { ⌜ 90112 ≤ length (now ws) ⌝ }
+    ensures { λ r. ⌜ r ≡ number ((9, not (sheet-acyclic (now (s .entry)))) ∷ []) ⌝ }
+{
+    let ends = acyclic::sheet_acyclic(s, ws, 0);
+    if !ends {
+        return 9;
+    }
+    0
+}
+
+// 8 and 9: values, then that.
+fn sheet_after_chains(s: &[u32], ws: &mut [u32]) -> u32
+    requires { ⌜ T (sheet-keeps (now s)) ⌝ }
+    requires { ⌜ length (now s) ≤ 4096 ⌝ }
+    requires { ⌜ 90112 ≤ length (now ws) ⌝ }
+    ensures { λ r. ⌜ r ≡ number ((8, not (sheet-values (now (s .entry)))) ∷ (9, not (sheet-acyclic (now (s .entry)))) ∷ []) ⌝ }
+{
+    let values = values::sheet_values(s, ws);
+    if !values {
+        return 8;
+    }
+    sheet_ends(s, ws)
+}
+
+// 7, 8 and 9: chains, then those.
+fn sheet_tests(s: &[u32], ws: &mut [u32]) -> u32
+    requires { ⌜ 0 < length (now s) ⌝ }
+    requires { ⌜ length (now s) ≤ 4096 ⌝ }
+    requires { ⌜ 90112 ≤ length (now ws) ⌝ }
+    ensures { λ r. ⌜ r ≡ number (sheet-tests (now (s .entry))) ⌝ }
+{
+    let keeps = chains::sheet_keeps(s, ws);
+    if !keeps {
+        return 7;
+    }
+    sheet_after_chains(s, ws)
+}
+
+// 6 to 9: the sheet.
+pub fn check_sheet(s: &[u32], ws: &mut [u32]) -> u32
+    requires { ⌜ 0 < length (now s) ⌝ }
+    requires { ⌜ length (now s) ≤ 4096 ⌝ }
+    requires { ⌜ 90112 ≤ length (now ws) ⌝ }
+    ensures { λ r. ⌜ r ≡ number (of-sheet (now (s .entry))) ⌝ }
+{
+    let edition = words::word(s, layout::EDITION);
+    if edition != 1 {
+        return 6;
+    }
+    sheet_tests(s, ws)
+}
+
+// 13: no type of the question reaches itself.
+fn question_ends(q: &[u32], ws: &mut [u32]) -> u32
+    requires { ⌜ Inside (now q) (at (now q) question·table) ⌝ }
+    requires { ⌜ length (now q) ≤ 4096 ⌝ }
+    requires { ⌜ 90112 ≤ length (now ws) ⌝ }
+    ensures { λ r. ⌜ r ≡ number ((13, not (question-acyclic (now (q .entry)))) ∷ []) ⌝ }
+{
+    let ends = acyclic::question_acyclic(q, ws, 0);
+    if !ends {
+        return 13;
+    }
+    0
+}
+
+// 12 and 13 of an impl question: values, then that.
+fn impl_after_chains(s: &[u32], generics: usize, q: &[u32], ws: &mut [u32]) -> u32
+    requires { ⌜ T (impl-question-keeps (now q)) ⌝ }
+    requires { ⌜ length (now s) ≤ 4096 ⌝ }
+    requires { ⌜ length (now q) ≤ 4096 ⌝ }
+    requires { ⌜ 90112 ≤ length (now ws) ⌝ }
+    ensures { λ r. ⌜ r ≡ number ((12, not (impl-question-values (now (s .entry)) generics (now (q .entry)))) ∷ (13, not (question-acyclic (now (q .entry)))) ∷ []) ⌝ }
+{
+    let values = values::impl_question_values(s, generics, q, ws);
+    if !values {
+        return 12;
+    }
+    question_ends(q, ws)
+}
+
+// 11, 12 and 13 of an impl question: chains, then those.
+fn impl_question_tests(s: &[u32], generics: usize, q: &[u32], ws: &mut [u32]) -> u32
+    requires { ⌜ 0 < length (now q) ⌝ }
+    requires { ⌜ length (now s) ≤ 4096 ⌝ }
+    requires { ⌜ length (now q) ≤ 4096 ⌝ }
+    requires { ⌜ 90112 ≤ length (now ws) ⌝ }
+    ensures { λ r. ⌜ r ≡ number (impl-question-tests (now (s .entry)) generics (now (q .entry))) ⌝ }
+{
+    let keeps = chains::impl_question_keeps(q, ws);
+    if !keeps {
+        return 11;
+    }
+    impl_after_chains(s, generics, q, ws)
+}
+
+// 12 and 13 of a flex question: values, then that.
+fn flex_after_chains(s: &[u32], generics: usize, q: &[u32], ws: &mut [u32]) -> u32
+    requires { ⌜ T (flex-question-keeps (now q)) ⌝ }
+    requires { ⌜ length (now s) ≤ 4096 ⌝ }
+    requires { ⌜ length (now q) ≤ 4096 ⌝ }
+    requires { ⌜ 90112 ≤ length (now ws) ⌝ }
+    ensures { λ r. ⌜ r ≡ number ((12, not (flex-question-values (now (s .entry)) generics (now (q .entry)))) ∷ (13, not (question-acyclic (now (q .entry)))) ∷ []) ⌝ }
+{
+    let values = values::flex_question_values(s, generics, q, ws);
+    if !values {
+        return 12;
+    }
+    question_ends(q, ws)
+}
+
+// 11, 12 and 13 of a flex question: chains, then those.
+fn flex_question_tests(s: &[u32], generics: usize, q: &[u32], ws: &mut [u32]) -> u32
+    requires { ⌜ 0 < length (now q) ⌝ }
+    requires { ⌜ length (now s) ≤ 4096 ⌝ }
+    requires { ⌜ length (now q) ≤ 4096 ⌝ }
+    requires { ⌜ 90112 ≤ length (now ws) ⌝ }
+    ensures { λ r. ⌜ r ≡ number (flex-question-tests (now (s .entry)) generics (now (q .entry))) ⌝ }
+{
+    let keeps = chains::flex_question_keeps(q, ws);
+    if !keeps {
+        return 11;
+    }
+    flex_after_chains(s, generics, q, ws)
+}
+
+// 6 to 13 of the impl call.
+pub fn check_impl(
+    s: &[u32],
+    q: &[u32],
+    source: usize,
+    generics: usize,
+    basic: u32,
+    ws: &mut [u32],
+) -> u32
+    requires { ⌜ 0 < length (now s) ⌝ }
+    requires { ⌜ length (now s) ≤ 4096 ⌝ }
+    requires { ⌜ 0 < length (now q) ⌝ }
+    requires { ⌜ length (now q) ≤ 4096 ⌝ }
+    requires { ⌜ 90112 ≤ length (now ws) ⌝ }
+    ensures { λ r. ⌜ r ≡ number (impl-checks (finder (now (s .entry)) source generics) basic (now (q .entry))) ⌝ }
+{
+    let sheet = check_sheet(s, ws);
+    if sheet != 0 {
+        return sheet;
+    }
+    let ids = check_ids(s, source, generics, basic);
+    if ids != 0 {
+        return ids;
+    }
+    impl_question_tests(s, generics, q, ws)
+}
+
+// 6 to 13 of the flex call.
+pub fn check_flex(s: &[u32], q: &[u32], source: usize, generics: usize, ws: &mut [u32]) -> u32
+    requires { ⌜ 0 < length (now s) ⌝ }
+    requires { ⌜ length (now s) ≤ 4096 ⌝ }
+    requires { ⌜ 0 < length (now q) ⌝ }
+    requires { ⌜ length (now q) ≤ 4096 ⌝ }
+    requires { ⌜ 90112 ≤ length (now ws) ⌝ }
+    ensures { λ r. ⌜ r ≡ number (flex-checks (finder (now (s .entry)) source generics) (now (q .entry))) ⌝ }
+{
+    let sheet = check_sheet(s, ws);
+    if sheet != 0 {
+        return sheet;
+    }
+    let ids = check_ids(s, source, generics, 0);
+    if ids != 0 {
+        return ids;
+    }
+    flex_question_tests(s, generics, q, ws)
 }
