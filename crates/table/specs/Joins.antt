@@ -219,7 +219,7 @@ unfolding invert-state
 upright unknown = refl
 upright (known i k d cs) = refl
 
-or-known : (st st′ : TypeState) → kind-in st ≢ 0 → st ≡ or-else st st′
+pub or-known : (st st′ : TypeState) → kind-in st ≢ 0 → st ≡ or-else st st′
 unfolding or-else kind-in
 or-known unknown st′ z = absurd (z refl)
 or-known (known i k d cs) st′ z = refl
@@ -242,7 +242,7 @@ root-unknown ws us n m size k b e z w = record {
 }
 
 -- The whole: relabelled, and then the root's node. us is the table between, b whether the two meet inverted.
-state-map : (ts : Types) (lo : ℕ) (t : Ty) (n : ℕ) → state-at (map (relabel lo t) ts) n ≡ state-at ts n
+pub state-map : (ts : Types) (lo : ℕ) (t : Ty) (n : ℕ) → state-at (map (relabel lo t) ts) n ≡ state-at ts n
 unfolding state-at
 state-map ts lo t n = ⊎-elim
     (λ h. ap (λ nd. nd .state) (map-node (relabel lo t) ts n h) ∙ relabel-state lo t (node-at ts n))

@@ -1,4 +1,4 @@
-// Walks down a type table: `occurs` and `self_inverse`. Each visits a shared node once: a node that is finished is marked, in a lent word of its own.
+// Walks down a type table: `occurs`, `self_inverse` and `get_mod`. The first two visit a shared node once: a node that is finished is marked, in a lent word of its own.
 ghost use mathlib.Core.Path.{_≡_};
 ghost use Prim.Native.Nat.{ℕ, _/_, _<_, _≤_};
 ghost use lib.ListN.{length};
@@ -7,7 +7,9 @@ ghost use Rattle.rules.specs.Types.{occurs as occurs-of, self-inverse};
 ghost use Rattle.rules.specs.AcyclicLaws.{children-at};
 ghost use Rattle.rules.specs.Transfer.{type-of-word};
 ghost use Rattle.rules.specs.Solutions.{rep};
-ghost use Rattle.table.specs.Packing.{types-of, Good};
+ghost use Rattle.table.specs.Packing.{types-of, id-at, kind-at, Good};
+ghost use Rattle.rules.specs.Search.{get-mod};
+ghost use Rattle.walks.specs.Modules.{module-of, own-module};
 ghost use Rattle.walks.specs.Marking.{is-marked, with-mark};
 ghost use Rattle.walks.specs.Occurs.{Clean, Walked, Among};
 ghost use Rattle.walks.specs.SelfInverse.{own-inverse, Own, Inverted, AllInverted};
@@ -157,4 +159,64 @@ pub fn self_inverse(s: &[u32], ws: &[u32], marks: &mut [u32], t: u32) -> bool
 {
     words::clear(marks, wide(table::count(ws)));
     self_inverse_in(s, ws, marks, t)
+}
+
+// What `get_mod` comes to: no module, a module by its definition, or an Error type (19).
+pub enum Module {
+    Nowhere,
+    Within(usize),
+    Error,
+}
+
+// The kind of node n, and its id; 0 where it is unknown.
+fn kind(ws: &[u32], n: u32) -> usize
+    ensures { λ r. ⌜ r ≡ kind-at (types-of (now (ws .entry))) n ⌝ }
+{
+    wide(table::kind_of(ws, n))
+}
+
+fn id(ws: &[u32], n: u32) -> usize
+    ensures { λ r. ⌜ r ≡ id-at (types-of (now (ws .entry))) n ⌝ }
+{
+    wide(table::id_of(ws, n))
+}
+
+// The module of a type of a kind, neither Error nor Ref, and an id.
+fn own_module_of(s: &[u32], k: usize, id: usize) -> Module
+    ensures { λ r. ⌜ module-of r ≡ own-module (now (s .entry)) k id ⌝ }
+{
+    if k == layout::KIND_OPAQUE {
+        return Module::Within(chart::opaque_def(s, id));
+    }
+    if k == layout::KIND_STRUCT {
+        return Module::Within(chart::struct_def(s, id));
+    }
+    if k == layout::KIND_ENUM {
+        return Module::Within(chart::enum_def(s, id));
+    }
+    if k == layout::KIND_UNION {
+        return Module::Within(chart::union_def(s, id));
+    }
+    Module::Nowhere
+}
+
+// `get_mod`: the module of a type, looked for through Ref.
+pub fn get_mod(s: &[u32], ws: &[u32], t: u32) -> Module
+    ensures { λ r. ⌜ module-of r ≡ get-mod (now (s .entry)) (types-of (now (ws .entry))) (type-of-word t) ⌝ }
+{
+    let mut at = t;
+    let mut left = wide(table::count(ws)) + 1;
+    while left != 0 {
+        let n = table::root_of(ws, at / 2);
+        let k = kind(ws, n);
+        if k == layout::KIND_ERROR {
+            return Module::Error;
+        }
+        if k != layout::KIND_REF {
+            return own_module_of(s, k, id(ws, n));
+        }
+        at = table::child(ws, n, 0);
+        left -= 1;
+    }
+    Module::Nowhere
 }
