@@ -1,9 +1,11 @@
 // Which impls the sets of candidates admit for a source: nodes and edges, components, what a set admits (`finder/candidates.rs`).
 ghost use mathlib.Core.Path.{_≡_};
-ghost use Prim.Native.Nat.{_+_, _≤_, _<_, _/_};
+ghost use mathlib.Core.Bool.{true, false};
+ghost use Prim.Native.Nat.{_+_, _*_, _≤_, _<_, _/_};
 ghost use lib.ListN.{length};
 ghost use Rattle.rules.specs.Sheet.{at};
 ghost use Rattle.candidates.specs.Bits.{bit, on, with-bit, Joined};
+ghost use Rattle.candidates.specs.Spread.{Room, Empty, Takes, Taken, Turn, Passed, Spread};
 
 // Bit b of a word is 1.
 fn bit(w: u32, b: usize) -> bool
@@ -41,6 +43,56 @@ fn join(ws: &mut [u32], a: usize, b: usize) -> bool
         changed = changed | (new != old);
         ws[a + k] = new;
         k += 1;
+    }
+    changed
+}
+
+fn wide(w: u32) -> usize
+    ensures { λ r. ⌜ (r ≡ w) × (r < 4294967296) ⌝ }
+{
+    w as usize
+}
+
+// Past the bits that are 0, from one of them on: to the next 1 of its word, or to the next word.
+fn skip(ws: &[u32], p: usize, y: usize) -> usize
+    requires { ⌜ (y < 384) × (on (now ws) p y ≡ false) ⌝ }
+    ensures { λ r. ⌜ Empty (now (ws .entry)) p y r ⌝ }
+{
+    let w = words::offset(ws, p, y / 32);
+    let zeros = wide(u32::trailing_zeros(w >> (y % 32)));
+    if y % 32 + zeros < 32 {
+        y + zeros
+    } else {
+        y / 32 * 32 + 32
+    }
+}
+
+// Row x takes what row y has, to which its node leads; whether that changed it.
+fn take(ws: &mut [u32], n: usize, m: usize, x: usize, y: usize) -> bool
+    requires { ⌜ Room n m x (now ws) × (y < n) × (on (now ws) (m + 12 * x) y ≡ true) ⌝ }
+    ensures { λ r. ⌜ Takes n m x y (now (ws .entry)) (now (ws .exit)) r ⌝ }
+{
+    if y == x {
+        return false;
+    }
+    join(ws, m + 9216 + 12 * x, m + 9216 + 12 * y)
+}
+
+// Row x takes what the rows have to which its node leads; whether that changed it.
+fn gather(ws: &mut [u32], n: usize, m: usize, x: usize) -> bool
+    requires { ⌜ Room n m x (now ws) ⌝ }
+    ensures { λ r. ⌜ Taken n m x n (now (ws .entry)) (now (ws .exit)) r ⌝ }
+{
+    let mut changed = false;
+    let mut y = 0;
+    while y < n {
+        if on(ws, m + 12 * x, y) {
+            let more = take(ws, n, m, x, y);
+            changed = changed | more;
+            y += 1;
+        } else {
+            y = skip(ws, m + 12 * x, y);
+        }
     }
     changed
 }
