@@ -392,3 +392,46 @@ skip-bits us p y t z w e s q h o = record {
 
 pub skip-word : (us : Words) (p y t z w : ℕ) → w ≡ at us (p + y / 32) → t ≡ z → z ≡ trailingZeros 32 (w / 2 ^ (y % 32)) → 32 ≤ y % 32 + t → Empty us p y (y / 32 * 32 + 32)
 skip-word us p y t z w e s q h = record { up = omega arith; none = λ k l i. off-at us p y k t w e (s ∙ q) l (omega arith) (omega arith) }
+
+-- There is room for the rows.
+pub record Rows (n m : ℕ) (ws : Words) : Type 0 where
+  pub few : n ≤ 384
+  pub fits : m + 9216 + 12 * n ≤ length ws
+
+pub rows-same : (n m : ℕ) (ws us : Words) → length us ≡ length ws → Rows n m ws → Rows n m us
+rows-same n m ws us e o = record { few = o .few; fits = omega (arith, o .fits) }
+
+pub rows-room : (n m i x : ℕ) (ws : Words) → Rows n m ws → Turn n i x → Room n m x ws
+rows-room n m i x ws o t = record { few = o .few; node = t .below; fits = o .fits }
+
+pub pass-more : (n m i x : ℕ) (ws us vs : Words) (changed r : Bool) → Rows n m us → Turn n i x → Passed n m i ws us changed → Taken n m x n us vs r → Passed n m (i + 1) ws vs (changed || r)
+pass-more n m i x ws us vs changed r o = passed-more n m i x ws us vs changed r (o .few)
+
+pub pass-done : (n m i : ℕ) (ws us : Words) (changed : Bool) → 2 * n ≤ i → Passed n m i ws us changed → Passed n m (2 * n) ws us changed
+pass-done n m i ws us changed h k = record { grown = k .grown; moved = k .moved; closed = λ e x l. k .closed e x (omega arith) }
+
+-- While a pass changes anything the slack falls; in the end the nodes have what the nodes have to which they lead.
+pub record Going (n m : ℕ) (ws us : Words) (changed : Bool) : Type 0 where
+  pub grown : Grown n m ws us
+  pub closed : changed ≡ false → Closed n m n us
+
+pub going-start : (n m : ℕ) (ws : Words) → Going n m ws ws true
+going-start n m ws = record { grown = grown-none n m ws; closed = λ e. absurd (subst T e tt) }
+
+pub going-on : (n m : ℕ) (ws us vs : Words) (changed r : Bool) → Rows n m us → Going n m ws us changed → Passed n m (2 * n) us vs r → Going n m ws vs r
+going-on n m ws us vs changed r o k g = record {
+  grown = grown-on n m ws us vs (o .few) (k .grown) (g .grown);
+  closed = λ e x h hx. subst (λ c. HasBelow n m c x n) (sym (g .moved .still e)) (g .closed e x (omega arith) hx);
+}
+
+pub going-done : (n m : ℕ) (ws us : Words) (changed : Bool) → changed ≡ false → Going n m ws us changed → Spread n m ws us
+going-done n m ws us changed e k = record { grown = k .grown; closed = k .closed e }
+
+-- What is left to do: the slack, and one more while a pass is due.
+abbrev pub due : Bool → ℕ
+due true = 1
+due false = 0
+
+pub going-less : (n m : ℕ) (us vs : Words) (changed r : Bool) → changed ≡ true → Passed n m (2 * n) us vs r → slack vs + due r < slack us + due changed
+going-less n m us vs changed true e g = rw e (omega (arith, g .moved .fell refl))
+going-less n m us vs changed false e g = rw e (rw (g .moved .still refl) (omega arith))
