@@ -1,7 +1,7 @@
 use Rattle.candidates.specs.Bits.{bit-is}
 use borrow.Author.Needs.{needs}
-use Rattle.candidates.proofs.bit.Statement.{statement}
-use Rattle.candidates.proofs.bit.Tie as tie
+use Rattle.candidates.proofs.rows.bit.Statement.{statement}
+use Rattle.candidates.proofs.rows.bit.Tie as tie
 
 cast-result : tie.Need-cast-result
 cast-result c = search needs

@@ -4,8 +4,8 @@ use Prim.Native.Nat.{_≤_, _-_}
 use mathlib.Core.Path.{_≡_, sym, _∙_}
 use lib.ListN.{length}
 use Rattle.candidates.specs.Spread.{Room, Taken, taken-none, taken-more, taken-skip, taken-done, room-same}
-use Rattle.candidates.proofs.gather.Statement.{statement}
-use Rattle.candidates.proofs.gather.Tie as tie
+use Rattle.candidates.proofs.rows.gather.Statement.{statement}
+use Rattle.candidates.proofs.rows.gather.Tie as tie
 
 abbrev Inv-loop : tie.InvT-loop
 Inv-loop ws₀ n m x changed₀ y₀ ws changed y = (length ws ≡ length ws₀) × Room n m x ws × Taken n m x y ws₀ ws changed

@@ -5,8 +5,8 @@ use mathlib.Core.Path.{_≡_}
 use lib.ListN.{length}
 use Rattle.candidates.specs.Bits.{slack}
 use Rattle.candidates.specs.Spread.{Rows, Going, due, going-start, going-on, going-done, going-less, rows-same}
-use Rattle.candidates.proofs.spread.Statement.{statement}
-use Rattle.candidates.proofs.spread.Tie as tie
+use Rattle.candidates.proofs.rows.spread.Statement.{statement}
+use Rattle.candidates.proofs.rows.spread.Tie as tie
 
 abbrev Inv-loop : tie.InvT-loop
 Inv-loop ws₀ n m changed₀ ws changed = (length ws ≡ length ws₀) × Rows n m ws × Going n m ws₀ ws changed

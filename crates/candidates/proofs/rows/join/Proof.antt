@@ -5,8 +5,8 @@ use mathlib.Core.Path.{_≡_}
 use lib.ListN.{length, getD}
 use borrow.Author.Needs.{needs}
 use Rattle.candidates.specs.Bits.{join-words, Moved, join-none, moved-none, join-more, moved-more, join-done}
-use Rattle.candidates.proofs.join.Statement.{statement}
-use Rattle.candidates.proofs.join.Tie as tie
+use Rattle.candidates.proofs.rows.join.Statement.{statement}
+use Rattle.candidates.proofs.rows.join.Tie as tie
 
 abbrev Inv-loop : tie.InvT-loop
 Inv-loop ws₀ a b changed₀ k₀ ws changed k = (length ws ≡ length ws₀) × (k ≤ 12) × (ws ≡ join-words k a b ws₀) × Moved ws₀ ws changed

@@ -1,8 +1,8 @@
 -- `skip`: the bits below the trailing zeros of what is left of the word are 0.
 use borrow.Author.Needs.{needs}
 use Rattle.candidates.specs.Spread.{skip-bits, skip-word}
-use Rattle.candidates.proofs.skip.Statement.{statement}
-use Rattle.candidates.proofs.skip.Tie as tie
+use Rattle.candidates.proofs.rows.skip.Statement.{statement}
+use Rattle.candidates.proofs.rows.skip.Tie as tie
 
 offset-requires : tie.Need-offset-requires
 offset-requires c κs = search needs

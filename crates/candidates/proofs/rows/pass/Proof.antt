@@ -4,8 +4,8 @@ use Prim.Native.Nat.{_≤_, _-_, _*_}
 use mathlib.Core.Path.{_≡_}
 use lib.ListN.{length}
 use Rattle.candidates.specs.Spread.{Rows, Passed, passed-none, pass-more, pass-done, rows-same, rows-room}
-use Rattle.candidates.proofs.pass.Statement.{statement}
-use Rattle.candidates.proofs.pass.Tie as tie
+use Rattle.candidates.proofs.rows.pass.Statement.{statement}
+use Rattle.candidates.proofs.rows.pass.Tie as tie
 
 abbrev Inv-loop : tie.InvT-loop
 Inv-loop ws₀ n m changed₀ i₀ ws changed i = (length ws ≡ length ws₀) × Rows n m ws × Passed n m i ws₀ ws changed

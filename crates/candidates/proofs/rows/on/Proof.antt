@@ -1,7 +1,7 @@
 use Rattle.candidates.specs.Bits.{on-is}
 use borrow.Author.Needs.{needs}
-use Rattle.candidates.proofs.on.Statement.{statement}
-use Rattle.candidates.proofs.on.Tie as tie
+use Rattle.candidates.proofs.rows.on.Statement.{statement}
+use Rattle.candidates.proofs.rows.on.Tie as tie
 
 offset-requires : tie.Need-offset-requires
 offset-requires c κs = search needs

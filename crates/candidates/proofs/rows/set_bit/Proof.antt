@@ -1,7 +1,7 @@
 use Rattle.candidates.specs.Bits.{with-bit-is}
 use borrow.Author.Needs.{needs}
-use Rattle.candidates.proofs.set_bit.Statement.{statement}
-use Rattle.candidates.proofs.set_bit.Tie as tie
+use Rattle.candidates.proofs.rows.set_bit.Statement.{statement}
+use Rattle.candidates.proofs.rows.set_bit.Tie as tie
 
 add-ws : tie.Need-add-ws
 add-ws c = search needs

@@ -1,8 +1,8 @@
 -- `take`: nothing where the node leads to itself, else the rows are joined.
 use borrow.Author.Needs.{needs}
 use Rattle.candidates.specs.Spread.{takes-self, takes-join}
-use Rattle.candidates.proofs.take.Statement.{statement}
-use Rattle.candidates.proofs.take.Tie as tie
+use Rattle.candidates.proofs.rows.take.Statement.{statement}
+use Rattle.candidates.proofs.rows.take.Tie as tie
 
 returns : tie.Need-returns
 returns c = search (needs, takes-self)
