@@ -13,7 +13,7 @@ use lib.Seq.{getD-set-same, getD-set-other}
 use borrow.Author.Tests.{lt-ltb, le-ltb, ltb-true, ltb-false, eqb-true, eqb-false}
 use Rattle.rules.specs.Lists.{Words}
 use Rattle.rules.specs.Layout.{header·definitions, header·traits, header·impls, header·imports}
-use Rattle.rules.specs.Sheet.{at, chain, chain-of, records, many, field}
+use Rattle.rules.specs.Sheet.{at, chain, chain-of, records, many, field, trait-def, import-def}
 use Rattle.rules.specs.WordLaws.{count-start, count-end, count-on, count-full}
 
 -- Outside the words that may be written.
@@ -140,3 +140,60 @@ looked-is s h base ws id x = go (ltb id (at ws base)) refl
     go : (b : Bool) → ltb id (at ws base) ≡ b → looked ws base id ≡ at (records s h) id
     go true e = rw (e, looked) (x .places id (omega (arith, ltb-true id (at ws base) e, x .count)))
     go false e = rw (e, looked) (sym (List·getD-eq-default (records s h) 0 {n = id} (omega (arith, ltb-false id (at ws base) e, x .count))))
+
+-- The four indexes stand in the workspace.
+pub record Indexes (s ws : Words) : Type 0 where
+  pub definitions : Indexed s header·definitions 18560 ws
+  pub impls : Indexed s header·impls 22657 ws
+  pub traits : Indexed s header·traits 26754 ws
+  pub imports : Indexed s header·imports 30851 ws
+
+-- They were written, and nothing below them.
+pub record IndexedAll (s ws us : Words) : Type 0 where
+  pub indexes : Indexes s us
+  pub others : (p : ℕ) → p < 18560 → at us p ≡ at ws p
+
+indexed-keep : (s : Words) (h base : ℕ) (us vs : Words) → length s ≤ 4096 → ((p : ℕ) → base ≤ p → p < base + 4097 → at vs p ≡ at us p) → Indexed s h base us → Indexed s h base vs
+unfolding many records
+indexed-keep s h base us vs l same x = record {
+  count = same base (omega arith) (omega arith) ∙ x .count;
+  places = λ id k. same (base + (id + 1)) (omega arith) (omega (arith, chain-short s (at s h))) ∙ x .places id k;
+}
+
+pub indexes-keep : (s us vs : Words) → length s ≤ 4096 → ((p : ℕ) → 18560 ≤ p → at vs p ≡ at us p) → Indexes s us → Indexes s vs
+indexes-keep s us vs l same x = record {
+  definitions = indexed-keep s _ _ us vs l (λ p h k. same p h) (x .definitions);
+  impls = indexed-keep s _ _ us vs l (λ p h k. same p (omega arith)) (x .impls);
+  traits = indexed-keep s _ _ us vs l (λ p h k. same p (omega arith)) (x .traits);
+  imports = indexed-keep s _ _ us vs l (λ p h k. same p (omega arith)) (x .imports);
+}
+
+pub indexed-all : (s w₀ w₁ w₂ w₃ w₄ : Words) → length s ≤ 4096 → Indexing s header·definitions 18560 w₀ w₁ → Indexing s header·impls 22657 w₁ w₂ → Indexing s header·traits 26754 w₂ w₃ → Indexing s header·imports 30851 w₃ w₄
+    → IndexedAll s w₀ w₄
+indexed-all s w₀ w₁ w₂ w₃ w₄ l a b c d = record {
+  indexes = record {
+    definitions = indexed-keep s header·definitions 18560 w₁ w₄ l (λ p h k. d .others p (inl (omega arith)) ∙ c .others p (inl (omega arith)) ∙ b .others p (inl (omega arith))) (a .indexed);
+    impls = indexed-keep s header·impls 22657 w₂ w₄ l (λ p h k. d .others p (inl (omega arith)) ∙ c .others p (inl (omega arith))) (b .indexed);
+    traits = indexed-keep s header·traits 26754 w₃ w₄ l (λ p h k. d .others p (inl (omega arith))) (c .indexed);
+    imports = d .indexed;
+  };
+  others = λ p h. d .others p (inl (omega arith)) ∙ c .others p (inl (omega arith)) ∙ b .others p (inl (omega arith)) ∙ a .others p (inl h);
+}
+
+field-is : (s : Words) (h base : ℕ) (ws : Words) (id k p r : ℕ) → Indexed s h base ws → p ≡ looked ws base id → r ≡ at s (p + k) → r ≡ field s h id k
+unfolding field
+field-is s h base ws id k p r x e f = f ∙ ap (λ q. at s (q + k)) (e ∙ looked-is s h base ws id x)
+
+pub definition-is : (s ws : Words) (id k p r : ℕ) → Indexes s ws → p ≡ looked ws 18560 id → r ≡ at s (p + k) → r ≡ field s header·definitions id k
+definition-is s ws id k p r x = field-is s header·definitions 18560 ws id k p r (x .definitions)
+
+pub impl-word-is : (s ws : Words) (id k p r : ℕ) → Indexes s ws → p ≡ looked ws 22657 id → r ≡ at s (p + k) → r ≡ field s header·impls id k
+impl-word-is s ws id k p r x = field-is s header·impls 22657 ws id k p r (x .impls)
+
+pub trait-def-is : (s ws : Words) (id p r : ℕ) → Indexes s ws → p ≡ looked ws 26754 id → r ≡ at s (p + 1) → r ≡ trait-def s id
+unfolding trait-def
+trait-def-is s ws id p r x = field-is s header·traits 26754 ws id 1 p r (x .traits)
+
+pub import-def-is : (s ws : Words) (id p r : ℕ) → Indexes s ws → p ≡ looked ws 30851 id → r ≡ at s (p + 1) → r ≡ import-def s id
+unfolding import-def
+import-def-is s ws id p r x = field-is s header·imports 30851 ws id 1 p r (x .imports)

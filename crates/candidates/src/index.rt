@@ -3,9 +3,9 @@
 ghost use mathlib.Core.Path.{_≡_};
 ghost use Prim.Native.Nat.{_+_, _≤_, _<_};
 ghost use lib.ListN.{length};
-ghost use Rattle.rules.specs.Layout.{header·definitions, impl·flags, header·impls};
-ghost use Rattle.rules.specs.Sheet.{at, field, impl-trait, trait-def, import-def};
-ghost use Rattle.candidates.specs.Index.{Places, Indexing, looked};
+ghost use Rattle.rules.specs.Layout.{header·definitions, header·impls};
+ghost use Rattle.rules.specs.Sheet.{field, trait-def, import-def};
+ghost use Rattle.candidates.specs.Index.{Places, Indexing, looked, Indexes, IndexedAll};
 
 const DEFINITIONS: usize = 18560;
 const IMPLS: usize = 22657;
@@ -54,4 +54,47 @@ fn look(ws: &[u32], base: usize, id: usize) -> usize
     } else {
         0
     }
+}
+
+// Writes the four indexes.
+pub fn index_all(s: &[u32], ws: &mut [u32])
+    requires { ⌜ (length (now s) ≤ 4096) × (34948 ≤ length (now ws)) ⌝ }
+    ensures { λ _. ⌜ IndexedAll (now (s .entry)) (now (ws .entry)) (now (ws .exit)) ⌝ }
+{
+    index(s, 1, ws, DEFINITIONS);
+    index(s, 4, ws, IMPLS);
+    index(s, 3, ws, TRAITS);
+    index(s, 10, ws, IMPORTS);
+}
+
+// Word k of definition d.
+pub fn definition(s: &[u32], ws: &[u32], d: usize, k: usize) -> u32
+    requires { ⌜ Indexes (now s) (now ws) ⌝ }
+    ensures { λ r. ⌜ r ≡ field (now (s .entry)) header·definitions d k ⌝ }
+{
+    words::offset(s, look(ws, DEFINITIONS, d), k)
+}
+
+// Word k of impl i.
+pub fn impl_word(s: &[u32], ws: &[u32], i: usize, k: usize) -> u32
+    requires { ⌜ Indexes (now s) (now ws) ⌝ }
+    ensures { λ r. ⌜ r ≡ field (now (s .entry)) header·impls i k ⌝ }
+{
+    words::offset(s, look(ws, IMPLS, i), k)
+}
+
+// The definition of a trait.
+pub fn trait_def(s: &[u32], ws: &[u32], t: usize) -> u32
+    requires { ⌜ Indexes (now s) (now ws) ⌝ }
+    ensures { λ r. ⌜ r ≡ trait-def (now (s .entry)) t ⌝ }
+{
+    words::offset(s, look(ws, TRAITS, t), 1)
+}
+
+// The definition? of an import.
+pub fn import_def(s: &[u32], ws: &[u32], i: usize) -> u32
+    requires { ⌜ Indexes (now s) (now ws) ⌝ }
+    ensures { λ r. ⌜ r ≡ import-def (now (s .entry)) i ⌝ }
+{
+    words::offset(s, look(ws, IMPORTS, i), 1)
 }
