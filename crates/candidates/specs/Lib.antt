@@ -1,3 +1,4 @@
 pub mod Bits
 pub mod Spread
 pub mod Index
+pub mod Source

@@ -7,12 +7,12 @@ ghost use Rattle.rules.specs.Layout.{header·definitions, header·impls};
 ghost use Rattle.rules.specs.Sheet.{field, trait-def, import-def};
 ghost use Rattle.candidates.specs.Index.{Places, Indexing, looked, Indexes, IndexedAll};
 
-const DEFINITIONS: usize = 18560;
+pub const DEFINITIONS: usize = 18560;
 const IMPLS: usize = 22657;
 const TRAITS: usize = 26754;
 const IMPORTS: usize = 30851;
 
-fn wide(w: u32) -> usize
+pub fn wide(w: u32) -> usize
     ensures { λ r. ⌜ r ≡ w ⌝ }
 {
     w as usize
