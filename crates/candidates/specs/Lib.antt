@@ -2,3 +2,4 @@ pub mod Bits
 pub mod Spread
 pub mod Index
 pub mod Source
+pub mod Links

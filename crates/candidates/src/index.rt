@@ -13,7 +13,7 @@ const TRAITS: usize = 26754;
 const IMPORTS: usize = 30851;
 
 pub fn wide(w: u32) -> usize
-    ensures { λ r. ⌜ r ≡ w ⌝ }
+    ensures { λ r. ⌜ (r ≡ w) × (r < 4294967296) ⌝ }
 {
     w as usize
 }

@@ -2,3 +2,4 @@
 mod rows;
 mod index;
 mod source;
+mod links;

@@ -23,7 +23,7 @@ fn on(ws: &[u32], p: usize, j: usize) -> bool
 }
 
 // Sets bit j of the row at place p.
-fn set_bit(ws: &mut [u32], p: usize, j: usize)
+pub fn set_bit(ws: &mut [u32], p: usize, j: usize)
     requires { ⌜ p + j / 32 < length (now ws) ⌝ }
     ensures { λ _. ⌜ now (ws .exit) ≡ with-bit (now (ws .entry)) p j ⌝ }
 {

@@ -45,7 +45,7 @@ loop-less : tie.Need-loop-less Inv-loop μ-loop
 loop-less c = search needs
 
 loop-again : tie.Need-loop-again Inv-loop μ-loop
-loop-again c = (search needs, search needs, listed-more _ _ _ _ _ _ _ _ _ (c .before .before .if1 .left) (c .before .before .before .loop-test .taken) (omega arith) (c .before .wide .ensures) (c .word .ensures) (c .before .before .before .before .loop .inv .2))
+loop-again c = (search needs, search needs, listed-more _ _ _ _ _ _ _ _ _ (c .before .before .if1 .left) (c .before .before .before .loop-test .taken) (omega arith) (c .before .wide .ensures .0) (c .word .ensures) (c .before .before .before .before .loop .inv .2))
 
 same-length-2 : tie.Need-same-length-2 Inv-loop μ-loop
 same-length-2 c = search needs

@@ -1,0 +1,288 @@
+-- The rows of the edges: row x at 128 says to which nodes an edge leads from node x, row x at 4736 to which an edge leads whose vis lets the source in.
+use Prim.Native.Nat.{ℕ, zero, suc, _+_, _*_, _-_, _/_, _%_, _^_, _≤_, _<_}
+use mathlib.Core.Path.{_≡_, refl, sym, _∙_, ap, ap₂, subst}
+use mathlib.Core.Bool.{Bool, true, false, _||_, _&&_}
+use mathlib.Core.List.{List, [], _∷_, _++_, map}
+use mathlib.Core.Logic.{_⊎_, inl, inr, ⊎-elim, _≢_}
+use mathlib.Core.Option.{none, some}
+use native.Mathlib.Nat.{not-suc-le-zero, suc-sub-suc, sub-zero, one-mul, mod-eq-of-lt}
+use native.Mathlib.Omega.{arith}
+use lib.Bits.{bitOr}
+use lib.Dec.{T, ltb, eqb}
+use lib.ListN.{length, getD, set}
+use lib.Pow.{pow-lt}
+use lib.Seq.{getD-set-same, getD-set-other}
+use borrow.Author.Tests.{ltb-true, eqb-true, eqb-false, eq-eqb, ne-eqb}
+use Rattle.rules.specs.Lists.{Words, any, concat-map, optional-list}
+use Rattle.rules.specs.Layout.{header·impls, flag·named, impl·flags, impl·trait, member·vis, member·import, member·id, binding·vis, binding·impl}
+use Rattle.rules.specs.Sheet.{at, chain, chain-of, field, trait-def, import-def, impl-flag, impl-trait}
+use Rattle.rules.specs.Candidates.{Edge, direct, within-def, get-member, member-edges, binding-edges}
+use Rattle.candidates.specs.Bits.{bit, on, bit-or, bit-power, with-bit}
+use Rattle.candidates.specs.Index.{Indexes, indexes-keep}
+use Rattle.candidates.specs.Source.{seen}
+
+-- A bit that is set: bits of its row, of other rows, and other words.
+module _ (ws : Words) (p j : ℕ) (h : p + j / 32 < length ws) where
+  power : 1 * 2 ^ (j % 32) % 2 ^ 32 ≡ 2 ^ (j % 32)
+  power = ap (λ x. x % 2 ^ 32) (one-mul (2 ^ (j % 32))) ∙ mod-eq-of-lt (pow-lt (let z : j % 32 < 32 = omega arith in z))
+
+  pub set-other : (q : ℕ) → q ≢ p + j / 32 → at (with-bit ws p j) q ≡ at ws q
+  unfolding with-bit
+  set-other q n = getD-set-other ws (p + j / 32) q _ 0 n
+
+  pub set-row : (k : ℕ) → on (with-bit ws p j) p k ≡ (on ws p k || eqb k j)
+  unfolding on with-bit
+  set-row k = go (eqb (k / 32) (j / 32)) refl
+    where
+      new : ℕ
+      new = bitOr (at ws (p + j / 32)) (1 * 2 ^ (j % 32) % 2 ^ 32)
+
+      or-false : (b : Bool) → b ≡ (b || false)
+      or-false true = refl
+      or-false false = refl
+
+      digit : k / 32 ≡ j / 32 → eqb (k % 32) (j % 32) ≡ eqb k j
+      digit q = same (eqb k j) refl
+        where
+          same : (b : Bool) → eqb k j ≡ b → eqb (k % 32) (j % 32) ≡ b
+          same true e = eq-eqb (k % 32) (j % 32) (ap (λ x. x % 32) (eqb-true k j e))
+          same false e = ne-eqb (k % 32) (j % 32) (λ z. eqb-false k j e (omega arith))
+
+      go : (b : Bool) → eqb (k / 32) (j / 32) ≡ b → bit (at (set ws (p + j / 32) new) (p + k / 32)) (k % 32) ≡ (bit (at ws (p + k / 32)) (k % 32) || eqb k j)
+      go true e =
+          let q : k / 32 ≡ j / 32 = eqb-true (k / 32) (j / 32) e in
+          ap (λ x. bit x (k % 32)) (ap (λ c. at (set ws (p + j / 32) new) (p + c)) q ∙ getD-set-same ws (p + j / 32) new 0 h ∙ ap (λ x. bitOr (at ws (p + j / 32)) x) power)
+          ∙ bit-or (at ws (p + j / 32)) (2 ^ (j % 32)) (k % 32)
+          ∙ ap₂ (λ a b. a || b) (ap (λ c. bit (at ws (p + c)) (k % 32)) (sym q)) (bit-power (j % 32) (k % 32) ∙ digit q)
+      go false e =
+          let n = eqb-false (k / 32) (j / 32) e in
+          ap (λ x. bit x (k % 32)) (getD-set-other ws (p + j / 32) (p + k / 32) new 0 (λ z. n (omega arith)))
+          ∙ or-false (bit (at ws (p + k / 32)) (k % 32)) ∙ ap (λ b. bit (at ws (p + k / 32)) (k % 32) || b) (sym (ne-eqb k j (λ z. n (ap (λ x. x / 32) z))))
+
+  pub set-elsewhere : (q k : ℕ) → (q + 12 ≤ p) ⊎ (p + 12 ≤ q) → j < 384 → k < 384 → on (with-bit ws p j) q k ≡ on ws q k
+  unfolding on
+  set-elsewhere q k s hj hk = ap (λ x. bit x (k % 32)) (set-other (q + k / 32) (λ z. ⊎-elim (λ l. omega (arith, l, z)) (λ l. omega (arith, l, z)) s))
+
+-- Some edge leads to y; some edge leads to y that is let in.
+unfoldable pub to : List Edge → ℕ → Bool
+to es y = any (λ e. eqb (e .1) y) es
+
+unfoldable pub lets : (ℕ → Bool) → List Edge → ℕ → Bool
+lets sees es y = any (λ e. eqb (e .1) y && sees (e .0)) es
+
+-- Outside row x of either.
+pub record Off (x p : ℕ) : Type 0 where
+  pub links : (p < 128 + 12 * x) ⊎ (128 + 12 * x + 12 ≤ p)
+  pub opens : (p < 4736 + 12 * x) ⊎ (4736 + 12 * x + 12 ≤ p)
+
+-- Edges of node x were added to its rows, and nothing else was changed.
+pub record Adds (x : ℕ) (es : List Edge) (ws us : Words) : Type 0 where
+  pub links : (y : ℕ) → y < 384 → on us (128 + 12 * x) y ≡ (on ws (128 + 12 * x) y || to es y)
+  pub opens : (y : ℕ) → y < 384 → on us (4736 + 12 * x) y ≡ (on ws (4736 + 12 * x) y || lets (seen ws) es y)
+  pub others : (p : ℕ) → Off x p → at us p ≡ at ws p
+
+low-off : (x p : ℕ) → p < 128 → Off x p
+low-off x p h = record { links = inl (omega arith); opens = inl (omega arith) }
+
+pub high-off : (x p : ℕ) → x < 384 → 9344 ≤ p → Off x p
+high-off x p h k = record { links = inr (omega arith); opens = inr (omega arith) }
+
+-- The source's marks stay.
+seen-same : (ws us : Words) → ((p : ℕ) → p < 128 → at us p ≡ at ws p) → (v : ℕ) → seen us v ≡ seen ws v
+unfolding seen
+seen-same ws us same zero = refl
+seen-same ws us same (suc a) = go (ltb a 128) refl
+  where
+    go : (b : Bool) → ltb a 128 ≡ b → seen us (suc a) ≡ seen ws (suc a)
+    go true e = rw (e, seen) (ap (λ x. eqb x 1) (same a (ltb-true a 128 e)))
+    go false e = rw (e, seen) refl
+
+pub adds-seen : (x : ℕ) (es : List Edge) (ws us : Words) → Adds x es ws us → (v : ℕ) → seen us v ≡ seen ws v
+adds-seen x es ws us a = seen-same ws us (λ p h. a .others p (low-off x p h))
+
+or-false : (b : Bool) → b ≡ (b || false)
+or-false true = refl
+or-false false = refl
+
+or-assoc : (a b c : Bool) → ((a || b) || c) ≡ (a || (b || c))
+or-assoc true b c = refl
+or-assoc false b c = refl
+
+any-append : {A : Type 0} (p : A → Bool) (xs ys : List A) → any p (xs ++ ys) ≡ (any p xs || any p ys)
+unfolding any
+any-append p [] ys = refl
+any-append p (x ∷ xs) ys = go (p x) refl (any-append p xs ys)
+  where
+    go : (b : Bool) → p x ≡ b → any p (xs ++ ys) ≡ (any p xs || any p ys) → any p (x ∷ (xs ++ ys)) ≡ (any p (x ∷ xs) || any p ys)
+    go true e ih = rw (e, any) refl
+    go false e ih = rw (e, any) ih
+
+any-same : {A : Type 0} (p q : A → Bool) (xs : List A) → ((x : A) → p x ≡ q x) → any p xs ≡ any q xs
+unfolding any
+any-same p q [] h = refl
+any-same p q (x ∷ xs) h = ap₂ (λ (b r : Bool). elim b as (λ c. Bool) [ true ↦ true | false ↦ r ]) (h x) (any-same p q xs h)
+
+lets-same : (sees views : ℕ → Bool) (es : List Edge) (y : ℕ) → ((v : ℕ) → sees v ≡ views v) → lets sees es y ≡ lets views es y
+unfolding lets
+lets-same sees views es y h = any-same (λ e. eqb (e .1) y && sees (e .0)) (λ e. eqb (e .1) y && views (e .0)) es (λ e. ap (λ b. eqb (e .1) y && b) (h (e .0)))
+
+pub adds-none : (x : ℕ) (ws : Words) → Adds x [] ws ws
+unfolding to lets any
+adds-none x ws = record { links = λ y h. or-false (on ws (128 + 12 * x) y); opens = λ y h. or-false (on ws (4736 + 12 * x) y); others = λ p o. refl }
+
+pub adds-on : (x : ℕ) (es fs : List Edge) (ws us vs : Words) → Adds x es ws us → Adds x fs us vs → Adds x (es ++ fs) ws vs
+unfolding to lets
+adds-on x es fs ws us vs a b = record {
+  links = λ y h.
+      b .links y h ∙ ap (λ c. c || to fs y) (a .links y h) ∙ or-assoc (on ws (128 + 12 * x) y) (to es y) (to fs y)
+      ∙ ap (λ c. on ws (128 + 12 * x) y || c) (sym (any-append (λ e. eqb (e .1) y) es fs));
+  opens = λ y h.
+      b .opens y h ∙ ap₂ (λ c d. c || d) (a .opens y h) (lets-same (seen us) (seen ws) fs y (adds-seen x es ws us a)) ∙ or-assoc (on ws (4736 + 12 * x) y) (lets (seen ws) es y) (lets (seen ws) fs y)
+      ∙ ap (λ c. on ws (4736 + 12 * x) y || c) (sym (any-append (λ e. eqb (e .1) y && seen ws (e .0)) es fs));
+  others = λ p o. b .others p o ∙ a .others p o;
+}
+
+pub adds-keeps : (s : Words) (x : ℕ) (es : List Edge) (ws us : Words) → length s ≤ 4096 → x < 384 → Adds x es ws us → Indexes s ws → Indexes s us
+adds-keeps s x es ws us l h a i = indexes-keep s ws us l (λ p k. a .others p (high-off x p h (omega arith))) i
+
+-- One edge, to a node or past all nodes.
+to-one : (v y z : ℕ) → to ((v, y) ∷ []) z ≡ eqb y z
+unfolding to any
+to-one v y z = go (eqb y z) refl
+  where
+    go : (b : Bool) → eqb y z ≡ b → to ((v, y) ∷ []) z ≡ b
+    go true e = rw (e, to, any) refl
+    go false e = rw (e, to, any) refl
+
+lets-one : (sees : ℕ → Bool) (v y z : ℕ) → lets sees ((v, y) ∷ []) z ≡ (eqb y z && sees v)
+unfolding lets any
+lets-one sees v y z = go (eqb y z && sees v) refl
+  where
+    go : (b : Bool) → (eqb y z && sees v) ≡ b → lets sees ((v, y) ∷ []) z ≡ b
+    go true e = rw (e, lets, any) refl
+    go false e = rw (e, lets, any) refl
+
+eqb-sym : (a b : ℕ) → eqb a b ≡ eqb b a
+eqb-sym a b = go (eqb b a) refl
+  where
+    go : (c : Bool) → eqb b a ≡ c → eqb a b ≡ c
+    go true e = eq-eqb a b (sym (eqb-true b a e))
+    go false e = ne-eqb a b (λ z. eqb-false b a e (sym z))
+
+and-true : (b : Bool) → (b && true) ≡ b
+and-true true = refl
+and-true false = refl
+
+and-false : (b : Bool) → (b && false) ≡ false
+and-false true = refl
+and-false false = refl
+
+pub link-past : (x v y : ℕ) (ws : Words) → 384 ≤ y → Adds x ((v, y) ∷ []) ws ws
+link-past x v y ws h = record {
+  links = λ z k. or-false (on ws (128 + 12 * x) z) ∙ ap (λ c. on ws (128 + 12 * x) z || c) (sym (to-one v y z ∙ ne-eqb y z (λ e. omega arith)));
+  opens = λ z k. or-false (on ws (4736 + 12 * x) z) ∙ ap (λ c. on ws (4736 + 12 * x) z || c) (sym (lets-one (seen ws) v y z ∙ ap (λ c. c && seen ws v) (ne-eqb y z (λ e. omega arith))));
+  others = λ p o. refl;
+}
+
+module _ (x v y : ℕ) (ws us : Words) (hx : x < 384) (hy : y < 384) (fits : 18560 ≤ length ws) (e : us ≡ with-bit ws (128 + 12 * x) y) where
+  linked-row : (z : ℕ) → on us (128 + 12 * x) z ≡ (on ws (128 + 12 * x) z || to ((v, y) ∷ []) z)
+  linked-row z = ap (λ l. on l (128 + 12 * x) z) e ∙ set-row ws (128 + 12 * x) y (omega arith) z ∙ ap (λ c. on ws (128 + 12 * x) z || c) (eqb-sym z y ∙ sym (to-one v y z))
+
+  open-row : (z : ℕ) → z < 384 → on us (4736 + 12 * x) z ≡ on ws (4736 + 12 * x) z
+  open-row z h = ap (λ l. on l (4736 + 12 * x) z) e ∙ set-elsewhere ws (128 + 12 * x) y (omega arith) (4736 + 12 * x) z (inr (omega arith)) hy h
+
+  rest : (p : ℕ) → Off x p → at us p ≡ at ws p
+  rest p o = ap (λ l. at l p) e ∙ set-other ws (128 + 12 * x) y (omega arith) p (λ q. ⊎-elim (λ l. omega (arith, l, q)) (λ l. omega (arith, l, q)) (o .links))
+
+  pub link-shut : (r : Bool) → r ≡ seen ws v → r ≡ false → Adds x ((v, y) ∷ []) ws us
+  link-shut r f g = record {
+    links = λ z h. linked-row z;
+    opens = λ z h. open-row z h ∙ or-false (on ws (4736 + 12 * x) z) ∙ ap (λ c. on ws (4736 + 12 * x) z || c) (sym (lets-one (seen ws) v y z ∙ ap (λ c. eqb y z && c) (sym f ∙ g) ∙ and-false (eqb y z)));
+    others = rest;
+  }
+
+  pub link-open : (r : Bool) (vs : Words) → length us ≡ length ws → r ≡ seen ws v → r ≡ true → vs ≡ with-bit us (4736 + 12 * x) y → Adds x ((v, y) ∷ []) ws vs
+  link-open r vs n f g k = record {
+    links = λ z h. ap (λ l. on l (128 + 12 * x) z) k ∙ set-elsewhere us (4736 + 12 * x) y (omega arith) (128 + 12 * x) z (inl (omega arith)) hy h ∙ linked-row z;
+    opens = λ z h.
+        ap (λ l. on l (4736 + 12 * x) z) k ∙ set-row us (4736 + 12 * x) y (omega arith) z ∙ ap₂ (λ c d. c || d) (open-row z h) (eqb-sym z y ∙ sym (and-true (eqb y z)) ∙ ap (λ c. eqb y z && c) (sym (sym f ∙ g)) ∙ sym (lets-one (seen ws) v y z));
+    others = λ p o. ap (λ l. at l p) k ∙ set-other us (4736 + 12 * x) y (omega arith) p (λ q. ⊎-elim (λ l. omega (arith, l, q)) (λ l. omega (arith, l, q)) (o .opens)) ∙ rest p o;
+  }
+
+-- The edge of a vis into the definition of a trait?.
+unfoldable pub trait-edges : Words → ℕ → ℕ → List Edge
+trait-edges s vis t = map (λ u. (vis, within-def (trait-def s u))) (optional-list t)
+
+pub trait-none : (s : Words) (x vis t : ℕ) (ws : Words) → t ≡ 0 → Adds x (trait-edges s vis t) ws ws
+unfolding trait-edges optional-list
+trait-none s x vis t ws e = subst (λ u. Adds x (map (λ w. (vis, within-def (trait-def s w))) (optional-list u)) ws ws) (sym e) (adds-none x ws)
+
+pub trait-some : (s : Words) (x vis t d w : ℕ) (ws us : Words) → t ≢ 0 → w ≡ trait-def s (t - 1) → d ≡ w → Adds x ((vis, 3 * d + 1) ∷ []) ws us → Adds x (trait-edges s vis t) ws us
+unfolding trait-edges optional-list
+trait-some s x vis zero d w ws us h e f a = absurd (h refl)
+trait-some s x vis (suc t) d w ws us h e f a =
+    subst (λ (c : ℕ). Adds x ((vis, 3 * c + 1) ∷ []) ws us) (f ∙ e ∙ ap (trait-def s) (suc-sub-suc t 0 ∙ sub-zero t)) a
+
+-- The edges of a member: of a child, of an import that names nothing, of one that names a definition.
+member-child-edges : (s : Words) (m : ℕ) → at s (m + 2) ≡ 0 → member-edges s m ≡ (at s (m + 1), 3 * at s (m + 3)) ∷ []
+unfolding member-edges get-member
+member-child-edges s m e = rw (eq-eqb (at s (m + 2)) 0 e, member-edges, get-member) refl
+
+member-import-edges : (s : Words) (m : ℕ) → at s (m + 2) ≢ 0 → member-edges s m ≡ map (λ d. (at s (m + 1), direct d)) (optional-list (import-def s (at s (m + 3))))
+unfolding member-edges get-member
+member-import-edges s m h = rw (ne-eqb (at s (m + 2)) 0 h, member-edges, get-member) refl
+
+pub member-child : (s : Words) (x m v i id t : ℕ) (ws us : Words) → v ≡ at s (m + 1) → i ≡ at s (m + 3) → id ≡ i → t ≡ at s (m + 2) → t ≡ 0 → Adds x ((v, 3 * id) ∷ []) ws us → Adds x (member-edges s m) ws us
+member-child s x m v i id t ws us e f g h z a =
+    subst (λ l. Adds x l ws us) (ap₂ (λ (p q : ℕ). (p, 3 * q) ∷ []) e (g ∙ f) ∙ sym (member-child-edges s m (sym h ∙ z))) a
+
+pub member-unresolved : (s : Words) (x m i id t w d : ℕ) (ws : Words) → i ≡ at s (m + 3) → id ≡ i → t ≡ at s (m + 2) → t ≢ 0 → w ≡ import-def s id → d ≡ w → d ≡ 0 → Adds x (member-edges s m) ws ws
+unfolding optional-list
+member-unresolved s x m i id t w d ws f g h z k l o =
+    subst (λ es. Adds x es ws ws) (sym (member-import-edges s m (λ q. z (h ∙ q)) ∙ ap (λ u. map (λ c. (at s (m + 1), direct c)) (optional-list u)) (ap (import-def s) (sym f ∙ sym g) ∙ sym k ∙ sym l ∙ o))) (adds-none x ws)
+
+pub member-resolved : (s : Words) (x m v i id t w d : ℕ) (ws us : Words) → v ≡ at s (m + 1) → i ≡ at s (m + 3) → id ≡ i → t ≡ at s (m + 2) → t ≢ 0 → w ≡ import-def s id → d ≡ w → d ≢ 0 → Adds x ((v, 3 * (d - 1)) ∷ []) ws us
+    → Adds x (member-edges s m) ws us
+unfolding optional-list
+member-resolved s x m v i id t w zero ws us e f g h z k l o a = absurd (o refl)
+member-resolved s x m v i id t w (suc d) ws us e f g h z k l o a =
+    subst (λ es. Adds x es ws us)
+      (ap₂ (λ (p q : ℕ). (p, 3 * q) ∷ []) e (suc-sub-suc d 0 ∙ sub-zero d)
+        ∙ sym (member-import-edges s m (λ q. z (h ∙ q)) ∙ ap (λ u. map (λ c. (at s (m + 1), direct c)) (optional-list u)) (ap (import-def s) (sym f ∙ sym g) ∙ sym k ∙ sym l)))
+      a
+
+-- The edges of a binding: none where the impl is named otherwise than asked, else that of its trait?.
+binding-same : (s : Words) (b : Bool) (m : ℕ) → impl-flag s flag·named (at s (m + 2)) ≡ b → binding-edges s b m ≡ trait-edges s (at s (m + 1)) (impl-trait s (at s (m + 2)))
+unfolding binding-edges trait-edges
+binding-same s true m e = rw (e, binding-edges) refl
+binding-same s false m e = rw (e, binding-edges) refl
+
+binding-other : (s : Words) (b c : Bool) (m : ℕ) → impl-flag s flag·named (at s (m + 2)) ≡ c → (c ≡ b → ⊥) → binding-edges s b m ≡ []
+unfolding binding-edges
+binding-other s true true m e h = absurd (h refl)
+binding-other s true false m e h = rw (e, binding-edges) refl
+binding-other s false true m e h = rw (e, binding-edges) refl
+binding-other s false false m e h = absurd (h refl)
+
+named-is : (s : Words) (i w : ℕ) → w ≡ field s header·impls i 2 → impl-flag s flag·named i ≡ eqb (w / 8 % 2) 1
+unfolding impl-flag
+named-is s i w e = ap (λ x. eqb (x / 8 % 2) 1) (sym e)
+
+pub binding-none : (s : Words) (x m named i j w : ℕ) (ws : Words) → named < 2 → i ≡ at s (m + 2) → j ≡ i → w ≡ field s header·impls j 2 → w / 8 % 2 ≢ named → Adds x (binding-edges s (eqb named 1) m) ws ws
+binding-none s x m named i j w ws l e f g h =
+    subst (λ es. Adds x es ws ws) (sym (binding-other s (eqb named 1) (eqb (w / 8 % 2) 1) m (ap (impl-flag s flag·named) (sym e ∙ sym f) ∙ named-is s j w g) differ)) (adds-none x ws)
+  where
+    differ : eqb (w / 8 % 2) 1 ≡ eqb named 1 → ⊥
+    differ q = go (eqb named 1) refl
+      where
+        go : (b : Bool) → eqb named 1 ≡ b → ⊥
+        go true k = h (omega (arith, eqb-true (w / 8 % 2) 1 (q ∙ k), eqb-true named 1 k))
+        go false k = h (omega (arith, eqb-false (w / 8 % 2) 1 (q ∙ k), eqb-false named 1 k))
+
+pub binding-some : (s : Words) (x m named i j w v t u : ℕ) (ws us : Words) → i ≡ at s (m + 2) → j ≡ i → w ≡ field s header·impls j 2 → w / 8 % 2 ≡ named → v ≡ at s (m + 1) → t ≡ field s header·impls j 3 → u ≡ t
+    → Adds x (trait-edges s v u) ws us → Adds x (binding-edges s (eqb named 1) m) ws us
+unfolding impl-trait
+binding-some s x m named i j w v t u ws us e f g h k n o a =
+    subst (λ es. Adds x es ws us)
+      (ap₂ (trait-edges s) k (o ∙ n ∙ ap (impl-trait s) (f ∙ e)) ∙ sym (binding-same s (eqb named 1) m (ap (impl-flag s flag·named) (sym e ∙ sym f) ∙ named-is s j w g ∙ ap (λ c. eqb c 1) h)))
+      a

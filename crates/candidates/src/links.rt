@@ -1,0 +1,76 @@
+// Numbered edges in the order of `for_each_child`, as rows of bits over nodes (3 × definition + level): to which nodes an edge leads,
+// and to which an edge leads whose vis lets the source in.
+ghost use mathlib.Core.Path.{_≡_};
+ghost use mathlib.Core.List.{[], _∷_};
+ghost use Prim.Native.Nat.{_≤_, _<_};
+ghost use lib.ListN.{length};
+ghost use lib.Dec.{eqb};
+ghost use Rattle.rules.specs.Candidates.{member-edges, binding-edges};
+ghost use Rattle.candidates.specs.Index.{Indexes};
+ghost use Rattle.candidates.specs.Links.{Adds, trait-edges};
+
+use crate::index::impl_word;
+use crate::index::import_def;
+use crate::index::trait_def;
+use crate::index::wide;
+use crate::rows::set_bit;
+use crate::source::visible;
+
+const LINKS: usize = 128;
+const OPEN: usize = 4736;
+
+// Adds an edge from node x, of a vis, to node y.
+fn link(ws: &mut [u32], x: usize, vis: u32, y: usize)
+    requires { ⌜ (x < 384) × (18560 ≤ length (now ws)) ⌝ }
+    ensures { λ _. ⌜ Adds x ((vis, y) ∷ []) (now (ws .entry)) (now (ws .exit)) ⌝ }
+{
+    let open = visible(ws, vis);
+    if 384 <= y {
+        return;
+    }
+    set_bit(ws, LINKS + 12 * x, y);
+    if open {
+        set_bit(ws, OPEN + 12 * x, y);
+    }
+}
+
+// Adds the edge of a vis into the definition of a trait?.
+fn link_trait(s: &[u32], ws: &mut [u32], x: usize, vis: u32, t: usize)
+    requires { ⌜ (x < 384) × (18560 ≤ length (now ws)) × Indexes (now s) (now ws) ⌝ }
+    ensures { λ _. ⌜ Adds x (trait-edges (now (s .entry)) vis t) (now (ws .entry)) (now (ws .exit)) ⌝ }
+{
+    if t == 0 {
+        return;
+    }
+    let d = wide(trait_def(s, ws, t - 1));
+    link(ws, x, vis, 3 * d + 1);
+}
+
+// Adds the edges of a member.
+fn link_member(s: &[u32], ws: &mut [u32], x: usize, m: usize)
+    requires { ⌜ (x < 384) × (18560 ≤ length (now ws)) × Indexes (now s) (now ws) ⌝ }
+    ensures { λ _. ⌜ Adds x (member-edges (now (s .entry)) m) (now (ws .entry)) (now (ws .exit)) ⌝ }
+{
+    let vis = words::offset(s, m, 1);
+    let id = wide(words::offset(s, m, 3));
+    if words::offset(s, m, 2) == 0 {
+        link(ws, x, vis, 3 * id);
+        return;
+    }
+    let d = wide(import_def(s, ws, id));
+    if d != 0 {
+        link(ws, x, vis, 3 * (d - 1));
+    }
+}
+
+// Adds the edges of an impl binding, where the impl is named (1) or not (0) as asked.
+fn link_binding(s: &[u32], ws: &mut [u32], x: usize, named: u32, m: usize)
+    requires { ⌜ (x < 384) × (18560 ≤ length (now ws)) × Indexes (now s) (now ws) × (named < 2) ⌝ }
+    ensures { λ _. ⌜ Adds x (binding-edges (now (s .entry)) (eqb named 1) m) (now (ws .entry)) (now (ws .exit)) ⌝ }
+{
+    let i = wide(words::offset(s, m, 2));
+    if impl_word(s, ws, i, 2) / 8 % 2 != named {
+        return;
+    }
+    link_trait(s, ws, x, words::offset(s, m, 1), wide(impl_word(s, ws, i, 3)));
+}
