@@ -145,6 +145,16 @@ adds-on x es fs ws us vs a b = record {
 pub adds-keeps : (s : Words) (x : ℕ) (es : List Edge) (ws us : Words) → length s ≤ 4096 → x < 384 → Adds x es ws us → Indexes s ws → Indexes s us
 adds-keeps s x es ws us l h a i = indexes-keep s ws us l (λ p k. a .others p (high-off x p h (omega arith))) i
 
+-- Node x has rows, and the indexes stand in the workspace.
+pub record Linking (x : ℕ) (s ws : Words) : Type 0 where
+  pub node : x < 384
+  pub short : length s ≤ 4096
+  pub fits : 34948 ≤ length ws
+  pub indexes : Indexes s ws
+
+pub linking-on : (x : ℕ) (es : List Edge) (s ws us : Words) → length us ≡ length ws → Linking x s ws → Adds x es ws us → Linking x s us
+linking-on x es s ws us e l a = record { node = l .node; short = l .short; fits = omega (arith, l .fits); indexes = adds-keeps s x es ws us (l .short) (l .node) a (l .indexes) }
+
 -- One edge, to a node or past all nodes.
 to-one : (v y z : ℕ) → to ((v, y) ∷ []) z ≡ eqb y z
 unfolding to any
@@ -286,3 +296,30 @@ binding-some s x m named i j w v t u ws us e f g h k n o a =
     subst (λ es. Adds x es ws us)
       (ap₂ (trait-edges s) k (o ∙ n ∙ ap (impl-trait s) (f ∙ e)) ∙ sym (binding-same s (eqb named 1) m (ap (impl-flag s flag·named) (sym e ∙ sym f) ∙ named-is s j w g ∙ ap (λ c. eqb c 1) h)))
       a
+
+-- A walk along a chain whose records have edges: with those still to come added, those of the whole chain are.
+pub record Walking (f : ℕ → List Edge) (x : ℕ) (s : Words) (head : ℕ) (ws us : Words) (i left : ℕ) : Type 0 where
+  pub to-come : (vs : Words) → Adds x (concat-map f (chain-of left s i)) us vs → Adds x (concat-map f (chain s head)) ws vs
+
+module _ (f : ℕ → List Edge) (x : ℕ) (s : Words) (head : ℕ) where
+  pub walking-start : (ws : Words) → Walking f x s head ws ws head (length s)
+  unfolding chain
+  walking-start ws = record { to-come = λ vs a. a }
+
+  pub walking-spent : (ws us : Words) (i left : ℕ) → left ≡ 0 → Walking f x s head ws us i left → Adds x (concat-map f (chain s head)) ws us
+  unfolding chain-of concat-map
+  walking-spent ws us i left e w = w .to-come us (subst (λ n. Adds x (concat-map f (chain-of n s i)) us us) (sym e) (adds-none x us))
+
+  pub walking-end : (ws us : Words) (i left : ℕ) → i ≡ 0 → left ≢ 0 → Walking f x s head ws us i left → Adds x (concat-map f (chain s head)) ws us
+  unfolding chain-of concat-map
+  walking-end ws us i zero e h w = absurd (h refl)
+  walking-end ws us i (suc left) e h w = w .to-come us (subst (λ n. Adds x (concat-map f (chain-of (suc left) s n)) us us) (sym e) (adds-none x us))
+
+  pub walking-on : (ws us vs : Words) (i j left : ℕ) → left ≢ 0 → i ≢ 0 → j ≡ at s i → Adds x (f i) us vs → Walking f x s head ws us i left → Walking f x s head ws vs j (left - 1)
+  unfolding chain-of concat-map
+  walking-on ws us vs i j zero h k e a w = absurd (h refl)
+  walking-on ws us vs zero j (suc left) h k e a w = absurd (k refl)
+  walking-on ws us vs (suc i) j (suc left) h k e a w = record {
+    to-come = λ zs b.
+        w .to-come zs (adds-on x (f (suc i)) (concat-map f (chain-of left s (at s (suc i)))) us vs zs a (subst (λ l. Adds x (concat-map f l) vs zs) (ap₂ (λ n p. chain-of n s p) (suc-sub-suc left 0 ∙ sub-zero left) e) b));
+  }

@@ -5,9 +5,10 @@ ghost use mathlib.Core.List.{[], _∷_};
 ghost use Prim.Native.Nat.{_≤_, _<_};
 ghost use lib.ListN.{length};
 ghost use lib.Dec.{eqb};
+ghost use Rattle.rules.specs.Lists.{concat-map};
+ghost use Rattle.rules.specs.Sheet.{chain};
 ghost use Rattle.rules.specs.Candidates.{member-edges, binding-edges};
-ghost use Rattle.candidates.specs.Index.{Indexes};
-ghost use Rattle.candidates.specs.Links.{Adds, trait-edges};
+ghost use Rattle.candidates.specs.Links.{Linking, Adds, trait-edges};
 
 use crate::index::impl_word;
 use crate::index::import_def;
@@ -36,7 +37,7 @@ fn link(ws: &mut [u32], x: usize, vis: u32, y: usize)
 
 // Adds the edge of a vis into the definition of a trait?.
 fn link_trait(s: &[u32], ws: &mut [u32], x: usize, vis: u32, t: usize)
-    requires { ⌜ (x < 384) × (18560 ≤ length (now ws)) × Indexes (now s) (now ws) ⌝ }
+    requires { ⌜ Linking x (now s) (now ws) ⌝ }
     ensures { λ _. ⌜ Adds x (trait-edges (now (s .entry)) vis t) (now (ws .entry)) (now (ws .exit)) ⌝ }
 {
     if t == 0 {
@@ -48,7 +49,7 @@ fn link_trait(s: &[u32], ws: &mut [u32], x: usize, vis: u32, t: usize)
 
 // Adds the edges of a member.
 fn link_member(s: &[u32], ws: &mut [u32], x: usize, m: usize)
-    requires { ⌜ (x < 384) × (18560 ≤ length (now ws)) × Indexes (now s) (now ws) ⌝ }
+    requires { ⌜ Linking x (now s) (now ws) ⌝ }
     ensures { λ _. ⌜ Adds x (member-edges (now (s .entry)) m) (now (ws .entry)) (now (ws .exit)) ⌝ }
 {
     let vis = words::offset(s, m, 1);
@@ -65,7 +66,7 @@ fn link_member(s: &[u32], ws: &mut [u32], x: usize, m: usize)
 
 // Adds the edges of an impl binding, where the impl is named (1) or not (0) as asked.
 fn link_binding(s: &[u32], ws: &mut [u32], x: usize, named: u32, m: usize)
-    requires { ⌜ (x < 384) × (18560 ≤ length (now ws)) × Indexes (now s) (now ws) × (named < 2) ⌝ }
+    requires { ⌜ Linking x (now s) (now ws) × (named < 2) ⌝ }
     ensures { λ _. ⌜ Adds x (binding-edges (now (s .entry)) (eqb named 1) m) (now (ws .entry)) (now (ws .exit)) ⌝ }
 {
     let i = wide(words::offset(s, m, 2));
@@ -73,4 +74,38 @@ fn link_binding(s: &[u32], ws: &mut [u32], x: usize, named: u32, m: usize)
         return;
     }
     link_trait(s, ws, x, words::offset(s, m, 1), wide(impl_word(s, ws, i, 3)));
+}
+
+// Adds the edges of the members on a chain.
+fn link_members(s: &[u32], ws: &mut [u32], x: usize, head: usize)
+    requires { ⌜ Linking x (now s) (now ws) ⌝ }
+    ensures { λ _. ⌜ Adds x (concat-map (member-edges (now (s .entry))) (chain (now (s .entry)) head)) (now (ws .entry)) (now (ws .exit)) ⌝ }
+{
+    let mut i = head;
+    let mut left = s.len();
+    while left != 0 {
+        if i == 0 {
+            return;
+        }
+        link_member(s, ws, x, i);
+        i = words::next(s, i);
+        left -= 1;
+    }
+}
+
+// Adds the edges of the impl bindings on a chain, of named impls (1) or of the others (0).
+fn link_bindings(s: &[u32], ws: &mut [u32], x: usize, named: u32, head: usize)
+    requires { ⌜ Linking x (now s) (now ws) × (named < 2) ⌝ }
+    ensures { λ _. ⌜ Adds x (concat-map (binding-edges (now (s .entry)) (eqb named 1)) (chain (now (s .entry)) head)) (now (ws .entry)) (now (ws .exit)) ⌝ }
+{
+    let mut i = head;
+    let mut left = s.len();
+    while left != 0 {
+        if i == 0 {
+            return;
+        }
+        link_binding(s, ws, x, named, i);
+        i = words::next(s, i);
+        left -= 1;
+    }
 }
