@@ -13,10 +13,11 @@ use lib.ListN.{length, getD, set}
 use lib.Pow.{pow-lt}
 use lib.Seq.{getD-set-same, getD-set-other}
 use borrow.Author.Tests.{ltb-true, eqb-true, eqb-false, eq-eqb, ne-eqb}
-use Rattle.rules.specs.Lists.{Words, any, concat-map, optional-list}
-use Rattle.rules.specs.Layout.{header·impls, flag·named, impl·flags, impl·trait, member·vis, member·import, member·id, binding·vis, binding·impl}
-use Rattle.rules.specs.Sheet.{at, chain, chain-of, field, trait-def, import-def, impl-flag, impl-trait}
-use Rattle.rules.specs.Candidates.{Edge, direct, within-def, get-member, member-edges, binding-edges}
+use Rattle.rules.specs.Lists.{Words, any, concat-map, optional, optional-list}
+use Rattle.rules.specs.Layout.{header·definitions, header·prelude, header·impls, flag·named, impl·flags, impl·trait, member·vis, member·import, member·id, binding·vis, binding·impl}
+use Rattle.rules.specs.Sheet.{at, chain, chain-of, field, parent, trait-vis, def-trait, bindings, named-members, implicit-members, trait-def, import-def, impl-flag, impl-trait}
+use Rattle.rules.specs.Candidates.{Edge, direct, within-def, within-ancestors, get-member, member-edges, binding-edges, for-each-child, edges}
+use Rattle.rules.specs.Components.{edges-direct, edges-within, edges-ancestors}
 use Rattle.candidates.specs.Bits.{bit, on, bit-or, bit-power, with-bit}
 use Rattle.candidates.specs.Index.{Indexes, indexes-keep}
 use Rattle.candidates.specs.Source.{seen}
@@ -323,3 +324,47 @@ module _ (f : ℕ → List Edge) (x : ℕ) (s : Words) (head : ℕ) where
     to-come = λ zs b.
         w .to-come zs (adds-on x (f (suc i)) (concat-map f (chain-of left s (at s (suc i)))) us vs zs a (subst (λ l. Adds x (concat-map f l) vs zs) (ap₂ (λ n p. chain-of n s p) (suc-sub-suc left 0 ∙ sub-zero left) e) b));
   }
+
+-- The edges of a definition's three nodes.
+pub direct-edges : (s : Words) (d v t₀ t b₀ b m₀ m : ℕ) (w₀ w₁ w₂ w₃ : Words) → v ≡ field s header·definitions d 2 → t₀ ≡ field s header·definitions d 3 → t ≡ t₀ → b₀ ≡ field s header·definitions d 4 → b ≡ b₀ → m₀ ≡ field s header·definitions d 6 → m ≡ m₀
+    → Adds (3 * d) (trait-edges s v t) w₀ w₁ → Adds (3 * d) (concat-map (binding-edges s true) (chain s b)) w₁ w₂ → Adds (3 * d) (concat-map (member-edges s) (chain s m)) w₂ w₃ → Adds (3 * d) (edges s (3 * d)) w₀ w₃
+unfolding for-each-child trait-edges trait-vis def-trait bindings implicit-members
+direct-edges s d v t₀ t b₀ b m₀ m w₀ w₁ w₂ w₃ e f f′ g g′ h h′ i j k =
+    subst (λ es. Adds (3 * d) es w₀ w₃)
+      (ap₂ (λ xs ys. xs ++ ys) (ap₂ (λ xs ys. xs ++ ys) (ap₂ (trait-edges s) e (f′ ∙ f)) (ap (λ c. concat-map (binding-edges s true) (chain s c)) (g′ ∙ g))) (ap (λ c. concat-map (member-edges s) (chain s c)) (h′ ∙ h)) ∙ sym (edges-direct s d))
+      (adds-on (3 * d) (trait-edges s v t ++ concat-map (binding-edges s true) (chain s b)) (concat-map (member-edges s) (chain s m)) w₀ w₂ w₃ (adds-on (3 * d) (trait-edges s v t) (concat-map (binding-edges s true) (chain s b)) w₀ w₁ w₂ i j) k)
+
+pub within-edges : (s : Words) (d b₀ b m₀ m : ℕ) (w₀ w₁ w₂ w₃ : Words) → b₀ ≡ field s header·definitions d 4 → b ≡ b₀ → m₀ ≡ field s header·definitions d 5 → m ≡ m₀
+    → Adds (3 * d + 1) ((0, 3 * d) ∷ []) w₀ w₁ → Adds (3 * d + 1) (concat-map (member-edges s) (chain s m)) w₁ w₂ → Adds (3 * d + 1) (concat-map (binding-edges s false) (chain s b)) w₂ w₃ → Adds (3 * d + 1) (edges s (3 * d + 1)) w₀ w₃
+unfolding for-each-child bindings named-members
+within-edges s d b₀ b m₀ m w₀ w₁ w₂ w₃ g g′ h h′ i j k =
+    subst (λ es. Adds (3 * d + 1) es w₀ w₃)
+      (ap₂ (λ (xs ys : List Edge). ((0, 3 * d) ∷ []) ++ xs ++ ys) (ap (λ c. concat-map (member-edges s) (chain s c)) (h′ ∙ h)) (ap (λ c. concat-map (binding-edges s false) (chain s c)) (g′ ∙ g)) ∙ sym (edges-within s d))
+      (adds-on (3 * d + 1) (((0, 3 * d) ∷ []) ++ concat-map (member-edges s) (chain s m)) (concat-map (binding-edges s false) (chain s b)) w₀ w₂ w₃ (adds-on (3 * d + 1) ((0, 3 * d) ∷ []) (concat-map (member-edges s) (chain s m)) w₀ w₁ w₂ i j) k)
+
+ancestors-parent : (s : Words) (d p : ℕ) → parent s d ≡ suc p → edges s (3 * d + 2) ≡ (0, 3 * d + 1) ∷ ((0, 3 * p + 2) ∷ [])
+unfolding for-each-child optional
+ancestors-parent s d p e = edges-ancestors s d ∙ rw (e, for-each-child, optional) refl
+
+ancestors-prelude : (s : Words) (d : ℕ) → parent s d ≡ 0 → edges s (3 * d + 2) ≡ (0, 3 * d + 1) ∷ map (λ p. (0, 3 * p + 1)) (optional-list (at s header·prelude))
+unfolding for-each-child optional
+ancestors-prelude s d e = edges-ancestors s d ∙ rw (e, for-each-child, optional) refl
+
+module _ (s : Words) (d p₀ p q : ℕ) (w₀ w₁ : Words) (f : p₀ ≡ field s header·definitions d 1) (f′ : p ≡ p₀) (i : Adds (3 * d + 2) ((0, 3 * d + 1) ∷ []) w₀ w₁) where
+  pub parent-edges : (w₂ : Words) → p ≢ 0 → Adds (3 * d + 2) ((0, 3 * (p - 1) + 2) ∷ []) w₁ w₂ → Adds (3 * d + 2) (edges s (3 * d + 2)) w₀ w₂
+  unfolding parent
+  parent-edges w₂ h j =
+      subst (λ es. Adds (3 * d + 2) es w₀ w₂) (sym (ancestors-parent s d (p - 1) (sym f ∙ sym f′ ∙ (let z : p ≡ suc (p - 1) = omega (arith, h) in z))))
+        (adds-on (3 * d + 2) ((0, 3 * d + 1) ∷ []) ((0, 3 * (p - 1) + 2) ∷ []) w₀ w₁ w₂ i j)
+
+  pub prelude-edges : (q₀ : ℕ) (w₂ : Words) → p ≡ 0 → q₀ ≡ at s 11 → q ≡ q₀ → q ≢ 0 → Adds (3 * d + 2) ((0, 3 * (q - 1) + 1) ∷ []) w₁ w₂ → Adds (3 * d + 2) (edges s (3 * d + 2)) w₀ w₂
+  unfolding parent optional-list
+  prelude-edges q₀ w₂ z g g′ h j =
+      let e : at s 11 ≡ suc (q - 1) = sym g ∙ sym g′ ∙ (let z : q ≡ suc (q - 1) = omega (arith, h) in z) in
+      subst (λ es. Adds (3 * d + 2) es w₀ w₂) (sym (ancestors-prelude s d (sym f ∙ sym f′ ∙ z) ∙ ap (λ c. (0, 3 * d + 1) ∷ map (λ r. (0, 3 * r + 1)) (optional-list c)) e))
+        (adds-on (3 * d + 2) ((0, 3 * d + 1) ∷ []) ((0, 3 * (q - 1) + 1) ∷ []) w₀ w₁ w₂ i j)
+
+  pub no-prelude-edges : (q₀ : ℕ) → p ≡ 0 → q₀ ≡ at s 11 → q ≡ q₀ → q ≡ 0 → Adds (3 * d + 2) (edges s (3 * d + 2)) w₀ w₁
+  unfolding parent optional-list
+  no-prelude-edges q₀ z g g′ h =
+      subst (λ es. Adds (3 * d + 2) es w₀ w₁) (sym (ancestors-prelude s d (sym f ∙ sym f′ ∙ z) ∙ ap (λ c. (0, 3 * d + 1) ∷ map (λ r. (0, 3 * r + 1)) (optional-list c)) (sym g ∙ sym g′ ∙ h))) i

@@ -2,14 +2,15 @@
 // and to which an edge leads whose vis lets the source in.
 ghost use mathlib.Core.Path.{_≡_};
 ghost use mathlib.Core.List.{[], _∷_};
-ghost use Prim.Native.Nat.{_≤_, _<_};
+ghost use Prim.Native.Nat.{_+_, _*_, _≤_, _<_};
 ghost use lib.ListN.{length};
 ghost use lib.Dec.{eqb};
 ghost use Rattle.rules.specs.Lists.{concat-map};
 ghost use Rattle.rules.specs.Sheet.{chain};
-ghost use Rattle.rules.specs.Candidates.{member-edges, binding-edges};
+ghost use Rattle.rules.specs.Candidates.{member-edges, binding-edges, edges};
 ghost use Rattle.candidates.specs.Links.{Linking, Adds, trait-edges};
 
+use crate::index::definition;
 use crate::index::impl_word;
 use crate::index::import_def;
 use crate::index::trait_def;
@@ -107,5 +108,48 @@ fn link_bindings(s: &[u32], ws: &mut [u32], x: usize, named: u32, head: usize)
         link_binding(s, ws, x, named, i);
         i = words::next(s, i);
         left -= 1;
+    }
+}
+
+// Adds the edges of a definition's direct level: its trait, named impls, implicit members.
+fn link_direct(s: &[u32], ws: &mut [u32], d: usize)
+    requires { ⌜ Linking (3 * d) (now s) (now ws) ⌝ }
+    ensures { λ _. ⌜ Adds (3 * d) (edges (now (s .entry)) (3 * d)) (now (ws .entry)) (now (ws .exit)) ⌝ }
+{
+    let vis = definition(s, ws, d, 2);
+    let t = wide(definition(s, ws, d, 3));
+    let bindings = wide(definition(s, ws, d, 4));
+    let members = wide(definition(s, ws, d, 6));
+    link_trait(s, ws, 3 * d, vis, t);
+    link_bindings(s, ws, 3 * d, 1, bindings);
+    link_members(s, ws, 3 * d, members);
+}
+
+// Adds the edges of a definition's level within: the direct level, named members, unnamed impls.
+fn link_within(s: &[u32], ws: &mut [u32], d: usize)
+    requires { ⌜ Linking (3 * d + 1) (now s) (now ws) ⌝ }
+    ensures { λ _. ⌜ Adds (3 * d + 1) (edges (now (s .entry)) (3 * d + 1)) (now (ws .entry)) (now (ws .exit)) ⌝ }
+{
+    let bindings = wide(definition(s, ws, d, 4));
+    let members = wide(definition(s, ws, d, 5));
+    link(ws, 3 * d + 1, 0, 3 * d);
+    link_members(s, ws, 3 * d + 1, members);
+    link_bindings(s, ws, 3 * d + 1, 0, bindings);
+}
+
+// Adds the edges of a definition's level within ancestors: the level within, and the parent's ancestors or the prelude.
+fn link_ancestors(s: &[u32], ws: &mut [u32], d: usize)
+    requires { ⌜ Linking (3 * d + 2) (now s) (now ws) ⌝ }
+    ensures { λ _. ⌜ Adds (3 * d + 2) (edges (now (s .entry)) (3 * d + 2)) (now (ws .entry)) (now (ws .exit)) ⌝ }
+{
+    let p = wide(definition(s, ws, d, 1));
+    let q = wide(words::word(s, 11));
+    link(ws, 3 * d + 2, 0, 3 * d + 1);
+    if p != 0 {
+        link(ws, 3 * d + 2, 0, 3 * (p - 1) + 2);
+        return;
+    }
+    if q != 0 {
+        link(ws, 3 * d + 2, 0, 3 * (q - 1) + 1);
     }
 }
