@@ -5,7 +5,7 @@ use mathlib.Core.Bool.{Bool, true, false, _||_, _&&_}
 use mathlib.Core.List.{List, [], _∷_, _++_, map}
 use mathlib.Core.Logic.{_⊎_, inl, inr, ⊎-elim, _≢_}
 use mathlib.Core.Option.{none, some}
-use native.Mathlib.Nat.{not-suc-le-zero, suc-sub-suc, sub-zero, one-mul, mod-eq-of-lt}
+use native.Mathlib.Nat.{not-suc-le-zero, zero-div, suc-sub-suc, sub-zero, one-mul, mod-eq-of-lt}
 use native.Mathlib.Omega.{arith}
 use lib.Bits.{bitOr}
 use lib.Dec.{T, ltb, eqb}
@@ -368,3 +368,124 @@ module _ (s : Words) (d p₀ p q : ℕ) (w₀ w₁ : Words) (f : p₀ ≡ field 
   unfolding parent optional-list
   no-prelude-edges q₀ z g g′ h =
       subst (λ es. Adds (3 * d + 2) es w₀ w₁) (sym (ancestors-prelude s d (sym f ∙ sym f′ ∙ z) ∙ ap (λ c. (0, 3 * d + 1) ∷ map (λ r. (0, 3 * r + 1)) (optional-list c)) (sym g ∙ sym g′ ∙ h))) i
+
+-- The edges of a definition's three nodes were added, one node after the other.
+pub record LinksDefinition (s : Words) (d : ℕ) (ws us : Words) : Type 0 where
+  pub after-direct : Words
+  pub after-within : Words
+  pub direct : Adds (3 * d) (edges s (3 * d)) ws after-direct
+  pub within : Adds (3 * d + 1) (edges s (3 * d + 1)) after-direct after-within
+  pub ancestors : Adds (3 * d + 2) (edges s (3 * d + 2)) after-within us
+
+pub links-definition : (s : Words) (d : ℕ) (w₀ w₁ w₂ w₃ : Words) → Adds (3 * d) (edges s (3 * d)) w₀ w₁ → Adds (3 * d + 1) (edges s (3 * d + 1)) w₁ w₂ → Adds (3 * d + 2) (edges s (3 * d + 2)) w₂ w₃ → LinksDefinition s d w₀ w₃
+links-definition s d w₀ w₁ w₂ w₃ a b c = record { after-direct = w₁; after-within = w₂; direct = a; within = b; ancestors = c }
+
+pub linking-down : (x y : ℕ) (s ws : Words) → y ≤ x → Linking x s ws → Linking y s ws
+linking-down x y s ws h l = record { node = omega (arith, l .node); short = l .short; fits = l .fits; indexes = l .indexes }
+
+-- From one node to another, by the edges that the first added.
+pub linking-over : (x y z : ℕ) (es : List Edge) (s ws us : Words) → length us ≡ length ws → y ≤ x → z ≤ x → Linking x s ws → Adds y es ws us → Linking z s us
+linking-over x y z es s ws us e h k l a = linking-down x z s us k (record {
+  node = l .node;
+  short = l .short;
+  fits = omega (arith, l .fits);
+  indexes = adds-keeps s y es ws us (l .short) (omega (arith, l .node)) a (l .indexes);
+})
+
+-- There are rows for the nodes of n definitions, all of them clear.
+pub record LinkingAll (n : ℕ) (s ws : Words) : Type 0 where
+  pub few : n ≤ 128
+  pub short : length s ≤ 4096
+  pub fits : 34948 ≤ length ws
+  pub indexes : Indexes s ws
+  pub clear : (p : ℕ) → 128 ≤ p → p < 18560 → at ws p ≡ 0
+
+-- The rows of the nodes below n hold their edges; those of the others are clear.
+pub record Built (s : Words) (n : ℕ) (ws us : Words) : Type 0 where
+  pub links : (x y : ℕ) → x < n → y < 384 → on us (128 + 12 * x) y ≡ to (edges s x) y
+  pub opens : (x y : ℕ) → x < n → y < 384 → on us (4736 + 12 * x) y ≡ lets (seen ws) (edges s x) y
+  pub fresh-links : (x y : ℕ) → n ≤ x → x < 384 → y < 384 → on us (128 + 12 * x) y ≡ false
+  pub fresh-opens : (x y : ℕ) → n ≤ x → x < 384 → y < 384 → on us (4736 + 12 * x) y ≡ false
+  pub others : (p : ℕ) → (p < 128) ⊎ (9344 ≤ p) → at us p ≡ at ws p
+
+bit-zero : (k : ℕ) → bit 0 k ≡ false
+unfolding bit
+bit-zero k = ne-eqb (0 / 2 ^ k % 2) 1 (λ e. omega (arith, ap (λ x. x % 2) (zero-div (2 ^ k)), e))
+
+off-clear : (ws : Words) (p k : ℕ) → at ws (p + k / 32) ≡ 0 → on ws p k ≡ false
+unfolding on
+off-clear ws p k e = ap (λ w. bit w (k % 32)) e ∙ bit-zero (k % 32)
+
+pub built-start : (n : ℕ) (s ws : Words) → LinkingAll n s ws → Built s (3 * 0) ws ws
+built-start n s ws l = record {
+  links = λ x y h. absurd (not-suc-le-zero h);
+  opens = λ x y h. absurd (not-suc-le-zero h);
+  fresh-links = λ x y h k j. off-clear ws (128 + 12 * x) y (l .clear (128 + 12 * x + y / 32) (omega arith) (omega arith));
+  fresh-opens = λ x y h k j. off-clear ws (4736 + 12 * x) y (l .clear (4736 + 12 * x + y / 32) (omega arith) (omega arith));
+  others = λ p o. refl;
+}
+
+row-off : (x z y : ℕ) → x < 384 → z < 384 → y < 384 → z ≢ x → Off x (128 + 12 * z + y / 32)
+row-off x z y hx hz hy ne = go (x - z) refl
+  where
+    go : (d : ℕ) → x - z ≡ d → Off x (128 + 12 * z + y / 32)
+    go zero e = record { links = inr (omega (arith, ne)); opens = inl (omega arith) }
+    go (suc d) e = record { links = inl (omega arith); opens = inl (omega arith) }
+
+open-off : (x z y : ℕ) → x < 384 → z < 384 → y < 384 → z ≢ x → Off x (4736 + 12 * z + y / 32)
+open-off x z y hx hz hy ne = go (x - z) refl
+  where
+    go : (d : ℕ) → x - z ≡ d → Off x (4736 + 12 * z + y / 32)
+    go zero e = record { links = inr (omega arith); opens = inr (omega (arith, ne)) }
+    go (suc d) e = record { links = inr (omega arith); opens = inl (omega arith) }
+
+-- One node more.
+built-node : (s : Words) (n : ℕ) (ws us vs : Words) → n < 384 → Built s n ws us → Adds n (edges s n) us vs → Built s (suc n) ws vs
+unfolding on
+built-node s n ws us vs h b a = record {
+  links = λ x y k j. links x y j (eqb x n) refl k;
+  opens = λ x y k j. opens x y j (eqb x n) refl k;
+  fresh-links = λ x y k i j. ap (λ w. bit w (y % 32)) (a .others (128 + 12 * x + y / 32) (row-off n x y h i j (λ e. omega (arith, e)))) ∙ b .fresh-links x y (omega arith) i j;
+  fresh-opens = λ x y k i j. ap (λ w. bit w (y % 32)) (a .others (4736 + 12 * x + y / 32) (open-off n x y h i j (λ e. omega (arith, e)))) ∙ b .fresh-opens x y (omega arith) i j;
+  others = λ p o. a .others p (⊎-elim (λ l. low-off n p l) (λ l. high-off n p h l) o) ∙ b .others p o;
+}
+  where
+    marks : (v : ℕ) → seen us v ≡ seen ws v
+    marks = seen-same ws us (λ p k. b .others p (inl k))
+
+    links : (x y : ℕ) → y < 384 → (c : Bool) → eqb x n ≡ c → x < suc n → on vs (128 + 12 * x) y ≡ to (edges s x) y
+    links x y j true e k =
+        subst (λ z. on vs (128 + 12 * z) y ≡ to (edges s z) y) (sym (eqb-true x n e)) (a .links y j ∙ ap (λ c. c || to (edges s n) y) (b .fresh-links n y (omega arith) h j))
+    links x y j false e k =
+        let ne = eqb-false x n e in
+        ap (λ w. bit w (y % 32)) (a .others (128 + 12 * x + y / 32) (row-off n x y h (omega arith) j ne)) ∙ b .links x y (omega (arith, ne)) j
+
+    opens : (x y : ℕ) → y < 384 → (c : Bool) → eqb x n ≡ c → x < suc n → on vs (4736 + 12 * x) y ≡ lets (seen ws) (edges s x) y
+    opens x y j true e k =
+        subst (λ z. on vs (4736 + 12 * z) y ≡ lets (seen ws) (edges s z) y) (sym (eqb-true x n e))
+          (a .opens y j ∙ ap₂ (λ c d. c || d) (b .fresh-opens n y (omega arith) h j) (lets-same (seen us) (seen ws) (edges s n) y marks))
+    opens x y j false e k =
+        let ne = eqb-false x n e in
+        ap (λ w. bit w (y % 32)) (a .others (4736 + 12 * x + y / 32) (open-off n x y h (omega arith) j ne)) ∙ b .opens x y (omega (arith, ne)) j
+
+-- One definition more.
+pub built-more : (s : Words) (n d : ℕ) (ws us vs : Words) → n ≤ 128 → d < n → Built s (3 * d) ws us → LinksDefinition s d us vs → Built s (3 * (d + 1)) ws vs
+built-more s n d ws us vs l h b a =
+    subst (λ k. Built s k ws vs) (let z : suc (3 * d + 2) ≡ 3 * (d + 1) = omega arith in z)
+      (built-node s (3 * d + 2) ws (a .after-within) vs (omega arith)
+        (subst (λ k. Built s k ws (a .after-within)) (let z : suc (3 * d + 1) ≡ 3 * d + 2 = omega arith in z)
+          (built-node s (3 * d + 1) ws (a .after-direct) (a .after-within) (omega arith)
+            (subst (λ k. Built s k ws (a .after-direct)) (let z : suc (3 * d) ≡ 3 * d + 1 = omega arith in z) (built-node s (3 * d) ws us (a .after-direct) (omega arith) b (a .direct)))
+            (a .within)))
+        (a .ancestors))
+
+pub built-done : (s : Words) (n d : ℕ) (ws us : Words) → d ≤ n → n ≤ d → Built s (3 * d) ws us → Built s (3 * n) ws us
+built-done s n d ws us h k b = subst (λ c. Built s (3 * c) ws us) (let z : d ≡ n = omega arith in z) b
+
+pub built-linking : (s : Words) (n d : ℕ) (ws us : Words) → length us ≡ length ws → d < n → LinkingAll n s ws → Built s (3 * d) ws us → Linking (3 * d + 2) s us
+built-linking s n d ws us e h l b = record {
+  node = omega (arith, l .few);
+  short = l .short;
+  fits = omega (arith, l .fits);
+  indexes = indexes-keep s ws us (l .short) (λ p k. b .others p (inr (omega arith))) (l .indexes);
+}

@@ -8,7 +8,7 @@ ghost use lib.Dec.{eqb};
 ghost use Rattle.rules.specs.Lists.{concat-map};
 ghost use Rattle.rules.specs.Sheet.{chain};
 ghost use Rattle.rules.specs.Candidates.{member-edges, binding-edges, edges};
-ghost use Rattle.candidates.specs.Links.{Linking, Adds, trait-edges};
+ghost use Rattle.candidates.specs.Links.{Linking, LinkingAll, Adds, trait-edges, LinksDefinition, Built};
 
 use crate::index::definition;
 use crate::index::impl_word;
@@ -151,5 +151,27 @@ fn link_ancestors(s: &[u32], ws: &mut [u32], d: usize)
     }
     if q != 0 {
         link(ws, 3 * d + 2, 0, 3 * (q - 1) + 1);
+    }
+}
+
+// Adds the edges of a definition's three nodes.
+fn link_definition(s: &[u32], ws: &mut [u32], d: usize)
+    requires { ⌜ Linking (3 * d + 2) (now s) (now ws) ⌝ }
+    ensures { λ _. ⌜ LinksDefinition (now (s .entry)) d (now (ws .entry)) (now (ws .exit)) ⌝ }
+{
+    link_direct(s, ws, d);
+    link_within(s, ws, d);
+    link_ancestors(s, ws, d);
+}
+
+// Adds the edges of all nodes of the first n definitions.
+pub fn link_all(s: &[u32], ws: &mut [u32], n: usize)
+    requires { ⌜ LinkingAll n (now s) (now ws) ⌝ }
+    ensures { λ _. ⌜ Built (now (s .entry)) (3 * n) (now (ws .entry)) (now (ws .exit)) ⌝ }
+{
+    let mut d = 0;
+    while d < n {
+        link_definition(s, ws, d);
+        d += 1;
     }
 }
