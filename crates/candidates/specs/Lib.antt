@@ -3,3 +3,4 @@ pub mod Spread
 pub mod Index
 pub mod Source
 pub mod Links
+pub mod Inner

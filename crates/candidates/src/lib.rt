@@ -3,3 +3,4 @@ mod rows;
 mod index;
 mod source;
 mod links;
+mod inner;

@@ -16,7 +16,7 @@ fn bit(w: u32, b: usize) -> bool
 }
 
 // Bit j of the row at place p.
-fn on(ws: &[u32], p: usize, j: usize) -> bool
+pub fn on(ws: &[u32], p: usize, j: usize) -> bool
     ensures { λ r. ⌜ r ≡ on (now (ws .entry)) p j ⌝ }
 {
     bit(words::offset(ws, p, j / 32), j % 32)
@@ -54,7 +54,7 @@ fn wide(w: u32) -> usize
 }
 
 // Past the bits that are 0, from one of them on: to the next 1 of its word, or to the next word.
-fn skip(ws: &[u32], p: usize, y: usize) -> usize
+pub fn skip(ws: &[u32], p: usize, y: usize) -> usize
     requires { ⌜ (y < 384) × (on (now ws) p y ≡ false) ⌝ }
     ensures { λ r. ⌜ Empty (now (ws .entry)) p y r ⌝ }
 {
@@ -121,7 +121,7 @@ fn pass(ws: &mut [u32], n: usize, m: usize) -> bool
 }
 
 // What the n rows behind m + 9216 have spreads along the relation of the rows behind m, until nothing changes.
-fn spread(ws: &mut [u32], n: usize, m: usize)
+pub fn spread(ws: &mut [u32], n: usize, m: usize)
     requires { ⌜ Rows n m (now ws) ⌝ }
     ensures { λ _. ⌜ Spread n m (now (ws .entry)) (now (ws .exit)) ⌝ }
 {
