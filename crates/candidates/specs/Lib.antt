@@ -4,3 +4,4 @@ pub mod Index
 pub mod Source
 pub mod Links
 pub mod Inner
+pub mod Sets

@@ -89,7 +89,7 @@ pub high-off : (x p : ℕ) → x < 384 → 9344 ≤ p → Off x p
 high-off x p h k = record { links = inr (omega arith); opens = inr (omega arith) }
 
 -- The source's marks stay.
-seen-same : (ws us : Words) → ((p : ℕ) → p < 128 → at us p ≡ at ws p) → (v : ℕ) → seen us v ≡ seen ws v
+pub seen-same : (ws us : Words) → ((p : ℕ) → p < 128 → at us p ≡ at ws p) → (v : ℕ) → seen us v ≡ seen ws v
 unfolding seen
 seen-same ws us same zero = refl
 seen-same ws us same (suc a) = go (ltb a 128) refl
@@ -109,7 +109,7 @@ or-assoc : (a b c : Bool) → ((a || b) || c) ≡ (a || (b || c))
 or-assoc true b c = refl
 or-assoc false b c = refl
 
-any-append : {A : Type 0} (p : A → Bool) (xs ys : List A) → any p (xs ++ ys) ≡ (any p xs || any p ys)
+pub any-append : {A : Type 0} (p : A → Bool) (xs ys : List A) → any p (xs ++ ys) ≡ (any p xs || any p ys)
 unfolding any
 any-append p [] ys = refl
 any-append p (x ∷ xs) ys = go (p x) refl (any-append p xs ys)
@@ -118,7 +118,7 @@ any-append p (x ∷ xs) ys = go (p x) refl (any-append p xs ys)
     go true e ih = rw (e, any) refl
     go false e ih = rw (e, any) ih
 
-any-same : {A : Type 0} (p q : A → Bool) (xs : List A) → ((x : A) → p x ≡ q x) → any p xs ≡ any q xs
+pub any-same : {A : Type 0} (p q : A → Bool) (xs : List A) → ((x : A) → p x ≡ q x) → any p xs ≡ any q xs
 unfolding any
 any-same p q [] h = refl
 any-same p q (x ∷ xs) h = ap₂ (λ (b r : Bool). elim b as (λ c. Bool) [ true ↦ true | false ↦ r ]) (h x) (any-same p q xs h)
@@ -412,7 +412,7 @@ bit-zero : (k : ℕ) → bit 0 k ≡ false
 unfolding bit
 bit-zero k = ne-eqb (0 / 2 ^ k % 2) 1 (λ e. omega (arith, ap (λ x. x % 2) (zero-div (2 ^ k)), e))
 
-off-clear : (ws : Words) (p k : ℕ) → at ws (p + k / 32) ≡ 0 → on ws p k ≡ false
+pub off-clear : (ws : Words) (p k : ℕ) → at ws (p + k / 32) ≡ 0 → on ws p k ≡ false
 unfolding on
 off-clear ws p k e = ap (λ w. bit w (k % 32)) e ∙ bit-zero (k % 32)
 

@@ -4,3 +4,4 @@ mod index;
 mod source;
 mod links;
 mod inner;
+mod sets;
