@@ -5,3 +5,4 @@ pub mod Source
 pub mod Links
 pub mod Inner
 pub mod Sets
+pub mod Build

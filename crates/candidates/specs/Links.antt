@@ -408,7 +408,7 @@ pub record Built (s : Words) (n : ℕ) (ws us : Words) : Type 0 where
   pub fresh-opens : (x y : ℕ) → n ≤ x → x < 384 → y < 384 → on us (4736 + 12 * x) y ≡ false
   pub others : (p : ℕ) → (p < 128) ⊎ (9344 ≤ p) → at us p ≡ at ws p
 
-bit-zero : (k : ℕ) → bit 0 k ≡ false
+pub bit-zero : (k : ℕ) → bit 0 k ≡ false
 unfolding bit
 bit-zero k = ne-eqb (0 / 2 ^ k % 2) 1 (λ e. omega (arith, ap (λ x. x % 2) (zero-div (2 ^ k)), e))
 

@@ -134,7 +134,7 @@ pub record Sourced (s : Words) (src : ℕ) (ws us : Words) : Type 0 where
   pub marks : (a : ℕ) → a < 128 → marked us a ≡ is-in a (ancestors s src)
   pub others : (p : ℕ) → 128 ≤ p → at us p ≡ at ws p
 
-cleared-at : (n : ℕ) (ws : Words) (p : ℕ) → p < n → at (cleared n ws) p ≡ 0
+pub cleared-at : (n : ℕ) (ws : Words) (p : ℕ) → p < n → at (cleared n ws) p ≡ 0
 unfolding cleared
 cleared-at zero ws p h = absurd (not-suc-le-zero h)
 cleared-at (suc n) [] p h = refl
