@@ -22,7 +22,7 @@ use Rattle.rules.specs.AdmissionLaws.{visible-iff, open-node, admission}
 use Rattle.words.specs.Buffers.{cleared}
 use Rattle.candidates.specs.Bits.{bit, on}
 use Rattle.candidates.specs.Spread.{leads, has, Walk, stay, step, walk-on, Comes, Grown, Spread, spread-has, Rows}
-use Rattle.candidates.specs.Index.{Indexes, IndexedAll, indexes-keep}
+use Rattle.candidates.specs.Index.{Indexes, IndexedAll, indexes-keep, indexes-same}
 use Rattle.candidates.specs.Source.{Sourced, seen, seen-is, cleared-at}
 use Rattle.candidates.specs.Links.{LinkingAll, Built, to, lets, seen-same, bit-zero}
 use Rattle.candidates.specs.Inner.{Selves, InnerAll}
@@ -65,8 +65,9 @@ rows-for n m s ws us h e l = record { few = omega (arith, l .few); fits = omega 
 pub rows-after : (n : ℕ) (s ws us : Words) → length us ≡ length ws → BindingAll n s ws → Rows (3 * n) 4736 us
 rows-after n s ws us e l = record { few = omega (arith, l .few); fits = omega (arith, l .few, l .fits) }
 
--- The rows of reach and the sets, for a source.
+-- The indexes, the rows of reach and the sets, for a source.
 pub record Candidates (s : Words) (src : ℕ) (us : Words) : Type 0 where
+  pub indexes : Indexes s us
   pub reach : (x y : ℕ) → x < node-count s → y < node-count s → on us (9344 + 12 * x) y ≡ reach (length (graph s)) (linked (graph s)) x y
   pub sets : (x i : ℕ) → x < node-count s → i < 384 → on us (13952 + 12 * x) i ≡ is-in i (admitted s src (x ∷ []))
 
@@ -157,7 +158,7 @@ node-of : (f : Bool) (x d : ℕ) → x ≡ binding-node f d → x / 3 ≡ d
 node-of true x d e = omega arith
 node-of false x d e = omega arith
 
-module _ (s : Words) (src : ℕ) (w₀ w₁ w₂ : Words) (c : Checked s) (hs : src < many s header·definitions) (p : Prepared s src w₀) (k : Connected s (many s header·definitions) w₀ w₁) (f : Filled s (many s header·definitions) w₁ w₂) where
+module _ (s : Words) (src : ℕ) (w₀ w₁ w₂ : Words) (short : length s ≤ 4096) (c : Checked s) (hs : src < many s header·definitions) (p : Prepared s src w₀) (k : Connected s (many s header·definitions) w₀ w₁) (f : Filled s (many s header·definitions) w₁ w₂) where
   abbrev N : ℕ
   N = 3 * many s header·definitions
 
@@ -202,9 +203,10 @@ module _ (s : Words) (src : ℕ) (w₀ w₁ w₂ : Words) (c : Checked s) (hs : 
   -- What is spread from there is reach.
   reach-iff : (x y : ℕ) → x < N → y < N → T (has 128 (k .reached) x y) ↔ Reaches s x y
   reach-iff x y hx hy =
-      let r = spread-has N 128 (k .started) (k .reached) few (k .spread) x y hx (omega (arith, few)) in
-      (λ t. let m = r .0 t in subst (Reaches s x) (sym (eqb→eq y (m .end) (subst T (itself (m .end) y (m .below) (omega (arith, few))) (m .there)))) (walk-reaches hx (m .walk)),
-       λ q. r .1 (record { end = y; below = hy; walk = reaches-walk hx q; there = subst T (sym (itself y y hy (omega (arith, few)))) (eqb-refl y) }))
+      let r = spread-has N 128 (k .started) (k .reached) few (k .spread) x y hx (omega (arith, few)) in (
+        λ t. let m = r .0 t in subst (Reaches s x) (sym (eqb→eq y (m .end) (subst T (itself (m .end) y (m .below) (omega (arith, few))) (m .there)))) (walk-reaches hx (m .walk)),
+        λ q. r .1 (record { end = y; below = hy; walk = reaches-walk hx q; there = subst T (sym (itself y y hy (omega (arith, few)))) (eqb-refl y) }),
+      )
 
   -- The marks say which vis lets the source in.
   sees : (v : ℕ) → T (seen w₀ v) ↔ LetsIn s src v
@@ -270,29 +272,37 @@ module _ (s : Words) (src : ℕ) (w₀ w₁ w₂ : Words) (c : Checked s) (hs : 
           let r = a .0 t in
           let u = and-iff (first-part (r .0) && may-enter s i) (eqb x node) .0 (r .2) in
           let v = and-iff (first-part (r .0)) (may-enter s i) .0 (u .0) in
-          let w = and-iff (eqb (at s (r .0 + binding·impl)) i) (seen w₁ (at s (r .0 + binding·vis))) .0 (v .0) in
-          (v .1, record {
-            definition = x / 3;
-            node = eqb→eq x node (u .1);
-            binding = r .0;
-            stands = r .1;
-            impl = eqb→eq (at s (r .0 + binding·impl)) i (w .0);
-            vis = sees (at s (r .0 + binding·vis)) .0 (subst T (marks (at s (r .0 + binding·vis))) (w .1));
-          })
+          let w = and-iff (eqb (at s (r .0 + binding·impl)) i) (seen w₁ (at s (r .0 + binding·vis))) .0 (v .0) in (
+            v .1,
+            record {
+              definition = x / 3;
+              node = eqb→eq x node (u .1);
+              binding = r .0;
+              stands = r .1;
+              impl = eqb→eq (at s (r .0 + binding·impl)) i (w .0);
+              vis = sees (at s (r .0 + binding·vis)) .0 (subst T (marks (at s (r .0 + binding·vis))) (w .1));
+            },
+          )
 
       back : T (may-enter s i) × Binds s src x i → T (any (λ b. entry s (seen w₁) (x / 3) b x i) (bindings s (x / 3)))
       back r =
           let w = r .1 in
           let d : x / 3 ≡ w .definition = node-of (impl-flag s flag·named i) x (w .definition) (w .node) in
           let b = w .binding in
-          a .1 (b, subst (λ e. In b (bindings s e)) (sym d) (w .stands),
+          a .1 (
+            b,
+            subst (λ e. In b (bindings s e)) (sym d) (w .stands),
             and-iff (first-part b && may-enter s i) (eqb x node) .1 (
               and-iff (first-part b) (may-enter s i) .1 (
                 and-iff (eqb (at s (b + binding·impl)) i) (seen w₁ (at s (b + binding·vis))) .1 (
                   subst (λ e. T (eqb e i)) (sym (w .impl)) (eqb-refl i),
-                  subst T (sym (marks (at s (b + binding·vis)))) (sees (at s (b + binding·vis)) .1 (w .vis))),
-                r .0),
-              subst (λ e. T (eqb x (binding-node (impl-flag s flag·named i) e))) (sym d) (subst (λ e. T (eqb x e)) (w .node) (eqb-refl x))))
+                  subst T (sym (marks (at s (b + binding·vis)))) (sees (at s (b + binding·vis)) .1 (w .vis)),
+                ),
+                r .0,
+              ),
+              subst (λ e. T (eqb x (binding-node (impl-flag s flag·named i) e))) (sym d) (subst (λ e. T (eqb x e)) (w .node) (eqb-refl x)),
+            ),
+          )
 
   walk-path : {x y : ℕ} → x < N → Walk (leads 4736 (f .entered)) N x y → OpenPath s src x y
   walk-path h stay = stays
@@ -331,22 +341,46 @@ module _ (s : Words) (src : ℕ) (w₀ w₁ w₂ : Words) (c : Checked s) (hs : 
 
   pub candidates-built : Candidates s src w₂
   unfolding has on
-  candidates-built = record { reach = reach-row; sets = set-row }
+  candidates-built = record { indexes = kept; reach = reach-row; sets = set-row }
     where
+      kept : Indexes s w₂
+      kept = indexes-keep s w₀ w₂ short
+          (λ q h. f .spread .grown .same q (inr (omega (arith, few))) ∙ f .bound .others q (inr h) ∙ connected-same s (many s header·definitions) w₀ w₁ (omega (arith, few)) k q (inr (omega arith)))
+          (p .indexes)
+
       reach-row : (x y : ℕ) → x < node-count s → y < node-count s → on w₂ (9344 + 12 * x) y ≡ reach (length (graph s)) (linked (graph s)) x y
       reach-row x y hx hy =
           ap (λ w. bit w (y % 32))
-            (f .spread .grown .same (9344 + 12 * x + y / 32) (inl (omega (arith, few, above hx, above hy))) ∙ f .bound .others (9344 + 12 * x + y / 32) (inl (omega (arith, few, above hx, above hy)))
-              ∙ k .inner .others (9344 + 12 * x + y / 32) (inr (omega arith)))
+          (f .spread .grown .same (9344 + 12 * x + y / 32) (inl (omega (arith, few, above hx, above hy))) ∙ f .bound .others (9344 + 12 * x + y / 32) (inl (omega (arith, few, above hx, above hy)))
+          ∙ k .inner .others (9344 + 12 * x + y / 32) (inr (omega arith)))
           ∙ same-test (has 128 (k .reached) x y) (reach (length (graph s)) (linked (graph s)) x y)
-              (λ t. reach-paths s c x y hx .1 (reach-iff x y (above hx) (above hy) .0 t), λ t. reach-iff x y (above hx) (above hy) .1 (reach-paths s c x y hx .0 t))
+          (λ t. reach-paths s c x y hx .1 (reach-iff x y (above hx) (above hy) .0 t), λ t. reach-iff x y (above hx) (above hy) .1 (reach-paths s c x y hx .0 t))
 
       set-row : (x i : ℕ) → x < node-count s → i < 384 → on w₂ (13952 + 12 * x) i ≡ is-in i (admitted s src (x ∷ []))
-      set-row x i hx hi = same-test (has 4736 w₂ x i) (is-in i (admitted s src (x ∷ [])))
-          (λ t. is-in-in i (admitted s src (x ∷ [])) .1 (admission s c src hs (x ∷ []) i .1 (x, first, hx, admits-iff x i (above hx) hi .0 t)),
-           λ t. let r = admission s c src hs (x ∷ []) i .0 (is-in-in i (admitted s src (x ∷ [])) .0 t) in admits-iff x i (above hx) hi .1 (⊎-elim (λ e. subst (λ z. Admits s src z i) e (r .3)) (λ q. absurd (in-empty q)) (in-cases (r .1))))
+      set-row x i hx hi = same-test (has 4736 w₂ x i) (is-in i (admitted s src (x ∷ []))) (
+        λ t. is-in-in i (admitted s src (x ∷ [])) .1 (admission s c src hs (x ∷ []) i .1 (x, first, hx, admits-iff x i (above hx) hi .0 t)),
+        λ t. let r = admission s c src hs (x ∷ []) i .0 (is-in-in i (admitted s src (x ∷ [])) .0 t) in admits-iff x i (above hx) hi .1 (⊎-elim (λ e. subst (λ z. Admits s src z i) e (r .3)) (λ q. absurd (in-empty q)) (in-cases (r .1))),
+      )
 
-pub build-done : (s : Words) (src n : ℕ) (w₀ w₁ w₂ : Words) → Checked s → src < many s header·definitions → n ≡ at w₀ 18560 → Prepared s src w₀ → Connected s n w₀ w₁ → Filled s n w₁ w₂ → Candidates s src w₂
-build-done s src n w₀ w₁ w₂ c h e p k f =
+pub build-done : (s : Words) (src n : ℕ) (w₀ w₁ w₂ : Words) → length s ≤ 4096 → Checked s → src < many s header·definitions → n ≡ at w₀ 18560 → Prepared s src w₀ → Connected s n w₀ w₁ → Filled s n w₁ w₂ → Candidates s src w₂
+build-done s src n w₀ w₁ w₂ l c h e p k f =
     let q = prepared-count s src n w₀ p e in
-    candidates-built s src w₀ w₁ w₂ c h p (subst (λ m. Connected s m w₀ w₁) q k) (subst (λ m. Filled s m w₁ w₂) q f)
+    candidates-built s src w₀ w₁ w₂ l c h p (subst (λ m. Connected s m w₀ w₁) q k) (subst (λ m. Filled s m w₁ w₂) q f)
+
+-- Tarjan's components, of what is computed: two nodes have each other's bit in the rows of reach exactly if they share a component,
+pub component-rows : (s : Words) (src : ℕ) (us : Words) → Candidates s src us → (x y : ℕ) → x < node-count s → y < node-count s → (on us (9344 + 12 * x) y && on us (9344 + 12 * y) x) ≡ same-component (graph s) x y
+unfolding same-component
+component-rows s src us k x y hx hy = ap₂ (λ a b. a && b) (k .reach x y hx hy) (k .reach y x hy hx)
+
+-- exactly if each reaches the other along edges.
+pub component-paths : (s : Words) (src : ℕ) (us : Words) → Checked s → Candidates s src us → (x y : ℕ) → x < node-count s → y < node-count s → T (on us (9344 + 12 * x) y && on us (9344 + 12 * y) x) ↔ Together s x y
+component-paths s src us c k x y hx hy = subst (λ b. T b ↔ Together s x y) (sym (component-rows s src us k x y hx hy)) (components s c x y hx hy)
+
+-- What is built stands as long as the words that hold it do.
+pub candidates-same : (s : Words) (src : ℕ) (us vs : Words) → length s ≤ 4096 → Checked s → ((p : ℕ) → p < 34948 → at vs p ≡ at us p) → Candidates s src us → Candidates s src vs
+unfolding on node-count
+candidates-same s src us vs l c same k = record {
+  indexes = indexes-same s us vs l (λ p h b. same p b) (k .indexes);
+  reach = λ x y hx hy. ap (λ w. bit w (y % 32)) (same (9344 + 12 * x + y / 32) (omega (arith, valid s (passed s c .values) .definition-count))) ∙ k .reach x y hx hy;
+  sets = λ x i hx hi. ap (λ w. bit w (i % 32)) (same (13952 + 12 * x + i / 32) (omega (arith, valid s (passed s c .values) .definition-count))) ∙ k .sets x i hx hi;
+}

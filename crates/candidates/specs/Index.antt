@@ -160,13 +160,17 @@ indexed-keep s h base us vs l same x = record {
   places = λ id k. same (base + (id + 1)) (omega arith) (omega (arith, chain-short s (at s h))) ∙ x .places id k;
 }
 
-pub indexes-keep : (s us vs : Words) → length s ≤ 4096 → ((p : ℕ) → 18560 ≤ p → at vs p ≡ at us p) → Indexes s us → Indexes s vs
-indexes-keep s us vs l same x = record {
-  definitions = indexed-keep s _ _ us vs l (λ p h k. same p h) (x .definitions);
-  impls = indexed-keep s _ _ us vs l (λ p h k. same p (omega arith)) (x .impls);
-  traits = indexed-keep s _ _ us vs l (λ p h k. same p (omega arith)) (x .traits);
-  imports = indexed-keep s _ _ us vs l (λ p h k. same p (omega arith)) (x .imports);
+-- They stand as long as their words do.
+pub indexes-same : (s us vs : Words) → length s ≤ 4096 → ((p : ℕ) → 18560 ≤ p → p < 34948 → at vs p ≡ at us p) → Indexes s us → Indexes s vs
+indexes-same s us vs l same x = record {
+  definitions = indexed-keep s _ _ us vs l (λ p h k. same p h (omega arith)) (x .definitions);
+  impls = indexed-keep s _ _ us vs l (λ p h k. same p (omega arith) (omega arith)) (x .impls);
+  traits = indexed-keep s _ _ us vs l (λ p h k. same p (omega arith) (omega arith)) (x .traits);
+  imports = indexed-keep s _ _ us vs l (λ p h k. same p (omega arith) k) (x .imports);
 }
+
+pub indexes-keep : (s us vs : Words) → length s ≤ 4096 → ((p : ℕ) → 18560 ≤ p → at vs p ≡ at us p) → Indexes s us → Indexes s vs
+indexes-keep s us vs l same x = indexes-same s us vs l (λ p h k. same p h) x
 
 pub indexed-all : (s w₀ w₁ w₂ w₃ w₄ : Words) → length s ≤ 4096 → Indexing s header·definitions 18560 w₀ w₁ → Indexing s header·impls 22657 w₁ w₂ → Indexing s header·traits 26754 w₂ w₃ → Indexing s header·imports 30851 w₃ w₄
     → IndexedAll s w₀ w₄

@@ -58,7 +58,7 @@ selves-more n x ws us vs h l f s e = record {
     go : (z j : ℕ) → z < x + 1 → j < 384 → (z ≡ x) ⊎ (z ≢ x) → on (with-bit us (9344 + 12 * x) x) (9344 + 12 * z) j ≡ (on ws (9344 + 12 * z) j || eqb j z)
     go z j hz hj (inl q) =
         subst (λ c. on (with-bit us (9344 + 12 * x) x) (9344 + 12 * c) j ≡ (on ws (9344 + 12 * c) j || eqb j c)) (sym q)
-          (set-row us (9344 + 12 * x) x (omega arith) j ∙ ap (λ b. b || eqb j x) (s .rest x j (omega arith) (omega arith) hj))
+        (set-row us (9344 + 12 * x) x (omega arith) j ∙ ap (λ b. b || eqb j x) (s .rest x j (omega arith) (omega arith) hj))
     go z j hz hj (inr q) = set-elsewhere us (9344 + 12 * x) x (omega arith) (9344 + 12 * z) j (apart-rows 9344 x z q) (omega arith) hj ∙ s .selves z j (omega (arith, q)) hj
 
 pub selves-done : (n x : ℕ) (ws us : Words) → x ≤ n → n ≤ x → Selves x ws us → Selves n ws us
@@ -105,7 +105,7 @@ step-open x y us vs r hx hy f t e g k = record {
   more = λ ws i. inner-grow x y ws us hx i vs
       (λ z h n. ap (λ c. on c (4736 + 12 * x) z) k ∙ set-row us (4736 + 12 * x) y (omega arith) z ∙ ap (λ b. on us (4736 + 12 * x) z || b) (ne-eqb z y n) ∙ sym (or-false (on us (4736 + 12 * x) z)))
       (ap (λ c. on c (4736 + 12 * x) y) k ∙ set-row us (4736 + 12 * x) y (omega arith) y ∙ ap (λ b. on us (4736 + 12 * x) y || b) (eq-eqb y y refl) ∙ sym (or-true (on us (4736 + 12 * x) y)) ∙ or-true (on ws (4736 + 12 * x) y)
-        ∙ ap₂ (λ a b. on ws (4736 + 12 * x) y || (a && b)) (sym (sym (links-stay x y ws us hx i y hy) ∙ t)) (sym (sym (reach-stay x y ws us hx i y hy) ∙ sym e ∙ g)))
+      ∙ ap₂ (λ a b. on ws (4736 + 12 * x) y || (a && b)) (sym (sym (links-stay x y ws us hx i y hy) ∙ t)) (sym (sym (reach-stay x y ws us hx i y hy) ∙ sym e ∙ g)))
       (λ p o. ap (λ c. at c p) k ∙ set-other us (4736 + 12 * x) y (omega arith) p (λ q. ⊎-elim (λ a. omega (arith, a, q)) (λ a. omega (arith, a, q)) o));
 }
 
@@ -113,7 +113,7 @@ pub step-leave : (x y : ℕ) (us : Words) (r : Bool) → x < 384 → y < 384 →
 step-leave x y us r hx hy t e g = record {
   more = λ ws i. inner-grow x y ws us hx i us (λ z h n. refl)
       (i .rest y (omega arith) hy ∙ or-false (on ws (4736 + 12 * x) y)
-        ∙ ap₂ (λ a b. on ws (4736 + 12 * x) y || (a && b)) (sym (sym (links-stay x y ws us hx i y hy) ∙ t)) (sym (sym (reach-stay x y ws us hx i y hy) ∙ sym e ∙ g)))
+      ∙ ap₂ (λ a b. on ws (4736 + 12 * x) y || (a && b)) (sym (sym (links-stay x y ws us hx i y hy) ∙ t)) (sym (sym (reach-stay x y ws us hx i y hy) ∙ sym e ∙ g)))
       (λ p o. refl);
 }
 
@@ -166,7 +166,7 @@ all-more n x ws us vs l h a r = record {
     here y j =
         r .done y j
         ∙ ap₂ (λ b c. b || c) (a .rest x y (omega arith) (omega arith) (omega arith))
-            (ap₂ (λ b c. b && c) (ap (λ w. bit w (y % 32)) (a .others (128 + 12 * x + y / 32) (inl (omega arith)))) (ap (λ w. bit w (x % 32)) (a .others (9344 + 12 * y + x / 32) (inr (omega arith)))))
+        (ap₂ (λ b c. b && c) (ap (λ w. bit w (y % 32)) (a .others (128 + 12 * x + y / 32) (inl (omega arith)))) (ap (λ w. bit w (x % 32)) (a .others (9344 + 12 * y + x / 32) (inr (omega arith)))))
 
     go : (z y : ℕ) → z < x + 1 → y < n → (z ≡ x) ⊎ (z ≢ x) → on vs (4736 + 12 * z) y ≡ (on ws (4736 + 12 * z) y || (on ws (128 + 12 * z) y && on ws (9344 + 12 * y) z))
     go z y k j (inl q) = subst (λ c. on vs (4736 + 12 * c) y ≡ (on ws (4736 + 12 * c) y || (on ws (128 + 12 * c) y && on ws (9344 + 12 * y) c))) (sym q) (here y j)

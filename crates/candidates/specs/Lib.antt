@@ -6,3 +6,4 @@ pub mod Links
 pub mod Inner
 pub mod Sets
 pub mod Build
+pub mod Find

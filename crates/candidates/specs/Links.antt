@@ -258,9 +258,9 @@ unfolding optional-list
 member-resolved s x m v i id t w zero ws us e f g h z k l o a = absurd (o refl)
 member-resolved s x m v i id t w (suc d) ws us e f g h z k l o a =
     subst (λ es. Adds x es ws us)
-      (ap₂ (λ (p q : ℕ). (p, 3 * q) ∷ []) e (suc-sub-suc d 0 ∙ sub-zero d)
-        ∙ sym (member-import-edges s m (λ q. z (h ∙ q)) ∙ ap (λ u. map (λ c. (at s (m + 1), direct c)) (optional-list u)) (ap (import-def s) (sym f ∙ sym g) ∙ sym k ∙ sym l)))
-      a
+    (ap₂ (λ (p q : ℕ). (p, 3 * q) ∷ []) e (suc-sub-suc d 0 ∙ sub-zero d)
+    ∙ sym (member-import-edges s m (λ q. z (h ∙ q)) ∙ ap (λ u. map (λ c. (at s (m + 1), direct c)) (optional-list u)) (ap (import-def s) (sym f ∙ sym g) ∙ sym k ∙ sym l)))
+    a
 
 -- The edges of a binding: none where the impl is named otherwise than asked, else that of its trait?.
 binding-same : (s : Words) (b : Bool) (m : ℕ) → impl-flag s flag·named (at s (m + 2)) ≡ b → binding-edges s b m ≡ trait-edges s (at s (m + 1)) (impl-trait s (at s (m + 2)))
@@ -295,8 +295,8 @@ pub binding-some : (s : Words) (x m named i j w v t u : ℕ) (ws us : Words) →
 unfolding impl-trait
 binding-some s x m named i j w v t u ws us e f g h k n o a =
     subst (λ es. Adds x es ws us)
-      (ap₂ (trait-edges s) k (o ∙ n ∙ ap (impl-trait s) (f ∙ e)) ∙ sym (binding-same s (eqb named 1) m (ap (impl-flag s flag·named) (sym e ∙ sym f) ∙ named-is s j w g ∙ ap (λ c. eqb c 1) h)))
-      a
+    (ap₂ (trait-edges s) k (o ∙ n ∙ ap (impl-trait s) (f ∙ e)) ∙ sym (binding-same s (eqb named 1) m (ap (impl-flag s flag·named) (sym e ∙ sym f) ∙ named-is s j w g ∙ ap (λ c. eqb c 1) h)))
+    a
 
 -- A walk along a chain whose records have edges: with those still to come added, those of the whole chain are.
 pub record Walking (f : ℕ → List Edge) (x : ℕ) (s : Words) (head : ℕ) (ws us : Words) (i left : ℕ) : Type 0 where
@@ -331,16 +331,16 @@ pub direct-edges : (s : Words) (d v t₀ t b₀ b m₀ m : ℕ) (w₀ w₁ w₂ 
 unfolding for-each-child trait-edges trait-vis def-trait bindings implicit-members
 direct-edges s d v t₀ t b₀ b m₀ m w₀ w₁ w₂ w₃ e f f′ g g′ h h′ i j k =
     subst (λ es. Adds (3 * d) es w₀ w₃)
-      (ap₂ (λ xs ys. xs ++ ys) (ap₂ (λ xs ys. xs ++ ys) (ap₂ (trait-edges s) e (f′ ∙ f)) (ap (λ c. concat-map (binding-edges s true) (chain s c)) (g′ ∙ g))) (ap (λ c. concat-map (member-edges s) (chain s c)) (h′ ∙ h)) ∙ sym (edges-direct s d))
-      (adds-on (3 * d) (trait-edges s v t ++ concat-map (binding-edges s true) (chain s b)) (concat-map (member-edges s) (chain s m)) w₀ w₂ w₃ (adds-on (3 * d) (trait-edges s v t) (concat-map (binding-edges s true) (chain s b)) w₀ w₁ w₂ i j) k)
+    (ap₂ (λ xs ys. xs ++ ys) (ap₂ (λ xs ys. xs ++ ys) (ap₂ (trait-edges s) e (f′ ∙ f)) (ap (λ c. concat-map (binding-edges s true) (chain s c)) (g′ ∙ g))) (ap (λ c. concat-map (member-edges s) (chain s c)) (h′ ∙ h)) ∙ sym (edges-direct s d))
+    (adds-on (3 * d) (trait-edges s v t ++ concat-map (binding-edges s true) (chain s b)) (concat-map (member-edges s) (chain s m)) w₀ w₂ w₃ (adds-on (3 * d) (trait-edges s v t) (concat-map (binding-edges s true) (chain s b)) w₀ w₁ w₂ i j) k)
 
 pub within-edges : (s : Words) (d b₀ b m₀ m : ℕ) (w₀ w₁ w₂ w₃ : Words) → b₀ ≡ field s header·definitions d 4 → b ≡ b₀ → m₀ ≡ field s header·definitions d 5 → m ≡ m₀
     → Adds (3 * d + 1) ((0, 3 * d) ∷ []) w₀ w₁ → Adds (3 * d + 1) (concat-map (member-edges s) (chain s m)) w₁ w₂ → Adds (3 * d + 1) (concat-map (binding-edges s false) (chain s b)) w₂ w₃ → Adds (3 * d + 1) (edges s (3 * d + 1)) w₀ w₃
 unfolding for-each-child bindings named-members
 within-edges s d b₀ b m₀ m w₀ w₁ w₂ w₃ g g′ h h′ i j k =
     subst (λ es. Adds (3 * d + 1) es w₀ w₃)
-      (ap₂ (λ (xs ys : List Edge). ((0, 3 * d) ∷ []) ++ xs ++ ys) (ap (λ c. concat-map (member-edges s) (chain s c)) (h′ ∙ h)) (ap (λ c. concat-map (binding-edges s false) (chain s c)) (g′ ∙ g)) ∙ sym (edges-within s d))
-      (adds-on (3 * d + 1) (((0, 3 * d) ∷ []) ++ concat-map (member-edges s) (chain s m)) (concat-map (binding-edges s false) (chain s b)) w₀ w₂ w₃ (adds-on (3 * d + 1) ((0, 3 * d) ∷ []) (concat-map (member-edges s) (chain s m)) w₀ w₁ w₂ i j) k)
+    (ap₂ (λ (xs ys : List Edge). ((0, 3 * d) ∷ []) ++ xs ++ ys) (ap (λ c. concat-map (member-edges s) (chain s c)) (h′ ∙ h)) (ap (λ c. concat-map (binding-edges s false) (chain s c)) (g′ ∙ g)) ∙ sym (edges-within s d))
+    (adds-on (3 * d + 1) (((0, 3 * d) ∷ []) ++ concat-map (member-edges s) (chain s m)) (concat-map (binding-edges s false) (chain s b)) w₀ w₂ w₃ (adds-on (3 * d + 1) ((0, 3 * d) ∷ []) (concat-map (member-edges s) (chain s m)) w₀ w₁ w₂ i j) k)
 
 ancestors-parent : (s : Words) (d p : ℕ) → parent s d ≡ suc p → edges s (3 * d + 2) ≡ (0, 3 * d + 1) ∷ ((0, 3 * p + 2) ∷ [])
 unfolding for-each-child optional
@@ -355,14 +355,14 @@ module _ (s : Words) (d p₀ p q : ℕ) (w₀ w₁ : Words) (f : p₀ ≡ field 
   unfolding parent
   parent-edges w₂ h j =
       subst (λ es. Adds (3 * d + 2) es w₀ w₂) (sym (ancestors-parent s d (p - 1) (sym f ∙ sym f′ ∙ (let z : p ≡ suc (p - 1) = omega (arith, h) in z))))
-        (adds-on (3 * d + 2) ((0, 3 * d + 1) ∷ []) ((0, 3 * (p - 1) + 2) ∷ []) w₀ w₁ w₂ i j)
+      (adds-on (3 * d + 2) ((0, 3 * d + 1) ∷ []) ((0, 3 * (p - 1) + 2) ∷ []) w₀ w₁ w₂ i j)
 
   pub prelude-edges : (q₀ : ℕ) (w₂ : Words) → p ≡ 0 → q₀ ≡ at s 11 → q ≡ q₀ → q ≢ 0 → Adds (3 * d + 2) ((0, 3 * (q - 1) + 1) ∷ []) w₁ w₂ → Adds (3 * d + 2) (edges s (3 * d + 2)) w₀ w₂
   unfolding parent optional-list
   prelude-edges q₀ w₂ z g g′ h j =
       let e : at s 11 ≡ suc (q - 1) = sym g ∙ sym g′ ∙ (let z : q ≡ suc (q - 1) = omega (arith, h) in z) in
       subst (λ es. Adds (3 * d + 2) es w₀ w₂) (sym (ancestors-prelude s d (sym f ∙ sym f′ ∙ z) ∙ ap (λ c. (0, 3 * d + 1) ∷ map (λ r. (0, 3 * r + 1)) (optional-list c)) e))
-        (adds-on (3 * d + 2) ((0, 3 * d + 1) ∷ []) ((0, 3 * (q - 1) + 1) ∷ []) w₀ w₁ w₂ i j)
+      (adds-on (3 * d + 2) ((0, 3 * d + 1) ∷ []) ((0, 3 * (q - 1) + 1) ∷ []) w₀ w₁ w₂ i j)
 
   pub no-prelude-edges : (q₀ : ℕ) → p ≡ 0 → q₀ ≡ at s 11 → q ≡ q₀ → q ≡ 0 → Adds (3 * d + 2) (edges s (3 * d + 2)) w₀ w₁
   unfolding parent optional-list
@@ -463,7 +463,7 @@ built-node s n ws us vs h b a = record {
     opens : (x y : ℕ) → y < 384 → (c : Bool) → eqb x n ≡ c → x < suc n → on vs (4736 + 12 * x) y ≡ lets (seen ws) (edges s x) y
     opens x y j true e k =
         subst (λ z. on vs (4736 + 12 * z) y ≡ lets (seen ws) (edges s z) y) (sym (eqb-true x n e))
-          (a .opens y j ∙ ap₂ (λ c d. c || d) (b .fresh-opens n y (omega arith) h j) (lets-same (seen us) (seen ws) (edges s n) y marks))
+        (a .opens y j ∙ ap₂ (λ c d. c || d) (b .fresh-opens n y (omega arith) h j) (lets-same (seen us) (seen ws) (edges s n) y marks))
     opens x y j false e k =
         let ne = eqb-false x n e in
         ap (λ w. bit w (y % 32)) (a .others (4736 + 12 * x + y / 32) (open-off n x y h (omega arith) j ne)) ∙ b .opens x y (omega (arith, ne)) j
@@ -472,12 +472,12 @@ built-node s n ws us vs h b a = record {
 pub built-more : (s : Words) (n d : ℕ) (ws us vs : Words) → n ≤ 128 → d < n → Built s (3 * d) ws us → LinksDefinition s d us vs → Built s (3 * (d + 1)) ws vs
 built-more s n d ws us vs l h b a =
     subst (λ k. Built s k ws vs) (let z : suc (3 * d + 2) ≡ 3 * (d + 1) = omega arith in z)
-      (built-node s (3 * d + 2) ws (a .after-within) vs (omega arith)
-        (subst (λ k. Built s k ws (a .after-within)) (let z : suc (3 * d + 1) ≡ 3 * d + 2 = omega arith in z)
-          (built-node s (3 * d + 1) ws (a .after-direct) (a .after-within) (omega arith)
-            (subst (λ k. Built s k ws (a .after-direct)) (let z : suc (3 * d) ≡ 3 * d + 1 = omega arith in z) (built-node s (3 * d) ws us (a .after-direct) (omega arith) b (a .direct)))
-            (a .within)))
-        (a .ancestors))
+    (built-node s (3 * d + 2) ws (a .after-within) vs (omega arith)
+    (subst (λ k. Built s k ws (a .after-within)) (let z : suc (3 * d + 1) ≡ 3 * d + 2 = omega arith in z)
+    (built-node s (3 * d + 1) ws (a .after-direct) (a .after-within) (omega arith)
+    (subst (λ k. Built s k ws (a .after-direct)) (let z : suc (3 * d) ≡ 3 * d + 1 = omega arith in z) (built-node s (3 * d) ws us (a .after-direct) (omega arith) b (a .direct)))
+    (a .within)))
+    (a .ancestors))
 
 pub built-done : (s : Words) (n d : ℕ) (ws us : Words) → d ≤ n → n ≤ d → Built s (3 * d) ws us → Built s (3 * n) ws us
 built-done s n d ws us h k b = subst (λ c. Built s (3 * c) ws us) (let z : d ≡ n = omega arith in z) b

@@ -139,14 +139,14 @@ module _ (s : Words) (d b j i : ℕ) (ws : Words) (e : j ≡ at s (b + 2)) (f : 
       same x c true q h =
           eq-eqb c i (sym (eqb-true i c q))
           ∙ sym (ap₂ (λ a w. ((a && w) && may-enter s c) && eqb x (binding-node (impl-flag s flag·named c) d)) (impl-is c ∙ q) (ap (seen ws) (sym g) ∙ sym o ∙ z)
-              ∙ ap₂ (λ a w. a && w) (ap (may-enter s) (sym (eqb-true i c q)) ∙ sym n ∙ t) (ap (λ w. eqb x w) (ap (λ w. binding-node (impl-flag s flag·named w) d) (sym (eqb-true i c q)) ∙ sym k) ∙ h))
+          ∙ ap₂ (λ a w. a && w) (ap (may-enter s) (sym (eqb-true i c q)) ∙ sym n ∙ t) (ap (λ w. eqb x w) (ap (λ w. binding-node (impl-flag s flag·named w) d) (sym (eqb-true i c q)) ∙ sym k) ∙ h))
       same x c false q h =
           ne-eqb c i (λ a. eqb-false i c q (sym a)) ∙ sym (ap (λ a. ((a && seen ws (at s (b + 1))) && may-enter s c) && eqb x (binding-node (impl-flag s flag·named c) d)) (impl-is c ∙ q))
 
       other : (x c : ℕ) (q : Bool) → eqb i c ≡ q → eqb x y ≡ false → false ≡ entry s (seen ws) d b x c
       other x c true q h =
           sym (ap (λ w. ((eqb (at s (b + 2)) c && seen ws (at s (b + 1))) && may-enter s c) && w) (ap (λ w. eqb x w) (ap (λ w. binding-node (impl-flag s flag·named w) d) (sym (eqb-true i c q)) ∙ sym k) ∙ h)
-            ∙ and-false ((eqb (at s (b + 2)) c && seen ws (at s (b + 1))) && may-enter s c))
+          ∙ and-false ((eqb (at s (b + 2)) c && seen ws (at s (b + 1))) && may-enter s c))
       other x c false q h = sym (ap (λ a. ((a && seen ws (at s (b + 1))) && may-enter s c) && eqb x (binding-node (impl-flag s flag·named c) d)) (impl-is c ∙ q))
 
       row : (x c : ℕ) → x < 384 → c < 384 → (x ≡ y) ⊎ (x ≢ y) → on (with-bit ws (13952 + 12 * y) i) (13952 + 12 * x) c ≡ (on ws (13952 + 12 * x) c || any (λ a. entry s (seen ws) d a x c) (b ∷ []))

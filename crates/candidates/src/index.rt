@@ -8,8 +8,11 @@ ghost use Rattle.rules.specs.Sheet.{field, trait-def, import-def};
 ghost use Rattle.candidates.specs.Index.{Places, Indexing, looked, Indexes, IndexedAll};
 
 pub const DEFINITIONS: usize = 18560;
+
 const IMPLS: usize = 22657;
+
 const TRAITS: usize = 26754;
+
 const IMPORTS: usize = 30851;
 
 pub fn wide(w: u32) -> usize

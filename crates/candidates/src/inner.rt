@@ -6,13 +6,14 @@ ghost use Prim.Native.Nat.{_+_, _*_, _≤_, _<_};
 ghost use lib.ListN.{length};
 ghost use Rattle.candidates.specs.Bits.{on};
 ghost use Rattle.candidates.specs.Inner.{Selves, InnerStep, InnerRow, InnerAll};
-
 use crate::rows::on;
 use crate::rows::set_bit;
 use crate::rows::skip;
 
 const LINKS: usize = 128;
+
 const OPEN: usize = 4736;
+
 const REACH: usize = 9344;
 
 // Every node reaches itself.

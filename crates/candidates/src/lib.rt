@@ -10,6 +10,7 @@ ghost use Rattle.candidates.specs.Links.{LinkingAll};
 ghost use Rattle.candidates.specs.Sets.{BindingAll};
 ghost use Rattle.candidates.specs.Build.{Prepared, Connected, Filled, Candidates};
 
+pub mod find;
 mod index;
 mod inner;
 mod links;

@@ -9,7 +9,6 @@ ghost use Rattle.rules.specs.Lists.{concat-map};
 ghost use Rattle.rules.specs.Sheet.{chain};
 ghost use Rattle.rules.specs.Candidates.{member-edges, binding-edges, edges};
 ghost use Rattle.candidates.specs.Links.{Linking, LinkingAll, Adds, trait-edges, LinksDefinition, Built};
-
 use crate::index::definition;
 use crate::index::impl_word;
 use crate::index::import_def;
@@ -19,6 +18,7 @@ use crate::rows::set_bit;
 use crate::source::visible;
 
 const LINKS: usize = 128;
+
 const OPEN: usize = 4736;
 
 // Adds an edge from node x, of a vis, to node y.
@@ -74,7 +74,13 @@ fn link_binding(s: &[u32], ws: &mut [u32], x: usize, named: u32, m: usize)
     if impl_word(s, ws, i, 2) / 8 % 2 != named {
         return;
     }
-    link_trait(s, ws, x, words::offset(s, m, 1), wide(impl_word(s, ws, i, 3)));
+    link_trait(
+        s,
+        ws,
+        x,
+        words::offset(s, m, 1),
+        wide(impl_word(s, ws, i, 3)),
+    );
 }
 
 // Adds the edges of the members on a chain.

@@ -8,7 +8,6 @@ ghost use Rattle.rules.specs.Candidates.{may-enter};
 ghost use Rattle.rules.specs.Admission.{binding-node};
 ghost use Rattle.candidates.specs.Index.{Indexes};
 ghost use Rattle.candidates.specs.Sets.{Binding, BindingAll, Enters, Bound};
-
 use crate::index::definition;
 use crate::index::impl_word;
 use crate::index::wide;

@@ -4,10 +4,9 @@ ghost use Prim.Native.Nat.{_≤_, _<_};
 ghost use lib.ListN.{length};
 ghost use Rattle.candidates.specs.Index.{Indexes};
 ghost use Rattle.candidates.specs.Source.{Marked, Climbed, Sourced, seen};
-
+use crate::index::DEFINITIONS;
 use crate::index::definition;
 use crate::index::wide;
-use crate::index::DEFINITIONS;
 
 // Marks a definition.
 fn mark(ws: &mut [u32], d: usize)

@@ -1,3 +1,4 @@
+-- `bit`: the digit after a shift.
 use Rattle.candidates.specs.Bits.{bit-is}
 use borrow.Author.Needs.{needs}
 use Rattle.candidates.proofs.rows.bit.Statement.{statement}

@@ -1,3 +1,4 @@
+-- `on`: the bit of its word.
 use Rattle.candidates.specs.Bits.{on-is}
 use borrow.Author.Needs.{needs}
 use Rattle.candidates.proofs.rows.on.Statement.{statement}

@@ -1,3 +1,4 @@
+-- `set_bit`: the bit of its word.
 use Rattle.candidates.specs.Bits.{with-bit-is}
 use borrow.Author.Needs.{needs}
 use Rattle.candidates.proofs.rows.set_bit.Statement.{statement}
