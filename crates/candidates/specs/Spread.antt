@@ -5,7 +5,7 @@ use mathlib.Core.Path.{_≡_, refl, sym, _∙_, ap, ap₂, subst}
 use mathlib.Core.Bool.{Bool, true, false, not, _||_}
 use mathlib.Core.List.{List, [], _∷_}
 use mathlib.Core.Logic.{_⊎_, inl, inr, ⊎-elim, _↔_, _≢_}
-use native.Mathlib.Nat.{not-suc-le-zero, le-of-suc-le-suc, div-one, pow-succ', div-div-eq-div-mul}
+use native.Mathlib.Nat.{not-suc-le-zero, le-of-suc-le-suc, zero-div, div-one, pow-succ', div-div-eq-div-mul}
 use native.Mathlib.Numerals.{add-one}
 use native.Mathlib.Omega.{arith}
 use lib.Bits.{bitOr}
@@ -435,3 +435,15 @@ due false = 0
 pub going-less : (n m : ℕ) (us vs : Words) (changed r : Bool) → changed ≡ true → Passed n m (2 * n) us vs r → slack vs + due r < slack us + due changed
 going-less n m us vs changed true e g = rw e (omega (arith, g .moved .fell refl))
 going-less n m us vs changed false e g = rw e (rw (g .moved .still refl) (omega arith))
+
+-- A word that is 0 has no bit.
+pub empty-word : (us : Words) (p y z w : ℕ) → w ≡ at us (p + z / 32) → w ≡ 0 → z % 32 ≡ 0 → Empty us p y z → Empty us p y (z + 32)
+unfolding on bit
+empty-word us p y z w e f m o = record { up = omega (arith, o .up); none = λ k l h. go k l h (z - k) refl }
+  where
+    go : (k : ℕ) → y ≤ k → k < z + 32 → (d : ℕ) → z - k ≡ d → on us p k ≡ false
+    go k l h (suc d) q = o .none k l (omega arith)
+    go k l h zero q =
+        let a : k / 32 ≡ z / 32 = omega arith in
+        ap (λ x. eqb (x / 2 ^ (k % 32) % 2) 1) (ap (λ c. at us (p + c)) a ∙ sym e ∙ f)
+        ∙ ne-eqb (0 / 2 ^ (k % 32) % 2) 1 (λ v. omega (arith, ap (λ x. x % 2) (zero-div (2 ^ (k % 32))), v))

@@ -49,7 +49,7 @@ fn inner_row(ws: &mut [u32], n: usize, x: usize)
             inner_edge(ws, x, y);
             y += 1;
         } else {
-            y = skip(ws, LINKS + 12 * x, y);
+            y = skip(ws, LINKS + 12 * x, y, n);
         }
     }
 }

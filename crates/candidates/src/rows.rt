@@ -54,7 +54,7 @@ fn wide(w: u32) -> usize
 }
 
 // Past the bits that are 0, from one of them on: to the next 1 of its word, or to the next word.
-pub fn skip(ws: &[u32], p: usize, y: usize) -> usize
+fn step(ws: &[u32], p: usize, y: usize) -> usize
     requires { ⌜ (y < 384) × (on (now ws) p y ≡ false) ⌝ }
     ensures { λ r. ⌜ Empty (now (ws .entry)) p y r ⌝ }
 {
@@ -65,6 +65,24 @@ pub fn skip(ws: &[u32], p: usize, y: usize) -> usize
     } else {
         y / 32 * 32 + 32
     }
+}
+
+// Past the bits that are 0, from one of them on: to the next 1 of its word, or to the next word that has one, or past n.
+pub fn skip(ws: &[u32], p: usize, y: usize, n: usize) -> usize
+    requires { ⌜ (y < 384) × (n ≤ 384) × (on (now ws) p y ≡ false) ⌝ }
+    ensures { λ r. ⌜ Empty (now (ws .entry)) p y r ⌝ }
+{
+    let mut z = step(ws, p, y);
+    while z < n {
+        if z % 32 != 0 {
+            return z;
+        }
+        if words::offset(ws, p, z / 32) != 0 {
+            return z;
+        }
+        z += 32;
+    }
+    z
 }
 
 // Row x takes what row y has, to which its node leads; whether that changed it.
@@ -91,7 +109,7 @@ fn gather(ws: &mut [u32], n: usize, m: usize, x: usize) -> bool
             changed = changed | more;
             y += 1;
         } else {
-            y = skip(ws, m + 12 * x, y);
+            y = skip(ws, m + 12 * x, y, n);
         }
     }
     changed

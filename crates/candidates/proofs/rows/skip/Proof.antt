@@ -1,50 +1,55 @@
--- `skip`: the bits below the trailing zeros of what is left of the word are 0.
+-- `skip`: no bit from y on, below z.
 use borrow.Author.Needs.{needs}
-use Rattle.candidates.specs.Spread.{skip-bits, skip-word}
+use Prim.Native.Nat.{_-_}
+use Rattle.candidates.specs.Spread.{Empty, empty-word}
 use Rattle.candidates.proofs.rows.skip.Statement.{statement}
 use Rattle.candidates.proofs.rows.skip.Tie as tie
 
-offset-requires : tie.Need-offset-requires
+abbrev Inv-loop : tie.InvT-loop
+Inv-loop ws p y n z₀ z = Empty ws p y z
+
+abbrev μ-loop : tie.MeasureT-loop
+μ-loop ws p y n z₀ z = n - z
+
+step-requires : tie.Need-step-requires Inv-loop μ-loop
+step-requires c κs = search needs
+
+loop-holds : tie.Need-loop-holds Inv-loop μ-loop
+loop-holds c = search needs
+
+returns : tie.Need-returns Inv-loop μ-loop
+returns c = search needs
+
+offset-requires : tie.Need-offset-requires Inv-loop μ-loop
 offset-requires c κs = search needs
 
-cast-wide : tie.Need-cast-wide
-cast-wide c = search needs
+returns-2 : tie.Need-returns-2 Inv-loop μ-loop
+returns-2 c = search needs
 
-shr-wide : tie.Need-shr-wide
-shr-wide c = search needs
+add-z : tie.Need-add-z Inv-loop μ-loop
+add-z c = search needs
 
-wide-requires : tie.Need-wide-requires
-wide-requires c κs = search needs
+loop-less : tie.Need-loop-less Inv-loop μ-loop
+loop-less c = search needs
 
-add-if1 : tie.Need-add-if1
-add-if1 c = search needs
+loop-again : tie.Need-loop-again Inv-loop μ-loop
+loop-again c = empty-word _ _ _ _ _ (c .before .offset .ensures) (c .if2 .left) (c .before .before .if1 .left) (c .before .before .before .before .loop .inv)
 
-add-result : tie.Need-add-result
-add-result c = search needs
-
-mul-result : tie.Need-mul-result
-mul-result c = search needs
-
-add-result-2 : tie.Need-add-result-2
-add-result-2 c = search needs
-
-returns : tie.Need-returns
-returns c = search (needs, skip-bits)
-
-returns-2 : tie.Need-returns-2
-returns-2 c = search (needs, skip-word)
+returns-3 : tie.Need-returns-3 Inv-loop μ-loop
+returns-3 c = search needs
 
 pub skip-spec : {M : Type 1} → statement M
 skip-spec =
     tie.close
     (tie.spec
-    offset-requires
-    cast-wide
-    shr-wide
-    wide-requires
-    add-if1
-    add-result
-    mul-result
-    add-result-2
+    Inv-loop
+    μ-loop
+    step-requires
+    loop-holds
     returns
-    returns-2)
+    offset-requires
+    returns-2
+    add-z
+    loop-less
+    loop-again
+    returns-3)
