@@ -1,14 +1,12 @@
 -- Laws of the changes of a buffer of trees: what it holds after each, and that what lies outside it is as it was.
-use Prim.Native.Nat.{ℕ, zero, suc, _+_, _-_, _*_, _≤_, _<_}
-use mathlib.Core.Path.{_≡_, refl, sym, _∙_, ap, subst}
-use mathlib.Core.List.{[], _∷_, _++_, append-nil}
+use Prim.Native.Nat.{ℕ, zero, suc, _+_, _-_, _≤_, _<_}
+use mathlib.Core.Path.{_≡_, refl, sym, _∙_, ap}
+use mathlib.Core.List.{_∷_, _++_, append-nil}
 use mathlib.Core.Logic.{_≢_, _⊎_, inl, inr, ⊎-elim}
-use native.Mathlib.Decide.{ℕ-discrete}
 use native.Mathlib.Omega.{arith}
-use lib.ListN.{length, getD, set, drop, length-set, length-append, List·getD-append}
+use lib.ListN.{length, set, drop, length-set, length-append, List·getD-append}
 use lib.Seq.{getD-set-same, getD-set-other, getD-append-add, getD-drop}
 use Rattle.rules.specs.Lists.{Words}
-use Rattle.rules.specs.Limits.{limit·tree-nodes}
 use Rattle.rules.specs.Layout.{tree·def}
 use Rattle.rules.specs.Sheet.{at}
 use Rattle.rules.specs.Search.{Trees, end, tree, tree-size, leaf, before}

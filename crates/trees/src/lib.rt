@@ -9,8 +9,14 @@ ghost use Rattle.trees.specs.Forests.{node-word, word·kind, word·id, w
 ghost use Rattle.trees.specs.Carries.{Carries, Clear};
 ghost use Rattle.trees.specs.Changes.{Copies, Appends, Wraps};
 
+// The words of a buffer: the count, and room for 256 nodes.
+pub const TREES: usize = 257;
+
+// The kind of a Def.
+const DEF: u32 = 2;
+
 // Carries n words from one slice into another.
-fn carry(from: &[u32], a: usize, to: &mut [u32], b: usize, n: usize)
+pub fn carry(from: &[u32], a: usize, to: &mut [u32], b: usize, n: usize)
     requires { ⌜ a + n ≤ length (now from) ⌝ }
     requires { ⌜ b + n ≤ length (now to) ⌝ }
     ensures { λ _. ⌜ Carries (now (from .entry)) (now (to .entry)) (now (to .exit)) a b n ⌝ }
@@ -23,7 +29,7 @@ fn carry(from: &[u32], a: usize, to: &mut [u32], b: usize, n: usize)
 }
 
 // Carries n words within a slice, upwards or to a place apart.
-fn carry_within(ws: &mut [u32], a: usize, b: usize, n: usize)
+pub fn carry_within(ws: &mut [u32], a: usize, b: usize, n: usize)
     requires { ⌜ a + n ≤ length (now ws) ⌝ }
     requires { ⌜ b + n ≤ length (now ws) ⌝ }
     requires { ⌜ Clear a b n ⌝ }
@@ -131,7 +137,7 @@ pub fn wrap(ws: &mut [u32], b: usize, id: u32)
     ensures { λ _. ⌜ Wraps (now (ws .entry)) (now (ws .exit)) b id ⌝ }
 {
     let n = words::next(ws, b);
-    let w = node(2, id, n as u32);
+    let w = node(DEF, id, n as u32);
     carry_within(ws, b + 1, b + 2, n);
     ws[b] = n as u32 + 1;
     ws[b + 1] = w;
