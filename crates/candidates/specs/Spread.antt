@@ -1,0 +1,449 @@
+-- Rows that spread along a relation: n rows of 384 bits at place m say which node leads to which, and each of the n rows at m + 9216 takes what the rows that its node leads to have.
+-- What is there in the end is what walks along the relation reach.
+use Prim.Native.Nat.{ℕ, zero, suc, _+_, _*_, _-_, _/_, _%_, _^_, _≤_, _<_}
+use mathlib.Core.Path.{_≡_, refl, sym, _∙_, ap, ap₂, subst}
+use mathlib.Core.Bool.{Bool, true, false, not, _||_}
+use mathlib.Core.List.{List, [], _∷_}
+use mathlib.Core.Logic.{_⊎_, inl, inr, ⊎-elim, _↔_, _≢_}
+use native.Mathlib.Nat.{not-suc-le-zero, le-of-suc-le-suc, zero-div, div-one, pow-succ', div-div-eq-div-mul}
+use native.Mathlib.Numerals.{add-one}
+use native.Mathlib.Omega.{arith}
+use lib.Bits.{bitOr}
+use lib.Count.{trailingZeros, under}
+use lib.Dec.{T, eqb}
+use lib.Pow.{shr-shr}
+use lib.ListN.{length, set, length-set}
+use lib.Seq.{getD-set-same, getD-set-other}
+use borrow.Author.Tests.{eqb-true, eqb-false, ne-eqb}
+use Rattle.rules.specs.Lists.{Words}
+use Rattle.rules.specs.Sheet.{at}
+use Rattle.candidates.specs.Bits.{bit, on, bit-or, join-words, Moved, moved-none, slack, Joined}
+
+-- Node x leads to node y; node x has j.
+unfoldable pub leads : ℕ → Words → ℕ → ℕ → Bool
+leads m ws x y = on ws (m + 12 * x) y
+
+unfoldable pub has : ℕ → Words → ℕ → ℕ → Bool
+has m ws x j = on ws (m + 9216 + 12 * x) j
+
+-- A walk along a relation of n nodes.
+pub data Walk (R : ℕ → ℕ → Bool) (n : ℕ) : ℕ → ℕ → Type 0 where
+  stay : {x : ℕ} → Walk R n x x
+  step : {x y z : ℕ} → T (R x y) → y < n → Walk R n y z → Walk R n x z
+
+pub walk-on : {R : ℕ → ℕ → Bool} {n x y z : ℕ} → Walk R n x y → Walk R n y z → Walk R n x z
+walk-on stay q = q
+walk-on (step t h p) q = step t h (walk-on p q)
+
+-- A walk from x leads to a node that has j.
+pub record Comes (n m : ℕ) (ws : Words) (x j : ℕ) : Type 0 where
+  pub end : ℕ
+  pub below : end < n
+  pub walk : Walk (leads m ws) n x end
+  pub there : T (has m ws end j)
+
+-- Words joined: those of the row, and all others.
+module _ (a b : ℕ) (ws : Words) (apart : (a + 12 ≤ b) ⊎ (b + 12 ≤ a)) (fits : a + 12 ≤ length ws) where
+  joined-length : (k : ℕ) → length (join-words k a b ws) ≡ length ws
+  unfolding join-words
+  joined-length zero = refl
+  joined-length (suc k) = simp length-set (joined-length k)
+
+  joined-out : (k p : ℕ) → (p < a) ⊎ (a + k ≤ p) → at (join-words k a b ws) p ≡ at ws p
+  unfolding join-words
+  joined-out zero p h = refl
+  joined-out (suc k) p h =
+      getD-set-other (join-words k a b ws) (a + k) p _ 0 (λ e. ⊎-elim (λ l. omega (arith, l, e)) (λ l. omega (arith, l, e)) h)
+      ∙ joined-out k p (⊎-elim (λ l. inl l) (λ l. inr (omega (arith, l))) h)
+
+  joined-in : (k i : ℕ) → k ≤ 12 → i < k → at (join-words k a b ws) (a + i) ≡ bitOr (at ws (a + i)) (at ws (b + i))
+  unfolding join-words
+  joined-in zero i l h = absurd (not-suc-le-zero h)
+  joined-in (suc k) i l h = go (k - i) refl (joined-in k i)
+    where
+      us : Words
+      us = join-words k a b ws
+
+      there : at us (b + k) ≡ at ws (b + k)
+      there = joined-out k (b + k) (⊎-elim (λ q. inr (omega (arith, q))) (λ q. inl (omega (arith, q))) apart)
+
+      go : (d : ℕ) → k - i ≡ d → (k ≤ 12 → i < k → at us (a + i) ≡ bitOr (at ws (a + i)) (at ws (b + i))) → at (set us (a + k) (bitOr (at us (a + k)) (at us (b + k)))) (a + i) ≡ bitOr (at ws (a + i)) (at ws (b + i))
+      go zero e ih =
+          let q : i ≡ k = omega arith in
+          ap (λ z. at (set us (a + k) (bitOr (at us (a + k)) (at us (b + k)))) (a + z)) q
+          ∙ getD-set-same us (a + k) _ 0 (omega (arith, joined-length k))
+          ∙ ap₂ bitOr (joined-out k (a + k) (inr (omega arith))) there
+          ∙ ap (λ z. bitOr (at ws (a + z)) (at ws (b + z))) (sym q)
+      go (suc d) e ih =
+          getD-set-other us (a + k) (a + i) _ 0 (λ z. omega (arith, z)) ∙ ih (omega arith) (omega arith)
+
+  -- A bit of the row, and of another row.
+  pub on-joined : (j : ℕ) → j < 384 → on (join-words 12 a b ws) a j ≡ (on ws a j || on ws b j)
+  unfolding on
+  on-joined j h = ap (λ w. bit w (j % 32)) (joined-in 12 (j / 32) (omega arith) (omega arith)) ∙ bit-or (at ws (a + j / 32)) (at ws (b + j / 32)) (j % 32)
+
+  pub on-others : (q j : ℕ) → (q + 12 ≤ a) ⊎ (a + 12 ≤ q) → j < 384 → on (join-words 12 a b ws) q j ≡ on ws q j
+  unfolding on
+  on-others q j s h = ap (λ w. bit w (j % 32)) (joined-out 12 (q + j / 32) (⊎-elim (λ l. inl (omega (arith, l))) (λ l. inr (omega (arith, l))) s))
+
+-- Outside the rows that spread.
+abbrev pub Outside : ℕ → ℕ → ℕ → Type 0
+Outside n m p = (p < m + 9216) ⊎ (m + 9216 + 12 * n ≤ p)
+
+-- Rows that have what they had, and what walks lead to.
+pub record Grown (n m : ℕ) (ws us : Words) : Type 0 where
+  pub size : length us ≡ length ws
+  pub same : (p : ℕ) → Outside n m p → at us p ≡ at ws p
+  pub keeps : (x j : ℕ) → x < n → j < 384 → T (has m ws x j) → T (has m us x j)
+  pub sound : (x j : ℕ) → x < n → j < 384 → T (has m us x j) → Comes n m ws x j
+
+-- The relation stays.
+leads-same : (n m : ℕ) (ws us : Words) → n ≤ 384 → ((p : ℕ) → Outside n m p → at us p ≡ at ws p) → (x y : ℕ) → x < n → y < 384 → leads m us x y ≡ leads m ws x y
+unfolding leads on
+leads-same n m ws us l same x y hx hy = ap (λ w. bit w (y % 32)) (same (m + 12 * x + y / 32) (inl (omega arith)))
+
+walk-same : {n : ℕ} (m : ℕ) (ws us : Words) → n ≤ 384 → ((p : ℕ) → Outside n m p → at us p ≡ at ws p) → {x y : ℕ} → x < n → Walk (leads m us) n x y → Walk (leads m ws) n x y
+walk-same m ws us l same h stay = stay
+walk-same {n} m ws us l same h (step {x} {y} t k p) = step (subst T (leads-same n m ws us l same x y h (omega arith)) t) k (walk-same m ws us l same k p)
+
+pub grown-none : (n m : ℕ) (ws : Words) → Grown n m ws ws
+grown-none n m ws = record { size = refl; same = λ p o. refl; keeps = λ x j hx hj t. t; sound = λ x j hx hj t. record { end = x; below = hx; walk = stay; there = t } }
+
+pub grown-on : (n m : ℕ) (ws us vs : Words) → n ≤ 384 → Grown n m ws us → Grown n m us vs → Grown n m ws vs
+grown-on n m ws us vs l g k = record {
+  size = k .size ∙ g .size;
+  same = λ p o. k .same p o ∙ g .same p o;
+  keeps = λ x j hx hj t. k .keeps x j hx hj (g .keeps x j hx hj t);
+  sound = λ x j hx hj t.
+      let a = k .sound x j hx hj t in
+      let b = g .sound (a .end) j (a .below) hj (a .there) in
+      record { end = b .end; below = b .below; walk = walk-on (walk-same m ws us l (g .same) hx (a .walk)) (b .walk); there = b .there };
+}
+
+or-left : (a b : Bool) → T a → T (a || b)
+or-left true b t = tt
+or-left false b t = absurd t
+
+or-cases : (a b : Bool) → T (a || b) → T a ⊎ T b
+or-cases true b t = inl tt
+or-cases false b t = inr t
+
+or-right : (a b : Bool) → T b → T (a || b)
+or-right true b t = tt
+or-right false b t = t
+
+equal-or : (z x : ℕ) → (z ≡ x) ⊎ (z ≢ x)
+equal-or z x = go (eqb z x) refl
+  where
+    go : (b : Bool) → eqb z x ≡ b → (z ≡ x) ⊎ (z ≢ x)
+    go true e = inl (eqb-true z x e)
+    go false e = inr (eqb-false z x e)
+
+-- Row x joined with row y, to which x leads.
+module _ (n m x y : ℕ) (ws us : Words) (l : n ≤ 384) (hx : x < n) (hy : y < n) (ne : y ≢ x) (fits : m + 9216 + 12 * n ≤ length ws) (t : T (leads m ws x y)) where
+  abbrev a : ℕ
+  a = m + 9216 + 12 * x
+
+  abbrev b : ℕ
+  b = m + 9216 + 12 * y
+
+  apart : (a + 12 ≤ b) ⊎ (b + 12 ≤ a)
+  apart = go (x - y) refl
+    where
+      go : (d : ℕ) → x - y ≡ d → (a + 12 ≤ b) ⊎ (b + 12 ≤ a)
+      go zero e = inl (omega (arith, ne))
+      go (suc d) e = inr (omega arith)
+
+  grown-joined : us ≡ join-words 12 a b ws → Grown n m ws us
+  unfolding has
+  grown-joined e = rw e (record {
+    size = joined-length a b ws apart (omega arith) 12;
+    same = λ p o. joined-out a b ws apart (omega arith) 12 p (⊎-elim (λ h. inl (omega (arith, h))) (λ h. inr (omega (arith, h))) o);
+    keeps = keeps;
+    sound = sound;
+  })
+    where
+      other : (z : ℕ) → z ≢ x → (m + 9216 + 12 * z + 12 ≤ a) ⊎ (a + 12 ≤ m + 9216 + 12 * z)
+      other z q = go (x - z) refl
+        where
+          go : (d : ℕ) → x - z ≡ d → (m + 9216 + 12 * z + 12 ≤ a) ⊎ (a + 12 ≤ m + 9216 + 12 * z)
+          go zero e = inr (omega (arith, q))
+          go (suc d) e = inl (omega arith)
+
+      keeps : (z j : ℕ) → z < n → j < 384 → T (on ws (m + 9216 + 12 * z) j) → T (on (join-words 12 a b ws) (m + 9216 + 12 * z) j)
+      keeps z j hz hj u = ⊎-elim at-row elsewhere (equal-or z x)
+        where
+          at-row : z ≡ x → T (on (join-words 12 a b ws) (m + 9216 + 12 * z) j)
+          at-row q = subst (λ w. T (on (join-words 12 a b ws) (m + 9216 + 12 * w) j)) (sym q) (subst T (sym (on-joined a b ws apart (omega arith) j hj)) (or-left (on ws a j) (on ws b j) (subst (λ w. T (on ws (m + 9216 + 12 * w) j)) q u)))
+
+          elsewhere : z ≢ x → T (on (join-words 12 a b ws) (m + 9216 + 12 * z) j)
+          elsewhere q = subst T (sym (on-others a b ws apart (omega arith) (m + 9216 + 12 * z) j (other z q) hj)) u
+
+      sound : (z j : ℕ) → z < n → j < 384 → T (on (join-words 12 a b ws) (m + 9216 + 12 * z) j) → Comes n m ws z j
+      sound z j hz hj u = ⊎-elim at-row elsewhere (equal-or z x)
+        where
+          from : T (on ws a j) ⊎ T (on ws b j) → Comes n m ws x j
+          from (inl v) = record { end = x; below = hx; walk = stay; there = v }
+          from (inr v) = record { end = y; below = hy; walk = step t hy stay; there = v }
+
+          at-row : z ≡ x → Comes n m ws z j
+          at-row q = subst (λ w. Comes n m ws w j) (sym q) (from (or-cases (on ws a j) (on ws b j) (subst T (on-joined a b ws apart (omega arith) j hj) (subst (λ w. T (on (join-words 12 a b ws) (m + 9216 + 12 * w) j)) q u))))
+
+          elsewhere : z ≢ x → Comes n m ws z j
+          elsewhere q = record { end = z; below = hz; walk = stay; there = subst T (on-others a b ws apart (omega arith) (m + 9216 + 12 * z) j (other z q) hj) u }
+
+-- Two moves are a move.
+pub moved-on : (ws us vs : Words) (a b : Bool) → Moved ws us a → Moved us vs b → Moved ws vs (a || b)
+moved-on ws us vs true true k g = record { still = λ e. absurd (subst T e tt); fell = λ e. omega (arith, k .fell refl, g .fell refl) }
+moved-on ws us vs true false k g = record { still = λ e. absurd (subst T e tt); fell = λ e. subst (λ l. slack l < slack ws) (sym (g .still refl)) (k .fell refl) }
+moved-on ws us vs false true k g = record { still = λ e. absurd (subst T e tt); fell = λ e. subst (λ l. slack vs < slack l) (k .still refl) (g .fell refl) }
+moved-on ws us vs false false k g = record { still = λ e. g .still refl ∙ k .still refl; fell = λ e. absurd (subst T (sym e) tt) }
+
+or-none : (a b : Bool) → (a || b) ≡ false → (a ≡ false) × (b ≡ false)
+or-none true b e = absurd (subst T e tt)
+or-none false b e = (refl, e)
+
+-- Node x has what the nodes below y have to which it leads.
+abbrev pub HasBelow : ℕ → ℕ → Words → ℕ → ℕ → Type 0
+HasBelow n m ws x y = (z j : ℕ) → z < y → z < n → j < 384 → T (leads m ws x z) → T (has m ws z j) → T (has m ws x j)
+
+-- Node x has taken what the nodes below y have to which it leads; where nothing changed it had that.
+pub record Taken (n m x y : ℕ) (ws us : Words) (changed : Bool) : Type 0 where
+  pub grown : Grown n m ws us
+  pub moved : Moved ws us changed
+  pub closed : changed ≡ false → HasBelow n m ws x y
+
+pub taken-none : (n m x : ℕ) (ws : Words) → Taken n m x 0 ws ws false
+taken-none n m x ws = record { grown = grown-none n m ws; moved = moved-none ws; closed = λ e z j h k l t u. absurd (not-suc-le-zero h) }
+
+pub taken-join : (n m x y : ℕ) (ws us vs : Words) (changed r : Bool) → n ≤ 384 → x < n → y < n → y ≢ x → m + 9216 + 12 * n ≤ length us → on us (m + 12 * x) y ≡ true
+    → Taken n m x y ws us changed → Joined us vs r (m + 9216 + 12 * x) (m + 9216 + 12 * y) → Taken n m x (y + 1) ws vs (changed || r)
+unfolding leads has
+taken-join n m x y ws us vs changed r l hx hy ne fits t k i = record {
+  grown = grown-on n m ws us vs l (k .grown) (grown-joined n m x y us vs l hx hy ne fits (subst T (sym t) tt) (i .is));
+  moved = moved-on ws us vs changed r (k .moved) (i .moved);
+  closed = λ e z j h hz hj u v. had (or-none changed r e) z j h hz hj u v;
+}
+  where
+    had : (changed ≡ false) × (r ≡ false) → (z j : ℕ) → z < y + 1 → z < n → j < 384 → T (leads m ws x z) → T (has m ws z j) → T (has m ws x j)
+    had e z j h hz hj u v = ⊎-elim here before (equal-or z y)
+      where
+        before : z ≢ y → T (has m ws x j)
+        before q = k .closed (e .0) z j (omega (arith, q)) hz hj u v
+
+        here : z ≡ y → T (has m ws x j)
+        here q =
+            let s : us ≡ ws = k .moved .still (e .0) in
+            let w : T (on us (m + 9216 + 12 * y) j) = subst (λ c. T (on us (m + 9216 + 12 * c) j)) q (subst (λ c. T (on c (m + 9216 + 12 * z) j)) (sym s) v) in
+            let o = on-joined (m + 9216 + 12 * x) (m + 9216 + 12 * y) us (apart n m x y us vs l hx hy ne fits (subst T (sym t) tt)) (omega arith) j hj in
+            let g : T (on (join-words 12 (m + 9216 + 12 * x) (m + 9216 + 12 * y) us) (m + 9216 + 12 * x) j) = subst T (sym o) (or-right (on us (m + 9216 + 12 * x) j) (on us (m + 9216 + 12 * y) j) w) in
+            subst (λ c. T (on c (m + 9216 + 12 * x) j)) (sym (i .is) ∙ i .moved .still (e .1) ∙ s) g
+
+pub taken-self : (n m x y : ℕ) (ws us : Words) (changed : Bool) → y ≡ x → Taken n m x y ws us changed → Taken n m x (y + 1) ws us changed
+taken-self n m x y ws us changed q k = record {
+  grown = k .grown;
+  moved = k .moved;
+  closed = λ e z j h hz hj u v. ⊎-elim (λ (s : z ≡ y). subst (λ c. T (has m ws c j)) (s ∙ q) v) (λ s. k .closed e z j (omega (arith, s)) hz hj u v) (equal-or z y);
+}
+
+-- There is room for the rows, and x is a node.
+pub record Room (n m x : ℕ) (ws : Words) : Type 0 where
+  pub few : n ≤ 384
+  pub node : x < n
+  pub fits : m + 9216 + 12 * n ≤ length ws
+
+-- Node x takes what node y has: whatever was taken before, it is one node more.
+pub record Takes (n m x y : ℕ) (us vs : Words) (r : Bool) : Type 0 where
+  pub size : length vs ≡ length us
+  pub more : (ws : Words) (changed : Bool) → Taken n m x y ws us changed → Taken n m x (y + 1) ws vs (changed || r)
+
+or-false : (b : Bool) → b ≡ (b || false)
+or-false true = refl
+or-false false = refl
+
+pub takes-self : (n m x y : ℕ) (us : Words) → y ≡ x → Takes n m x y us us false
+takes-self n m x y us e = record { size = refl; more = λ ws changed k. subst (Taken n m x (y + 1) ws us) (or-false changed) (taken-self n m x y ws us changed e k) }
+
+pub takes-join : (n m x y : ℕ) (us vs : Words) (r : Bool) → Room n m x us → y < n → y ≢ x → on us (m + 12 * x) y ≡ true → length vs ≡ length us
+    → Joined us vs r (m + 9216 + 12 * x) (m + 9216 + 12 * y) → Takes n m x y us vs r
+takes-join n m x y us vs r o hy ne t s i = record { size = s; more = λ ws changed k. taken-join n m x y ws us vs changed r (o .few) (o .node) hy ne (o .fits) t k i }
+
+pub taken-more : (n m x y : ℕ) (ws us vs : Words) (changed r : Bool) → Taken n m x y ws us changed → Takes n m x y us vs r → Taken n m x (y + 1) ws vs (changed || r)
+taken-more n m x y ws us vs changed r k g = g .more ws changed k
+
+pub room-same : (n m x : ℕ) (ws us : Words) → length us ≡ length ws → Room n m x ws → Room n m x us
+room-same n m x ws us e o = record { few = o .few; node = o .node; fits = omega (arith, o .fits) }
+
+-- The row has no bit from y on, below w.
+pub record Empty (us : Words) (p y w : ℕ) : Type 0 where
+  pub up : y < w
+  pub none : (k : ℕ) → y ≤ k → k < w → on us p k ≡ false
+
+pub taken-skip : (n m x y w : ℕ) (ws us : Words) (changed : Bool) → Empty us (m + 12 * x) y w → Taken n m x y ws us changed → Taken n m x w ws us changed
+unfolding leads
+taken-skip n m x y w ws us changed o k = record {
+  grown = k .grown;
+  moved = k .moved;
+  closed = λ e z j h hz hj u v. go e z j h hz hj u v (y - z) refl;
+}
+  where
+    go : changed ≡ false → (z j : ℕ) → z < w → z < n → j < 384 → T (on ws (m + 12 * x) z) → T (has m ws z j) → (d : ℕ) → y - z ≡ d → T (has m ws x j)
+    go e z j h hz hj u v zero q = absurd (subst T (ap (λ c. on c (m + 12 * x) z) (sym (k .moved .still e)) ∙ o .none z (omega arith) h) u)
+    go e z j h hz hj u v (suc d) q = k .closed e z j (omega arith) hz hj u v
+
+pub taken-done : (n m x y : ℕ) (ws us : Words) (changed : Bool) → n ≤ y → Taken n m x y ws us changed → Taken n m x n ws us changed
+taken-done n m x y ws us changed h k = record { grown = k .grown; moved = k .moved; closed = λ e z j i hz. k .closed e z j (omega arith) hz }
+
+-- The nodes below i have what the nodes have to which they lead.
+abbrev pub Closed : ℕ → ℕ → ℕ → Words → Type 0
+Closed n m i ws = (x : ℕ) → x < i → x < n → HasBelow n m ws x n
+
+-- So many nodes have had their turn: node i at turn i, and the nodes back again.
+pub record Passed (n m i : ℕ) (ws us : Words) (changed : Bool) : Type 0 where
+  pub grown : Grown n m ws us
+  pub moved : Moved ws us changed
+  pub closed : changed ≡ false → Closed n m i ws
+
+-- The node whose turn it is.
+pub record Turn (n i x : ℕ) : Type 0 where
+  pub below : x < n
+  pub forth : i < n → x ≡ i
+
+pub turn-forth : (n i : ℕ) → i < n → Turn n i i
+turn-forth n i h = record { below = h; forth = λ k. refl }
+
+pub turn-back : (n i : ℕ) → n ≤ i → i < 2 * n → Turn n i (2 * n - 1 - i)
+turn-back n i h k = record { below = omega arith; forth = λ j. absurd (omega arith) }
+
+pub passed-none : (n m : ℕ) (ws : Words) → Passed n m 0 ws ws false
+passed-none n m ws = record { grown = grown-none n m ws; moved = moved-none ws; closed = λ e x h. absurd (not-suc-le-zero h) }
+
+pub passed-more : (n m i x : ℕ) (ws us vs : Words) (changed r : Bool) → n ≤ 384 → Turn n i x → Passed n m i ws us changed → Taken n m x n us vs r → Passed n m (i + 1) ws vs (changed || r)
+passed-more n m i x ws us vs changed r l w k g = record {
+  grown = grown-on n m ws us vs l (k .grown) (g .grown);
+  moved = moved-on ws us vs changed r (k .moved) (g .moved);
+  closed = λ e z h hz. had (or-none changed r e) z h hz (i - z) refl;
+}
+  where
+    had : (changed ≡ false) × (r ≡ false) → (z : ℕ) → z < i + 1 → z < n → (d : ℕ) → i - z ≡ d → HasBelow n m ws z n
+    had e z h hz (suc d) q = k .closed (e .0) z (omega arith) hz
+    had e z h hz zero q =
+        let s : z ≡ x = omega (arith, w .forth (omega arith)) in
+        subst (λ c. HasBelow n m ws c n) (sym s) (subst (λ c. HasBelow n m c x n) (k .moved .still (e .0)) (g .closed (e .1)))
+
+-- What is spread: what there was, and all that walks lead to.
+pub record Spread (n m : ℕ) (ws us : Words) : Type 0 where
+  pub grown : Grown n m ws us
+  pub closed : Closed n m n us
+
+pub spread-done : (n m i : ℕ) (ws us vs : Words) → n ≤ 384 → n ≤ i → Grown n m ws us → Passed n m i us vs false → Spread n m ws vs
+spread-done n m i ws us vs l h g k = record {
+  grown = grown-on n m ws us vs l g (k .grown);
+  closed = λ x hx. subst (λ c. x < n → HasBelow n m c x n) (sym (k .moved .still refl)) (k .closed refl x (omega arith));
+}
+
+-- What a node has in the end is what a walk from it leads to.
+pub spread-has : (n m : ℕ) (ws us : Words) → n ≤ 384 → Spread n m ws us → (x j : ℕ) → x < n → j < 384 → T (has m us x j) ↔ Comes n m ws x j
+spread-has n m ws us l s x j hx hj = (s .grown .sound x j hx hj, λ c. back hx (c .below) (c .walk) (s .grown .keeps (c .end) j (c .below) hj (c .there)))
+  where
+    back : {x y : ℕ} → x < n → y < n → Walk (leads m ws) n x y → T (has m us y j) → T (has m us x j)
+    back hx hy stay v = v
+    back hx hy (step {x} {y} t k p) v =
+        s .closed x hx hx y j k k hj (subst T (sym (leads-same n m ws us l (s .grown .same) x y hx (omega arith))) t) (back k hy p v)
+
+-- Below the trailing zeros of a word its bits are 0.
+zeros-low : (k n d : ℕ) → d < trailingZeros k n → n / 2 ^ d % 2 ≡ 0
+unfolding trailingZeros
+zeros-low zero n d h = absurd (not-suc-le-zero h)
+zeros-low (suc k) n d h = go (n % 2) refl d h (zeros-low k (n / 2))
+  where
+    go : (r : ℕ) → n % 2 ≡ r → (d : ℕ) → d < under r (trailingZeros k (n / 2)) → ((e : ℕ) → e < trailingZeros k (n / 2) → n / 2 / 2 ^ e % 2 ≡ 0) → n / 2 ^ d % 2 ≡ 0
+    go zero e zero h ih = ap (λ x. x % 2) (div-one n) ∙ e
+    go zero e (suc d) h ih = ap (λ x. x % 2) (ap (λ x. n / x) (pow-succ' 2 d) ∙ sym (div-div-eq-div-mul n 2 (2 ^ d))) ∙ ih d (le-of-suc-le-suc h)
+    go (suc r) e d h ih = absurd (not-suc-le-zero h)
+
+zeros-some : (k n : ℕ) → n % 2 ≡ 0 → 0 < trailingZeros (suc k) n
+unfolding trailingZeros
+zeros-some k n e = go (n % 2) e
+  where
+    go : (r : ℕ) → r ≡ 0 → 0 < under r (trailingZeros k (n / 2))
+    go zero q = omega arith
+    go (suc r) q = absurd (omega arith)
+
+-- Bits of one word from y on, while a shift has trailing zeros.
+off-at : (us : Words) (p y k t w : ℕ) → w ≡ at us (p + y / 32) → t ≡ trailingZeros 32 (w / 2 ^ (y % 32)) → y ≤ k → k < y + t → k / 32 ≡ y / 32 → on us p k ≡ false
+unfolding on bit
+off-at us p y k t w e z l h q =
+    let d = k - y in
+    let r : k % 32 ≡ y % 32 + d = omega arith in
+    let u : w / 2 ^ (y % 32) / 2 ^ d % 2 ≡ 0 = zeros-low 32 (w / 2 ^ (y % 32)) d (omega arith) in
+    ap₂ (λ a b. eqb (a / 2 ^ b % 2) 1) (ap (λ c. at us (p + c)) q ∙ sym e) r
+    ∙ ne-eqb (w / 2 ^ (y % 32 + d) % 2) 1 (λ v. omega (arith, ap (λ x. x % 2) (shr-shr w (y % 32) d), u, v))
+
+off-low : (us : Words) (p y w : ℕ) → w ≡ at us (p + y / 32) → on us p y ≡ false → w / 2 ^ (y % 32) % 2 ≡ 0
+unfolding on bit
+off-low us p y w e h = omega (arith, eqb-false (w / 2 ^ (y % 32) % 2) 1 (ap (λ a. eqb (a / 2 ^ (y % 32) % 2) 1) e ∙ h))
+
+pub skip-bits : (us : Words) (p y t z w : ℕ) → w ≡ at us (p + y / 32) → t ≡ z → z ≡ trailingZeros 32 (w / 2 ^ (y % 32)) → y % 32 + t < 32 → on us p y ≡ false → Empty us p y (y + t)
+skip-bits us p y t z w e s q h o = record {
+  up = omega (arith, zeros-some 31 (w / 2 ^ (y % 32)) (off-low us p y w e o));
+  none = λ k l i. off-at us p y k t w e (s ∙ q) l i (omega arith);
+}
+
+pub skip-word : (us : Words) (p y t z w : ℕ) → w ≡ at us (p + y / 32) → t ≡ z → z ≡ trailingZeros 32 (w / 2 ^ (y % 32)) → 32 ≤ y % 32 + t → Empty us p y (y / 32 * 32 + 32)
+skip-word us p y t z w e s q h = record { up = omega arith; none = λ k l i. off-at us p y k t w e (s ∙ q) l (omega arith) (omega arith) }
+
+-- There is room for the rows.
+pub record Rows (n m : ℕ) (ws : Words) : Type 0 where
+  pub few : n ≤ 384
+  pub fits : m + 9216 + 12 * n ≤ length ws
+
+pub rows-same : (n m : ℕ) (ws us : Words) → length us ≡ length ws → Rows n m ws → Rows n m us
+rows-same n m ws us e o = record { few = o .few; fits = omega (arith, o .fits) }
+
+pub rows-room : (n m i x : ℕ) (ws : Words) → Rows n m ws → Turn n i x → Room n m x ws
+rows-room n m i x ws o t = record { few = o .few; node = t .below; fits = o .fits }
+
+pub pass-more : (n m i x : ℕ) (ws us vs : Words) (changed r : Bool) → Rows n m us → Turn n i x → Passed n m i ws us changed → Taken n m x n us vs r → Passed n m (i + 1) ws vs (changed || r)
+pass-more n m i x ws us vs changed r o = passed-more n m i x ws us vs changed r (o .few)
+
+pub pass-done : (n m i : ℕ) (ws us : Words) (changed : Bool) → 2 * n ≤ i → Passed n m i ws us changed → Passed n m (2 * n) ws us changed
+pass-done n m i ws us changed h k = record { grown = k .grown; moved = k .moved; closed = λ e x l. k .closed e x (omega arith) }
+
+-- While a pass changes anything the slack falls; in the end the nodes have what the nodes have to which they lead.
+pub record Going (n m : ℕ) (ws us : Words) (changed : Bool) : Type 0 where
+  pub grown : Grown n m ws us
+  pub closed : changed ≡ false → Closed n m n us
+
+pub going-start : (n m : ℕ) (ws : Words) → Going n m ws ws true
+going-start n m ws = record { grown = grown-none n m ws; closed = λ e. absurd (subst T e tt) }
+
+pub going-on : (n m : ℕ) (ws us vs : Words) (changed r : Bool) → Rows n m us → Going n m ws us changed → Passed n m (2 * n) us vs r → Going n m ws vs r
+going-on n m ws us vs changed r o k g = record {
+  grown = grown-on n m ws us vs (o .few) (k .grown) (g .grown);
+  closed = λ e x h hx. subst (λ c. HasBelow n m c x n) (sym (g .moved .still e)) (g .closed e x (omega arith) hx);
+}
+
+pub going-done : (n m : ℕ) (ws us : Words) (changed : Bool) → changed ≡ false → Going n m ws us changed → Spread n m ws us
+going-done n m ws us changed e k = record { grown = k .grown; closed = k .closed e }
+
+-- What is left to do: the slack, and one more while a pass is due.
+abbrev pub due : Bool → ℕ
+due true = 1
+due false = 0
+
+pub going-less : (n m : ℕ) (us vs : Words) (changed r : Bool) → changed ≡ true → Passed n m (2 * n) us vs r → slack vs + due r < slack us + due changed
+going-less n m us vs changed true e g = rw e (omega (arith, g .moved .fell refl))
+going-less n m us vs changed false e g = rw e (rw (g .moved .still refl) (omega arith))
+
+-- A word that is 0 has no bit.
+pub empty-word : (us : Words) (p y z w : ℕ) → w ≡ at us (p + z / 32) → w ≡ 0 → z % 32 ≡ 0 → Empty us p y z → Empty us p y (z + 32)
+unfolding on bit
+empty-word us p y z w e f m o = record { up = omega (arith, o .up); none = λ k l h. go k l h (z - k) refl }
+  where
+    go : (k : ℕ) → y ≤ k → k < z + 32 → (d : ℕ) → z - k ≡ d → on us p k ≡ false
+    go k l h (suc d) q = o .none k l (omega arith)
+    go k l h zero q =
+        let a : k / 32 ≡ z / 32 = omega arith in
+        ap (λ x. eqb (x / 2 ^ (k % 32) % 2) 1) (ap (λ c. at us (p + c)) a ∙ sym e ∙ f)
+        ∙ ne-eqb (0 / 2 ^ (k % 32) % 2) 1 (λ v. omega (arith, ap (λ x. x % 2) (zero-div (2 ^ (k % 32))), v))

@@ -1,0 +1,60 @@
+// Which impls the sets of candidates admit for a source: nodes and edges, components, what a set admits (`finder/candidates.rs`).
+// `build` fills the part of the workspace that belongs to a source; `admits` and `next_candidate` read it.
+ghost use mathlib.Core.Path.{_≡_};
+ghost use Prim.Native.Nat.{_≤_, _<_};
+ghost use lib.ListN.{length};
+ghost use Rattle.rules.specs.Layout.{header·definitions};
+ghost use Rattle.rules.specs.Sheet.{many};
+ghost use Rattle.rules.specs.CheckLaws.{Checked};
+ghost use Rattle.candidates.specs.Links.{LinkingAll};
+ghost use Rattle.candidates.specs.Sets.{BindingAll};
+ghost use Rattle.candidates.specs.Build.{Prepared, Connected, Filled, Candidates};
+
+pub mod find;
+mod index;
+mod inner;
+mod links;
+mod rows;
+mod sets;
+mod source;
+
+// Clears the rows, writes the indexes and marks the source's ancestors.
+fn prepare(s: &[u32], ws: &mut [u32], src: usize)
+    requires { ⌜ (length (now s) ≤ 4096) × (34948 ≤ length (now ws)) ⌝ }
+    ensures { λ _. ⌜ Prepared (now (s .entry)) src (now (ws .exit)) ⌝ }
+{
+    words::clear(ws, 18560);
+    index::index_all(s, ws);
+    source::source(s, ws, src);
+}
+
+// The edges of n definitions, what reaches what along them, and the edges that the source may take.
+fn connect(s: &[u32], ws: &mut [u32], n: usize)
+    requires { ⌜ LinkingAll n (now s) (now ws) ⌝ }
+    ensures { λ _. ⌜ Connected (now (s .entry)) n (now (ws .entry)) (now (ws .exit)) ⌝ }
+{
+    links::link_all(s, ws, n);
+    inner::selves(ws, 3 * n);
+    rows::spread(ws, 3 * n, 128);
+    inner::inner(ws, 3 * n);
+}
+
+// What the nodes of n definitions bind, and what they get to along the edges that the source may take.
+fn fill(s: &[u32], ws: &mut [u32], n: usize)
+    requires { ⌜ BindingAll n (now s) (now ws) ⌝ }
+    ensures { λ _. ⌜ Filled (now (s .entry)) n (now (ws .entry)) (now (ws .exit)) ⌝ }
+{
+    sets::bind_all(s, ws, n);
+    rows::spread(ws, 3 * n, 4736);
+}
+
+// The candidate sets of all nodes for a source.
+pub fn build(s: &[u32], ws: &mut [u32], src: usize)
+    requires { ⌜ Checked (now s) × (length (now s) ≤ 4096) × (src < many (now s) header·definitions) × (34948 ≤ length (now ws)) ⌝ }
+    ensures { λ _. ⌜ Candidates (now (s .entry)) src (now (ws .exit)) ⌝ }
+{
+    prepare(s, ws, src);
+    let n = words::next(ws, 18560);
+    connect(s, ws, n);
+    fill(s, ws, n);
+}
