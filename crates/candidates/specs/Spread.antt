@@ -255,6 +255,8 @@ pub record Room (n m x : ℕ) (ws : Words) : Type 0 where
 -- Node x takes what node y has: whatever was taken before, it is one node more.
 pub record Takes (n m x y : ℕ) (us vs : Words) (r : Bool) : Type 0 where
   pub size : length vs ≡ length us
+  pub grown : Grown n m us vs
+  pub moved : Moved us vs r
   pub more : (ws : Words) (changed : Bool) → Taken n m x y ws us changed → Taken n m x (y + 1) ws vs (changed || r)
 
 or-false : (b : Bool) → b ≡ (b || false)
@@ -262,11 +264,17 @@ or-false true = refl
 or-false false = refl
 
 pub takes-self : (n m x y : ℕ) (us : Words) → y ≡ x → Takes n m x y us us false
-takes-self n m x y us e = record { size = refl; more = λ ws changed k. subst (Taken n m x (y + 1) ws us) (or-false changed) (taken-self n m x y ws us changed e k) }
+takes-self n m x y us e = record { size = refl; grown = grown-none n m us; moved = moved-none us; more = λ ws changed k. subst (Taken n m x (y + 1) ws us) (or-false changed) (taken-self n m x y ws us changed e k) }
 
 pub takes-join : (n m x y : ℕ) (us vs : Words) (r : Bool) → Room n m x us → y < n → y ≢ x → on us (m + 12 * x) y ≡ true → length vs ≡ length us
     → Joined us vs r (m + 9216 + 12 * x) (m + 9216 + 12 * y) → Takes n m x y us vs r
-takes-join n m x y us vs r o hy ne t s i = record { size = s; more = λ ws changed k. taken-join n m x y ws us vs changed r (o .few) (o .node) hy ne (o .fits) t k i }
+unfolding leads
+takes-join n m x y us vs r o hy ne t s i = record {
+  size = s;
+  grown = grown-joined n m x y us vs (o .few) (o .node) hy ne (o .fits) (subst T (sym t) tt) (i .is);
+  moved = i .moved;
+  more = λ ws changed k. taken-join n m x y ws us vs changed r (o .few) (o .node) hy ne (o .fits) t k i;
+}
 
 pub taken-more : (n m x y : ℕ) (ws us vs : Words) (changed r : Bool) → Taken n m x y ws us changed → Takes n m x y us vs r → Taken n m x (y + 1) ws vs (changed || r)
 taken-more n m x y ws us vs changed r k g = g .more ws changed k
@@ -447,3 +455,30 @@ empty-word us p y z w e f m o = record { up = omega (arith, o .up); none = λ k 
         let a : k / 32 ≡ z / 32 = omega arith in
         ap (λ x. eqb (x / 2 ^ (k % 32) % 2) 1) (ap (λ c. at us (p + c)) a ∙ sym e ∙ f)
         ∙ ne-eqb (0 / 2 ^ (k % 32) % 2) 1 (λ v. omega (arith, ap (λ x. x % 2) (zero-div (2 ^ (k % 32))), v))
+
+-- Rows that have grown, with no more slack.
+pub record Visited (n m : ℕ) (ws us : Words) : Type 0 where
+  pub grown : Grown n m ws us
+  pub less : slack us ≤ slack ws
+
+pub visited-none : (n m : ℕ) (ws : Words) → Visited n m ws ws
+visited-none n m ws = record { grown = grown-none n m ws; less = omega arith }
+
+pub visited-on : (n m : ℕ) (ws us vs : Words) → n ≤ 384 → Visited n m ws us → Visited n m us vs → Visited n m ws vs
+visited-on n m ws us vs l a b = record { grown = grown-on n m ws us vs l (a .grown) (b .grown); less = omega (arith, a .less, b .less) }
+
+moved-less : (ws us : Words) (r : Bool) → Moved ws us r → slack us ≤ slack ws
+moved-less ws us true k = omega (arith, k .fell refl)
+moved-less ws us false k = subst (λ c. slack c ≤ slack ws) (sym (k .still refl)) (omega arith)
+
+-- Room stays, and so does what leads where.
+pub visited-room : (n m x y : ℕ) (ws us : Words) → y < n → Room n m x ws → Visited n m ws us → Room n m y us
+visited-room n m x y ws us h o v = record { few = o .few; node = h; fits = omega (arith, o .fits, v .grown .size) }
+
+pub visited-leads : (n m x y : ℕ) (ws us : Words) → Room n m x ws → y < n → on ws (m + 12 * x) y ≡ true → Visited n m ws us → on us (m + 12 * x) y ≡ true
+unfolding leads
+visited-leads n m x y ws us o h t v = leads-same n m ws us (o .few) (v .grown .same) x y (o .node) (omega (arith, o .few)) ∙ t
+
+-- A visit of y, and what x then takes of it.
+pub visited-take : (n m x y : ℕ) (w₀ w₁ w₂ w₃ : Words) (r : Bool) → Room n m x w₁ → Visited n m w₀ w₁ → Visited n m w₁ w₂ → Takes n m x y w₂ w₃ r → Visited n m w₀ w₃
+visited-take n m x y w₀ w₁ w₂ w₃ r o a b t = visited-on n m w₀ w₂ w₃ (o .few) (visited-on n m w₀ w₁ w₂ (o .few) a b) (record { grown = t .grown; less = moved-less w₂ w₃ r (t .moved) })

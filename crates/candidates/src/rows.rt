@@ -5,7 +5,7 @@ ghost use Prim.Native.Nat.{_+_, _*_, _≤_, _<_, _/_};
 ghost use lib.ListN.{length};
 ghost use Rattle.rules.specs.Sheet.{at};
 ghost use Rattle.candidates.specs.Bits.{bit, on, with-bit, Joined};
-ghost use Rattle.candidates.specs.Spread.{Rows, Room, Empty, Takes, Taken, Turn, Passed, Spread};
+ghost use Rattle.candidates.specs.Spread.{Visited, Rows, Room, Empty, Takes, Taken, Turn, Passed, Spread};
 
 // Bit b of a word is 1.
 fn bit(w: u32, b: usize) -> bool
@@ -146,5 +146,30 @@ pub fn spread(ws: &mut [u32], n: usize, m: usize)
     let mut changed = true;
     while changed {
         changed = pass(ws, n, m);
+    }
+}
+
+// Row x takes what the rows have to which its node leads, each of which takes before it: in the order in which a depth-first search leaves the nodes.
+// At most `left` nodes deep; a node that was seen is not visited again.
+fn visit(ws: &mut [u32], seen: &mut [u32], n: usize, m: usize, x: usize, left: usize)
+    requires { ⌜ Room n m x (now ws) × (384 ≤ length (now seen)) ⌝ }
+    ensures { λ _. ⌜ Visited n m (now (ws .entry)) (now (ws .exit)) ⌝ }
+{
+    if left == 0 {
+        return;
+    }
+    if seen[x] != 0 {
+        return;
+    }
+    seen[x] = 1;
+    let mut y = 0;
+    while y < n {
+        if on(ws, m + 12 * x, y) {
+            visit(ws, seen, n, m, y, left - 1);
+            take(ws, n, m, x, y);
+            y += 1;
+        } else {
+            y = skip(ws, m + 12 * x, y, n);
+        }
     }
 }
