@@ -306,28 +306,17 @@ taken-done n m x y ws us changed h k = record { grown = k .grown; moved = k .mov
 abbrev pub Closed : ℕ → ℕ → ℕ → Words → Type 0
 Closed n m i ws = (x : ℕ) → x < i → x < n → HasBelow n m ws x n
 
--- So many nodes have had their turn: node i at turn i, and the nodes back again.
+-- So many nodes have had their turn.
 pub record Passed (n m i : ℕ) (ws us : Words) (changed : Bool) : Type 0 where
   pub grown : Grown n m ws us
   pub moved : Moved ws us changed
   pub closed : changed ≡ false → Closed n m i ws
 
--- The node whose turn it is.
-pub record Turn (n i x : ℕ) : Type 0 where
-  pub below : x < n
-  pub forth : i < n → x ≡ i
-
-pub turn-forth : (n i : ℕ) → i < n → Turn n i i
-turn-forth n i h = record { below = h; forth = λ k. refl }
-
-pub turn-back : (n i : ℕ) → n ≤ i → i < 2 * n → Turn n i (2 * n - 1 - i)
-turn-back n i h k = record { below = omega arith; forth = λ j. absurd (omega arith) }
-
 pub passed-none : (n m : ℕ) (ws : Words) → Passed n m 0 ws ws false
 passed-none n m ws = record { grown = grown-none n m ws; moved = moved-none ws; closed = λ e x h. absurd (not-suc-le-zero h) }
 
-pub passed-more : (n m i x : ℕ) (ws us vs : Words) (changed r : Bool) → n ≤ 384 → Turn n i x → Passed n m i ws us changed → Taken n m x n us vs r → Passed n m (i + 1) ws vs (changed || r)
-passed-more n m i x ws us vs changed r l w k g = record {
+pub passed-more : (n m i : ℕ) (ws us vs : Words) (changed r : Bool) → n ≤ 384 → Passed n m i ws us changed → Taken n m i n us vs r → Passed n m (i + 1) ws vs (changed || r)
+passed-more n m i ws us vs changed r l k g = record {
   grown = grown-on n m ws us vs l (k .grown) (g .grown);
   moved = moved-on ws us vs changed r (k .moved) (g .moved);
   closed = λ e z h hz. had (or-none changed r e) z h hz (i - z) refl;
@@ -336,19 +325,13 @@ passed-more n m i x ws us vs changed r l w k g = record {
     had : (changed ≡ false) × (r ≡ false) → (z : ℕ) → z < i + 1 → z < n → (d : ℕ) → i - z ≡ d → HasBelow n m ws z n
     had e z h hz (suc d) q = k .closed (e .0) z (omega arith) hz
     had e z h hz zero q =
-        let s : z ≡ x = omega (arith, w .forth (omega arith)) in
-        subst (λ c. HasBelow n m ws c n) (sym s) (subst (λ c. HasBelow n m c x n) (k .moved .still (e .0)) (g .closed (e .1)))
+        let s : z ≡ i = omega arith in
+        subst (λ c. HasBelow n m ws c n) (sym s) (subst (λ c. HasBelow n m c i n) (k .moved .still (e .0)) (g .closed (e .1)))
 
 -- What is spread: what there was, and all that walks lead to.
 pub record Spread (n m : ℕ) (ws us : Words) : Type 0 where
   pub grown : Grown n m ws us
   pub closed : Closed n m n us
-
-pub spread-done : (n m i : ℕ) (ws us vs : Words) → n ≤ 384 → n ≤ i → Grown n m ws us → Passed n m i us vs false → Spread n m ws vs
-spread-done n m i ws us vs l h g k = record {
-  grown = grown-on n m ws us vs l g (k .grown);
-  closed = λ x hx. subst (λ c. x < n → HasBelow n m c x n) (sym (k .moved .still refl)) (k .closed refl x (omega arith));
-}
 
 -- What a node has in the end is what a walk from it leads to.
 pub spread-has : (n m : ℕ) (ws us : Words) → n ≤ 384 → Spread n m ws us → (x j : ℕ) → x < n → j < 384 → T (has m us x j) ↔ Comes n m ws x j
@@ -409,13 +392,13 @@ pub record Rows (n m : ℕ) (ws : Words) : Type 0 where
 pub rows-same : (n m : ℕ) (ws us : Words) → length us ≡ length ws → Rows n m ws → Rows n m us
 rows-same n m ws us e o = record { few = o .few; fits = omega (arith, o .fits) }
 
-pub rows-room : (n m i x : ℕ) (ws : Words) → Rows n m ws → Turn n i x → Room n m x ws
-rows-room n m i x ws o t = record { few = o .few; node = t .below; fits = o .fits }
+pub rows-room : (n m x : ℕ) (ws : Words) → Rows n m ws → x < n → Room n m x ws
+rows-room n m x ws o h = record { few = o .few; node = h; fits = o .fits }
 
-pub pass-more : (n m i x : ℕ) (ws us vs : Words) (changed r : Bool) → Rows n m us → Turn n i x → Passed n m i ws us changed → Taken n m x n us vs r → Passed n m (i + 1) ws vs (changed || r)
-pass-more n m i x ws us vs changed r o = passed-more n m i x ws us vs changed r (o .few)
+pub pass-more : (n m i : ℕ) (ws us vs : Words) (changed r : Bool) → Rows n m us → Passed n m i ws us changed → Taken n m i n us vs r → Passed n m (i + 1) ws vs (changed || r)
+pass-more n m i ws us vs changed r o = passed-more n m i ws us vs changed r (o .few)
 
-pub pass-done : (n m i : ℕ) (ws us : Words) (changed : Bool) → 2 * n ≤ i → Passed n m i ws us changed → Passed n m (2 * n) ws us changed
+pub pass-done : (n m i : ℕ) (ws us : Words) (changed : Bool) → n ≤ i → Passed n m i ws us changed → Passed n m n ws us changed
 pass-done n m i ws us changed h k = record { grown = k .grown; moved = k .moved; closed = λ e x l. k .closed e x (omega arith) }
 
 -- While a pass changes anything the slack falls; in the end the nodes have what the nodes have to which they lead.
@@ -426,12 +409,6 @@ pub record Going (n m : ℕ) (ws us : Words) (changed : Bool) : Type 0 where
 pub going-start : (n m : ℕ) (ws : Words) → Going n m ws ws true
 going-start n m ws = record { grown = grown-none n m ws; closed = λ e. absurd (subst T e tt) }
 
-pub going-on : (n m : ℕ) (ws us vs : Words) (changed r : Bool) → Rows n m us → Going n m ws us changed → Passed n m (2 * n) us vs r → Going n m ws vs r
-going-on n m ws us vs changed r o k g = record {
-  grown = grown-on n m ws us vs (o .few) (k .grown) (g .grown);
-  closed = λ e x h hx. subst (λ c. HasBelow n m c x n) (sym (g .moved .still e)) (g .closed e x (omega arith) hx);
-}
-
 pub going-done : (n m : ℕ) (ws us : Words) (changed : Bool) → changed ≡ false → Going n m ws us changed → Spread n m ws us
 going-done n m ws us changed e k = record { grown = k .grown; closed = k .closed e }
 
@@ -439,10 +416,6 @@ going-done n m ws us changed e k = record { grown = k .grown; closed = k .closed
 abbrev pub due : Bool → ℕ
 due true = 1
 due false = 0
-
-pub going-less : (n m : ℕ) (us vs : Words) (changed r : Bool) → changed ≡ true → Passed n m (2 * n) us vs r → slack vs + due r < slack us + due changed
-going-less n m us vs changed true e g = rw e (omega (arith, g .moved .fell refl))
-going-less n m us vs changed false e g = rw e (rw (g .moved .still refl) (omega arith))
 
 -- A word that is 0 has no bit.
 pub empty-word : (us : Words) (p y z w : ℕ) → w ≡ at us (p + z / 32) → w ≡ 0 → z % 32 ≡ 0 → Empty us p y z → Empty us p y (z + 32)
@@ -482,3 +455,23 @@ visited-leads n m x y ws us o h t v = leads-same n m ws us (o .few) (v .grown .s
 -- A visit of y, and what x then takes of it.
 pub visited-take : (n m x y : ℕ) (w₀ w₁ w₂ w₃ : Words) (r : Bool) → Room n m x w₁ → Visited n m w₀ w₁ → Visited n m w₁ w₂ → Takes n m x y w₂ w₃ r → Visited n m w₀ w₃
 visited-take n m x y w₀ w₁ w₂ w₃ r o a b t = visited-on n m w₀ w₂ w₃ (o .few) (visited-on n m w₀ w₁ w₂ (o .few) a b) (record { grown = t .grown; less = moved-less w₂ w₃ r (t .moved) })
+
+-- In depth-first order, and a pass after that.
+pub going-on : (n m : ℕ) (w₀ w₁ w₂ w₃ : Words) (changed r : Bool) → Rows n m w₁ → Going n m w₀ w₁ changed → Visited n m w₁ w₂ → Passed n m n w₂ w₃ r → Going n m w₀ w₃ r
+going-on n m w₀ w₁ w₂ w₃ changed r o k v g = record {
+  grown = grown-on n m w₀ w₂ w₃ (o .few) (grown-on n m w₀ w₁ w₂ (o .few) (k .grown) (v .grown)) (g .grown);
+  closed = λ e x h hx. subst (λ c. HasBelow n m c x n) (sym (g .moved .still e)) (g .closed e x hx hx);
+}
+
+pub going-less : (n m : ℕ) (w₁ w₂ w₃ : Words) (changed r : Bool) → changed ≡ true → Visited n m w₁ w₂ → Passed n m n w₂ w₃ r → slack w₃ + due r < slack w₁ + due changed
+going-less n m w₁ w₂ w₃ changed true e v g = rw e (omega (arith, g .moved .fell refl, v .less))
+going-less n m w₁ w₂ w₃ changed false e v g = rw e (rw (g .moved .still refl) (omega (arith, v .less)))
+
+pub visited-rows : (n m : ℕ) (ws us : Words) → Rows n m ws → Visited n m ws us → Rows n m us
+visited-rows n m ws us o v = record { few = o .few; fits = omega (arith, o .fits, v .grown .size) }
+
+pub visited-more : (n m : ℕ) (ws us vs : Words) → Rows n m ws → Visited n m ws us → Visited n m us vs → Visited n m ws vs
+visited-more n m ws us vs o = visited-on n m ws us vs (o .few)
+
+pub visited-at : (n m x : ℕ) (ws us : Words) → Rows n m ws → x < n → Visited n m ws us → Room n m x us
+visited-at n m x ws us o h v = record { few = o .few; node = h; fits = omega (arith, o .fits, v .grown .size) }
