@@ -255,6 +255,8 @@ pub record Room (n m x : ℕ) (ws : Words) : Type 0 where
 -- Node x takes what node y has: whatever was taken before, it is one node more.
 pub record Takes (n m x y : ℕ) (us vs : Words) (r : Bool) : Type 0 where
   pub size : length vs ≡ length us
+  pub grown : Grown n m us vs
+  pub moved : Moved us vs r
   pub more : (ws : Words) (changed : Bool) → Taken n m x y ws us changed → Taken n m x (y + 1) ws vs (changed || r)
 
 or-false : (b : Bool) → b ≡ (b || false)
@@ -262,11 +264,17 @@ or-false true = refl
 or-false false = refl
 
 pub takes-self : (n m x y : ℕ) (us : Words) → y ≡ x → Takes n m x y us us false
-takes-self n m x y us e = record { size = refl; more = λ ws changed k. subst (Taken n m x (y + 1) ws us) (or-false changed) (taken-self n m x y ws us changed e k) }
+takes-self n m x y us e = record { size = refl; grown = grown-none n m us; moved = moved-none us; more = λ ws changed k. subst (Taken n m x (y + 1) ws us) (or-false changed) (taken-self n m x y ws us changed e k) }
 
 pub takes-join : (n m x y : ℕ) (us vs : Words) (r : Bool) → Room n m x us → y < n → y ≢ x → on us (m + 12 * x) y ≡ true → length vs ≡ length us
     → Joined us vs r (m + 9216 + 12 * x) (m + 9216 + 12 * y) → Takes n m x y us vs r
-takes-join n m x y us vs r o hy ne t s i = record { size = s; more = λ ws changed k. taken-join n m x y ws us vs changed r (o .few) (o .node) hy ne (o .fits) t k i }
+unfolding leads
+takes-join n m x y us vs r o hy ne t s i = record {
+  size = s;
+  grown = grown-joined n m x y us vs (o .few) (o .node) hy ne (o .fits) (subst T (sym t) tt) (i .is);
+  moved = i .moved;
+  more = λ ws changed k. taken-join n m x y ws us vs changed r (o .few) (o .node) hy ne (o .fits) t k i;
+}
 
 pub taken-more : (n m x y : ℕ) (ws us vs : Words) (changed r : Bool) → Taken n m x y ws us changed → Takes n m x y us vs r → Taken n m x (y + 1) ws vs (changed || r)
 taken-more n m x y ws us vs changed r k g = g .more ws changed k
@@ -298,28 +306,17 @@ taken-done n m x y ws us changed h k = record { grown = k .grown; moved = k .mov
 abbrev pub Closed : ℕ → ℕ → ℕ → Words → Type 0
 Closed n m i ws = (x : ℕ) → x < i → x < n → HasBelow n m ws x n
 
--- So many nodes have had their turn: node i at turn i, and the nodes back again.
+-- So many nodes have had their turn.
 pub record Passed (n m i : ℕ) (ws us : Words) (changed : Bool) : Type 0 where
   pub grown : Grown n m ws us
   pub moved : Moved ws us changed
   pub closed : changed ≡ false → Closed n m i ws
 
--- The node whose turn it is.
-pub record Turn (n i x : ℕ) : Type 0 where
-  pub below : x < n
-  pub forth : i < n → x ≡ i
-
-pub turn-forth : (n i : ℕ) → i < n → Turn n i i
-turn-forth n i h = record { below = h; forth = λ k. refl }
-
-pub turn-back : (n i : ℕ) → n ≤ i → i < 2 * n → Turn n i (2 * n - 1 - i)
-turn-back n i h k = record { below = omega arith; forth = λ j. absurd (omega arith) }
-
 pub passed-none : (n m : ℕ) (ws : Words) → Passed n m 0 ws ws false
 passed-none n m ws = record { grown = grown-none n m ws; moved = moved-none ws; closed = λ e x h. absurd (not-suc-le-zero h) }
 
-pub passed-more : (n m i x : ℕ) (ws us vs : Words) (changed r : Bool) → n ≤ 384 → Turn n i x → Passed n m i ws us changed → Taken n m x n us vs r → Passed n m (i + 1) ws vs (changed || r)
-passed-more n m i x ws us vs changed r l w k g = record {
+pub passed-more : (n m i : ℕ) (ws us vs : Words) (changed r : Bool) → n ≤ 384 → Passed n m i ws us changed → Taken n m i n us vs r → Passed n m (i + 1) ws vs (changed || r)
+passed-more n m i ws us vs changed r l k g = record {
   grown = grown-on n m ws us vs l (k .grown) (g .grown);
   moved = moved-on ws us vs changed r (k .moved) (g .moved);
   closed = λ e z h hz. had (or-none changed r e) z h hz (i - z) refl;
@@ -328,19 +325,13 @@ passed-more n m i x ws us vs changed r l w k g = record {
     had : (changed ≡ false) × (r ≡ false) → (z : ℕ) → z < i + 1 → z < n → (d : ℕ) → i - z ≡ d → HasBelow n m ws z n
     had e z h hz (suc d) q = k .closed (e .0) z (omega arith) hz
     had e z h hz zero q =
-        let s : z ≡ x = omega (arith, w .forth (omega arith)) in
-        subst (λ c. HasBelow n m ws c n) (sym s) (subst (λ c. HasBelow n m c x n) (k .moved .still (e .0)) (g .closed (e .1)))
+        let s : z ≡ i = omega arith in
+        subst (λ c. HasBelow n m ws c n) (sym s) (subst (λ c. HasBelow n m c i n) (k .moved .still (e .0)) (g .closed (e .1)))
 
 -- What is spread: what there was, and all that walks lead to.
 pub record Spread (n m : ℕ) (ws us : Words) : Type 0 where
   pub grown : Grown n m ws us
   pub closed : Closed n m n us
-
-pub spread-done : (n m i : ℕ) (ws us vs : Words) → n ≤ 384 → n ≤ i → Grown n m ws us → Passed n m i us vs false → Spread n m ws vs
-spread-done n m i ws us vs l h g k = record {
-  grown = grown-on n m ws us vs l g (k .grown);
-  closed = λ x hx. subst (λ c. x < n → HasBelow n m c x n) (sym (k .moved .still refl)) (k .closed refl x (omega arith));
-}
 
 -- What a node has in the end is what a walk from it leads to.
 pub spread-has : (n m : ℕ) (ws us : Words) → n ≤ 384 → Spread n m ws us → (x j : ℕ) → x < n → j < 384 → T (has m us x j) ↔ Comes n m ws x j
@@ -401,13 +392,13 @@ pub record Rows (n m : ℕ) (ws : Words) : Type 0 where
 pub rows-same : (n m : ℕ) (ws us : Words) → length us ≡ length ws → Rows n m ws → Rows n m us
 rows-same n m ws us e o = record { few = o .few; fits = omega (arith, o .fits) }
 
-pub rows-room : (n m i x : ℕ) (ws : Words) → Rows n m ws → Turn n i x → Room n m x ws
-rows-room n m i x ws o t = record { few = o .few; node = t .below; fits = o .fits }
+pub rows-room : (n m x : ℕ) (ws : Words) → Rows n m ws → x < n → Room n m x ws
+rows-room n m x ws o h = record { few = o .few; node = h; fits = o .fits }
 
-pub pass-more : (n m i x : ℕ) (ws us vs : Words) (changed r : Bool) → Rows n m us → Turn n i x → Passed n m i ws us changed → Taken n m x n us vs r → Passed n m (i + 1) ws vs (changed || r)
-pass-more n m i x ws us vs changed r o = passed-more n m i x ws us vs changed r (o .few)
+pub pass-more : (n m i : ℕ) (ws us vs : Words) (changed r : Bool) → Rows n m us → Passed n m i ws us changed → Taken n m i n us vs r → Passed n m (i + 1) ws vs (changed || r)
+pass-more n m i ws us vs changed r o = passed-more n m i ws us vs changed r (o .few)
 
-pub pass-done : (n m i : ℕ) (ws us : Words) (changed : Bool) → 2 * n ≤ i → Passed n m i ws us changed → Passed n m (2 * n) ws us changed
+pub pass-done : (n m i : ℕ) (ws us : Words) (changed : Bool) → n ≤ i → Passed n m i ws us changed → Passed n m n ws us changed
 pass-done n m i ws us changed h k = record { grown = k .grown; moved = k .moved; closed = λ e x l. k .closed e x (omega arith) }
 
 -- While a pass changes anything the slack falls; in the end the nodes have what the nodes have to which they lead.
@@ -418,12 +409,6 @@ pub record Going (n m : ℕ) (ws us : Words) (changed : Bool) : Type 0 where
 pub going-start : (n m : ℕ) (ws : Words) → Going n m ws ws true
 going-start n m ws = record { grown = grown-none n m ws; closed = λ e. absurd (subst T e tt) }
 
-pub going-on : (n m : ℕ) (ws us vs : Words) (changed r : Bool) → Rows n m us → Going n m ws us changed → Passed n m (2 * n) us vs r → Going n m ws vs r
-going-on n m ws us vs changed r o k g = record {
-  grown = grown-on n m ws us vs (o .few) (k .grown) (g .grown);
-  closed = λ e x h hx. subst (λ c. HasBelow n m c x n) (sym (g .moved .still e)) (g .closed e x (omega arith) hx);
-}
-
 pub going-done : (n m : ℕ) (ws us : Words) (changed : Bool) → changed ≡ false → Going n m ws us changed → Spread n m ws us
 going-done n m ws us changed e k = record { grown = k .grown; closed = k .closed e }
 
@@ -431,10 +416,6 @@ going-done n m ws us changed e k = record { grown = k .grown; closed = k .closed
 abbrev pub due : Bool → ℕ
 due true = 1
 due false = 0
-
-pub going-less : (n m : ℕ) (us vs : Words) (changed r : Bool) → changed ≡ true → Passed n m (2 * n) us vs r → slack vs + due r < slack us + due changed
-going-less n m us vs changed true e g = rw e (omega (arith, g .moved .fell refl))
-going-less n m us vs changed false e g = rw e (rw (g .moved .still refl) (omega arith))
 
 -- A word that is 0 has no bit.
 pub empty-word : (us : Words) (p y z w : ℕ) → w ≡ at us (p + z / 32) → w ≡ 0 → z % 32 ≡ 0 → Empty us p y z → Empty us p y (z + 32)
@@ -447,3 +428,50 @@ empty-word us p y z w e f m o = record { up = omega (arith, o .up); none = λ k 
         let a : k / 32 ≡ z / 32 = omega arith in
         ap (λ x. eqb (x / 2 ^ (k % 32) % 2) 1) (ap (λ c. at us (p + c)) a ∙ sym e ∙ f)
         ∙ ne-eqb (0 / 2 ^ (k % 32) % 2) 1 (λ v. omega (arith, ap (λ x. x % 2) (zero-div (2 ^ (k % 32))), v))
+
+-- Rows that have grown, with no more slack.
+pub record Visited (n m : ℕ) (ws us : Words) : Type 0 where
+  pub grown : Grown n m ws us
+  pub less : slack us ≤ slack ws
+
+pub visited-none : (n m : ℕ) (ws : Words) → Visited n m ws ws
+visited-none n m ws = record { grown = grown-none n m ws; less = omega arith }
+
+pub visited-on : (n m : ℕ) (ws us vs : Words) → n ≤ 384 → Visited n m ws us → Visited n m us vs → Visited n m ws vs
+visited-on n m ws us vs l a b = record { grown = grown-on n m ws us vs l (a .grown) (b .grown); less = omega (arith, a .less, b .less) }
+
+moved-less : (ws us : Words) (r : Bool) → Moved ws us r → slack us ≤ slack ws
+moved-less ws us true k = omega (arith, k .fell refl)
+moved-less ws us false k = subst (λ c. slack c ≤ slack ws) (sym (k .still refl)) (omega arith)
+
+-- Room stays, and so does what leads where.
+pub visited-room : (n m x y : ℕ) (ws us : Words) → y < n → Room n m x ws → Visited n m ws us → Room n m y us
+visited-room n m x y ws us h o v = record { few = o .few; node = h; fits = omega (arith, o .fits, v .grown .size) }
+
+pub visited-leads : (n m x y : ℕ) (ws us : Words) → Room n m x ws → y < n → on ws (m + 12 * x) y ≡ true → Visited n m ws us → on us (m + 12 * x) y ≡ true
+unfolding leads
+visited-leads n m x y ws us o h t v = leads-same n m ws us (o .few) (v .grown .same) x y (o .node) (omega (arith, o .few)) ∙ t
+
+-- A visit of y, and what x then takes of it.
+pub visited-take : (n m x y : ℕ) (w₀ w₁ w₂ w₃ : Words) (r : Bool) → Room n m x w₁ → Visited n m w₀ w₁ → Visited n m w₁ w₂ → Takes n m x y w₂ w₃ r → Visited n m w₀ w₃
+visited-take n m x y w₀ w₁ w₂ w₃ r o a b t = visited-on n m w₀ w₂ w₃ (o .few) (visited-on n m w₀ w₁ w₂ (o .few) a b) (record { grown = t .grown; less = moved-less w₂ w₃ r (t .moved) })
+
+-- In depth-first order, and a pass after that.
+pub going-on : (n m : ℕ) (w₀ w₁ w₂ w₃ : Words) (changed r : Bool) → Rows n m w₁ → Going n m w₀ w₁ changed → Visited n m w₁ w₂ → Passed n m n w₂ w₃ r → Going n m w₀ w₃ r
+going-on n m w₀ w₁ w₂ w₃ changed r o k v g = record {
+  grown = grown-on n m w₀ w₂ w₃ (o .few) (grown-on n m w₀ w₁ w₂ (o .few) (k .grown) (v .grown)) (g .grown);
+  closed = λ e x h hx. subst (λ c. HasBelow n m c x n) (sym (g .moved .still e)) (g .closed e x hx hx);
+}
+
+pub going-less : (n m : ℕ) (w₁ w₂ w₃ : Words) (changed r : Bool) → changed ≡ true → Visited n m w₁ w₂ → Passed n m n w₂ w₃ r → slack w₃ + due r < slack w₁ + due changed
+going-less n m w₁ w₂ w₃ changed true e v g = rw e (omega (arith, g .moved .fell refl, v .less))
+going-less n m w₁ w₂ w₃ changed false e v g = rw e (rw (g .moved .still refl) (omega (arith, v .less)))
+
+pub visited-rows : (n m : ℕ) (ws us : Words) → Rows n m ws → Visited n m ws us → Rows n m us
+visited-rows n m ws us o v = record { few = o .few; fits = omega (arith, o .fits, v .grown .size) }
+
+pub visited-more : (n m : ℕ) (ws us vs : Words) → Rows n m ws → Visited n m ws us → Visited n m us vs → Visited n m ws vs
+visited-more n m ws us vs o = visited-on n m ws us vs (o .few)
+
+pub visited-at : (n m x : ℕ) (ws us : Words) → Rows n m ws → x < n → Visited n m ws us → Room n m x us
+visited-at n m x ws us o h v = record { few = o .few; node = h; fits = omega (arith, o .fits, v .grown .size) }

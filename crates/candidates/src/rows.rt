@@ -5,7 +5,7 @@ ghost use Prim.Native.Nat.{_+_, _*_, _≤_, _<_, _/_};
 ghost use lib.ListN.{length};
 ghost use Rattle.rules.specs.Sheet.{at};
 ghost use Rattle.candidates.specs.Bits.{bit, on, with-bit, Joined};
-ghost use Rattle.candidates.specs.Spread.{Rows, Room, Empty, Takes, Taken, Turn, Passed, Spread};
+ghost use Rattle.candidates.specs.Spread.{Visited, Rows, Room, Empty, Takes, Taken, Passed, Spread};
 
 // Bit b of a word is 1.
 fn bit(w: u32, b: usize) -> bool
@@ -115,36 +115,68 @@ fn gather(ws: &mut [u32], n: usize, m: usize, x: usize) -> bool
     changed
 }
 
-// Node i at turn i, and the nodes back again.
-fn turn(n: usize, i: usize) -> usize
-    requires { ⌜ (n ≤ 384) × (i < 2 * n) ⌝ }
-    ensures { λ r. ⌜ Turn n i r ⌝ }
+// Row x takes what the rows have to which its node leads, each of which takes before it: in the order in which a depth-first search leaves the nodes.
+// At most `left` nodes deep; a node that was seen is not visited again.
+fn visit(ws: &mut [u32], seen: &mut [u32], n: usize, m: usize, x: usize, left: usize)
+    requires { ⌜ Room n m x (now ws) × (384 ≤ length (now seen)) ⌝ }
+    ensures { λ _. ⌜ Visited n m (now (ws .entry)) (now (ws .exit)) ⌝ }
 {
-    if i < n { i } else { 2 * n - 1 - i }
+    if left == 0 {
+        return;
+    }
+    if seen[x] != 0 {
+        return;
+    }
+    seen[x] = 1;
+    let mut y = 0;
+    while y < n {
+        if on(ws, m + 12 * x, y) {
+            visit(ws, seen, n, m, y, left - 1);
+            take(ws, n, m, x, y);
+            y += 1;
+        } else {
+            y = skip(ws, m + 12 * x, y, n);
+        }
+    }
 }
 
-// All rows take, forth and back; whether that changed any.
+// All rows take, in depth-first order.
+fn descend(ws: &mut [u32], n: usize, m: usize)
+    requires { ⌜ Rows n m (now ws) ⌝ }
+    ensures { λ _. ⌜ Visited n m (now (ws .entry)) (now (ws .exit)) ⌝ }
+{
+    let mut seen = [0u32; 384];
+    let mut x = 0;
+    while x < n {
+        visit(ws, &mut seen, n, m, x, n);
+        x += 1;
+    }
+}
+
+// All rows take, by id; whether that changed any.
 fn pass(ws: &mut [u32], n: usize, m: usize) -> bool
     requires { ⌜ Rows n m (now ws) ⌝ }
-    ensures { λ r. ⌜ Passed n m (2 * n) (now (ws .entry)) (now (ws .exit)) r ⌝ }
+    ensures { λ r. ⌜ Passed n m n (now (ws .entry)) (now (ws .exit)) r ⌝ }
 {
     let mut changed = false;
     let mut i = 0;
-    while i < 2 * n {
-        let more = gather(ws, n, m, turn(n, i));
+    while i < n {
+        let more = gather(ws, n, m, i);
         changed = changed | more;
         i += 1;
     }
     changed
 }
 
-// What the n rows behind m + 9216 have spreads along the relation of the rows behind m, until nothing changes.
+// What the n rows behind m + 9216 have spreads along the relation of the rows behind m. The depth-first order is there for speed: in it one turn
+// is enough where no nodes reach each other. That nothing more changes is found by a pass over all rows.
 pub fn spread(ws: &mut [u32], n: usize, m: usize)
     requires { ⌜ Rows n m (now ws) ⌝ }
     ensures { λ _. ⌜ Spread n m (now (ws .entry)) (now (ws .exit)) ⌝ }
 {
     let mut changed = true;
     while changed {
+        descend(ws, n, m);
         changed = pass(ws, n, m);
     }
 }

@@ -1,6 +1,6 @@
 -- `pass`: so many nodes have had their turn.
 use borrow.Author.Needs.{needs}
-use Prim.Native.Nat.{_≤_, _-_, _*_}
+use Prim.Native.Nat.{_-_}
 use mathlib.Core.Path.{_≡_}
 use lib.ListN.{length}
 use Rattle.candidates.specs.Spread.{Rows, Passed, passed-none, pass-more, pass-done, rows-same, rows-room}
@@ -11,16 +11,10 @@ abbrev Inv-loop : tie.InvT-loop
 Inv-loop ws₀ n m changed₀ i₀ ws changed i = (length ws ≡ length ws₀) × Rows n m ws × Passed n m i ws₀ ws changed
 
 abbrev μ-loop : tie.MeasureT-loop
-μ-loop ws₀ n m changed₀ i₀ ws changed i = 2 * n - i
+μ-loop ws₀ n m changed₀ i₀ ws changed i = n - i
 
 loop-holds : tie.Need-loop-holds Inv-loop μ-loop
 loop-holds c = search (needs, passed-none)
-
-mul-loop : tie.Need-mul-loop Inv-loop μ-loop
-mul-loop c = search needs
-
-turn-requires : tie.Need-turn-requires Inv-loop μ-loop
-turn-requires c κs = search needs
 
 gather-requires : tie.Need-gather-requires Inv-loop μ-loop
 gather-requires c κs = search (needs, rows-room)
@@ -47,8 +41,6 @@ pass-spec =
     Inv-loop
     μ-loop
     loop-holds
-    mul-loop
-    turn-requires
     gather-requires
     add-i
     loop-less

@@ -1,10 +1,10 @@
--- `spread`: passes go on while one changes anything.
+-- `spread`: turns go on while a pass changes anything.
 use borrow.Author.Needs.{needs}
 use Prim.Native.Nat.{_+_}
 use mathlib.Core.Path.{_≡_}
 use lib.ListN.{length}
 use Rattle.candidates.specs.Bits.{slack}
-use Rattle.candidates.specs.Spread.{Rows, Going, due, going-start, going-on, going-done, going-less, rows-same}
+use Rattle.candidates.specs.Spread.{Rows, Going, due, going-start, going-on, going-done, going-less, rows-same, visited-rows}
 use Rattle.candidates.proofs.rows.spread.Statement.{statement}
 use Rattle.candidates.proofs.rows.spread.Tie as tie
 
@@ -17,8 +17,11 @@ abbrev μ-loop : tie.MeasureT-loop
 loop-holds : tie.Need-loop-holds Inv-loop μ-loop
 loop-holds c = search (needs, going-start)
 
+descend-requires : tie.Need-descend-requires Inv-loop μ-loop
+descend-requires c κs = search needs
+
 pass-requires : tie.Need-pass-requires Inv-loop μ-loop
-pass-requires c κs = search needs
+pass-requires c κs = search (needs, visited-rows)
 
 loop-less : tie.Need-loop-less Inv-loop μ-loop
 loop-less c = search (needs, going-less)
@@ -35,4 +38,13 @@ returns c = search (needs, going-done)
 pub spread-spec : {M : Type 1} → statement M
 spread-spec =
     tie.close
-    (tie.spec Inv-loop μ-loop loop-holds pass-requires loop-less loop-again same-length returns)
+    (tie.spec
+    Inv-loop
+    μ-loop
+    loop-holds
+    descend-requires
+    pass-requires
+    loop-less
+    loop-again
+    same-length
+    returns)
