@@ -7,7 +7,7 @@ use mathlib.Core.Logic.{_≢_}
 use mathlib.Core.Option.{none, some}
 use borrow.Author.Tests.{eq-eqb, ne-eqb, lt-ltb, le-ltb, le-leb, lt-leb}
 use native.Mathlib.Omega.{arith}
-use lib.Dec.{T, eqb, ltb, leb}
+use lib.Dec.{T, eqb, ltb, leb, nltb→le}
 use lib.ListN.{length}
 use Rattle.rules.specs.Lists.{Words, holds}
 use Rattle.rules.specs.Limits.{limit·sheet, limit·question, limit·answer, limit·workspace, limit·count}
@@ -19,6 +19,7 @@ use Rattle.rules.specs.Acyclic.{sheet-acyclic, question-acyclic}
 use Rattle.rules.specs.Search.{Finder}
 use Rattle.acyclic.specs.Nodes.{Inside}
 use Rattle.acyclic.specs.Sheets.{impl-question-inside, flex-question-inside}
+use Rattle.rules.specs.CheckLaws.{unrefused, not-not}
 use Rattle.rules.specs.Check.{Checks, refusal, of-length, entry, of-sheet, of-ids, of-impl-question, of-flex-question, impl-checks, flex-checks}
 
 -- The number of some checks: that of the first condition that holds, 0 for none.
@@ -251,3 +252,58 @@ module _ (s : Words) (source generics : ℕ) (n : ℕ) (e : n ≡ number (of-she
   pub flex-question : (m k : ℕ) → m ≡ number (of-ids (finder s source generics) 0) → k ≡ number (flex-question-tests s generics q) → n ≡ 0 → m ≡ 0 → k ≡ number (flex-checks (finder s source generics) q)
   unfolding flex-checks of-flex-question
   flex-question m k f g z y = in-question s source generics 0 n e (of-flex-question (finder s source generics) q) z m f y k g
+
+-- A call that entry lets in has a sheet, a question and a workspace of such lengths,
+no-number : (cs : Checks) → Positive cs → 0 ≡ number cs → refusal cs ≡ none
+unfolding number refusal
+no-number [] p e = refl
+no-number (c ∷ cs) p e = go (c .1) e (no-number cs (p .1))
+  where
+    go : (b : Bool) → 0 ≡ number ((c .0, b) ∷ cs) → (0 ≡ number cs → refusal cs ≡ none) → refusal ((c .0, b) ∷ cs) ≡ none
+    go true e ih = absurd (omega (arith, p .0))
+    go false e ih = ih e
+
+both-no : (a b : Bool) → T (not (a || b)) → T (not a) × T (not b)
+both-no true b t = absurd t
+both-no false b t = (tt, t)
+
+module _ (s q : Words) (answer work c n : ℕ) (e : n ≡ number (entry s q answer work c)) (z : n ≡ 0) where
+  entered : refusal (entry s q answer work c) ≡ none
+  unfolding entry of-length
+  entered = no-number (entry s q answer work c) (omega arith) (sym z ∙ e)
+
+  of-sheet-length : T (not (ltb (length s) header·length)) × T (not (ltb limit·sheet (length s)))
+  unfolding entry of-length
+  of-sheet-length = both-no (ltb (length s) header·length) (ltb limit·sheet (length s)) (unrefused (entry s q answer work c) entered 0)
+
+  of-question-length : T (not (ltb (length q) question·length)) × T (not (ltb limit·question (length q)))
+  unfolding entry of-length
+  of-question-length = both-no (ltb (length q) question·length) (ltb limit·question (length q)) (unrefused (entry s q answer work c) entered 1)
+
+  of-work-length : T (not (ltb work limit·workspace))
+  unfolding entry of-length
+  of-work-length = unrefused (entry s q answer work c) entered 3
+
+  pub sheet-some : 0 < length s
+  sheet-some = omega (arith, nltb→le (length s) header·length (of-sheet-length .0))
+
+  pub sheet-within : length s ≤ 4096
+  sheet-within = nltb→le limit·sheet (length s) (of-sheet-length .1)
+
+  pub question-some : 0 < length q
+  question-some = omega (arith, nltb→le (length q) question·length (of-question-length .0))
+
+  pub question-within : length q ≤ 4096
+  question-within = omega (arith, nltb→le limit·question (length q) (of-question-length .1))
+
+  pub work-within : 90112 ≤ work
+  unfolding limit·workspace
+  work-within = omega (arith, nltb→le work limit·workspace of-work-length)
+
+  -- and its number is that of the checks behind entry; one that it turns away has entry's.
+  pub past-entry : (cs : Checks) (m : ℕ) → m ≡ number cs → m ≡ number (entry s q answer work c ++ cs)
+  unfolding entry of-length
+  past-entry cs m f = f ∙ sym (behind (entry s q answer work c) cs (omega arith) (sym z ∙ e))
+
+pub at-entry : (s q : Words) (answer work c n : ℕ) (cs : Checks) → n ≡ number (entry s q answer work c) → n ≢ 0 → n ≡ number (entry s q answer work c ++ cs)
+at-entry s q answer work c n cs e d = front (entry s q answer work c) cs n e d

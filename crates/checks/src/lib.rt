@@ -3,7 +3,7 @@ use chart::layout;
 ghost use mathlib.Core.Path.{_≡_};
 ghost use Prim.Native.Nat.{_<_, _≤_};
 ghost use mathlib.Core.Bool.{not};
-ghost use mathlib.Core.List.{[], _∷_};
+ghost use mathlib.Core.List.{[], _∷_, _++_};
 ghost use lib.Dec.{T};
 ghost use lib.ListN.{length};
 ghost use Rattle.rules.specs.Layout.{question·table};
@@ -260,4 +260,43 @@ pub fn check_flex(s: &[u32], q: &[u32], source: usize, generics: usize, ws: &mut
         return ids;
     }
     flex_question_tests(s, generics, q, ws)
+}
+
+// 1 to 13 of the impl call: entry, then those.
+pub fn check_impl_call(
+    s: &[u32],
+    q: &[u32],
+    source: usize,
+    generics: usize,
+    basic: u32,
+    answer: usize,
+    count: u32,
+    ws: &mut [u32],
+) -> u32
+    ensures { λ r. ⌜ r ≡ number (entry (now (s .entry)) (now (q .entry)) answer (length (now (ws .entry))) count ++ impl-checks (finder (now (s .entry)) source generics) basic (now (q .entry))) ⌝ }
+{
+    let n = check_entry(s, q, answer, ws.len(), count);
+    if n != 0 {
+        return n;
+    }
+    check_impl(s, q, source, generics, basic, ws)
+}
+
+// 1 to 13 of the flex call: entry, then those.
+pub fn check_flex_call(
+    s: &[u32],
+    q: &[u32],
+    source: usize,
+    generics: usize,
+    answer: usize,
+    count: u32,
+    ws: &mut [u32],
+) -> u32
+    ensures { λ r. ⌜ r ≡ number (entry (now (s .entry)) (now (q .entry)) answer (length (now (ws .entry))) count ++ flex-checks (finder (now (s .entry)) source generics) (now (q .entry))) ⌝ }
+{
+    let n = check_entry(s, q, answer, ws.len(), count);
+    if n != 0 {
+        return n;
+    }
+    check_flex(s, q, source, generics, ws)
 }
