@@ -307,3 +307,22 @@ module _ (s q : Words) (answer work c n : ℕ) (e : n ≡ number (entry s q answ
 
 pub at-entry : (s q : Words) (answer work c n : ℕ) (cs : Checks) → n ≡ number (entry s q answer work c) → n ≢ 0 → n ≡ number (entry s q answer work c ++ cs)
 at-entry s q answer work c n cs e d = front (entry s q answer work c) cs n e d
+
+-- The listing's checks: the sheet's length, then those of the sheet.
+pub listing-length : (s : Words) (n : ℕ) → n ≡ number (of-length s) → n ≢ 0 → n ≡ number (of-length s ++ of-sheet s)
+listing-length s n e d = front (of-length s) (of-sheet s) n e d
+
+module _ (s : Words) (n : ℕ) (e : n ≡ number (of-length s)) (z : n ≡ 0) where
+  lengths : T (not (ltb (length s) header·length)) × T (not (ltb limit·sheet (length s)))
+  unfolding of-length
+  lengths = both-no (ltb (length s) header·length) (ltb limit·sheet (length s)) (unrefused (of-length s) (no-number (of-length s) (omega arith) (sym z ∙ e)) 0)
+
+  pub listing-some : 0 < length s
+  listing-some = omega (arith, nltb→le (length s) header·length (lengths .0))
+
+  pub listing-within : length s ≤ 4096
+  listing-within = nltb→le limit·sheet (length s) (lengths .1)
+
+  pub listing-sheet : (m : ℕ) → m ≡ number (of-sheet s) → m ≡ number (of-length s ++ of-sheet s)
+  unfolding of-length
+  listing-sheet m f = f ∙ sym (behind (of-length s) (of-sheet s) (omega arith) (sym z ∙ e))

@@ -300,3 +300,15 @@ pub fn check_flex_call(
     }
     check_flex(s, q, source, generics, ws)
 }
+
+// 1 and 6 to 9 of the listing: the sheet's length, then the sheet.
+pub fn check_listing(s: &[u32], ws: &mut [u32]) -> u32
+    requires { ⌜ 90112 ≤ length (now ws) ⌝ }
+    ensures { λ r. ⌜ r ≡ number (of-length (now (s .entry)) ++ of-sheet (now (s .entry))) ⌝ }
+{
+    let n = check_length(s);
+    if n != 0 {
+        return n;
+    }
+    check_sheet(s, ws)
+}
