@@ -4,21 +4,19 @@ use mathlib.Core.Path.{_≡_, refl, sym, _∙_, ap, ap₂, subst}
 use mathlib.Core.Bool.{Bool, true, false}
 use mathlib.Core.List.{List, [], _∷_, _++_, map}
 use mathlib.Core.Logic.{_≢_}
-use native.Mathlib.Nat.{le-of-suc-le-suc, not-suc-le-zero}
-use native.Mathlib.Numerals.{add-one}
 use native.Mathlib.Omega.{arith}
 use lib.Dec.{eqb}
-use lib.ListN.{length, getD, set, take, length-set}
+use lib.ListN.{length, set, take, length-set}
 use lib.Seq.{getD-set-same, getD-set-other}
-use borrow.Author.Tests.{eq-eqb, ne-eqb}
+use borrow.Author.Tests.{ne-eqb}
 use Rattle.rules.specs.Lists.{Words, bit}
 use Rattle.rules.specs.Limits.{limit·nodes}
 use Rattle.rules.specs.Sheet.{at}
-use Rattle.rules.specs.Types.{Ty, TypeState, unknown, known, TypeNode, Types, new-node, node-at, state-at, size-at}
+use Rattle.rules.specs.Types.{Ty, TypeState, unknown, known, TypeNode, Types, new-node}
 use Rattle.rules.specs.Transfer.{type-of-word}
 use Rattle.rules.specs.Solutions.{rep}
-use Rattle.table.specs.Packing.{up-to, head·up, head·size, head·arity, head·inverted, eight, state-of, node-from, node-of, types-of, Counted, Packed, Put, Rewritten, Pushes, Becomes, Head, TypeWords}
-use Rattle.table.specs.Nodes.{up-to-length, up-to-same, up-to-set, types-length, types-few}
+use Rattle.table.specs.Packing.{up-to, eight, state-of, node-from, node-of, types-of, Counted, Packed, Put, Rewritten, Pushes, Becomes, Head, TypeWords}
+use Rattle.table.specs.Nodes.{up-to-same, up-to-set, types-length, types-few}
 use Rattle.table.specs.Classes.{counted-push, counted-set}
 
 -- Six words are stored from place 6 * n + 1 on.

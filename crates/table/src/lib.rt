@@ -1,8 +1,8 @@
 // A type table (`Types` of the Rust) in a lent slice of words. Only the functions of this file know where its words stand.
 // Types cross functions as type words: 2 * node, plus 1 if inverted.
 ghost use mathlib.Core.Path.{_≡_};
-ghost use mathlib.Core.Bool.{Bool, true, false};
-ghost use Prim.Native.Nat.{ℕ, _+_, _*_, _/_, _%_, _<_, _≤_};
+ghost use mathlib.Core.Bool.{false};
+ghost use Prim.Native.Nat.{_+_, _*_, _/_, _%_, _<_, _≤_};
 ghost use lib.ListN.{length, getD, set};
 ghost use Rattle.rules.specs.Sheet.{at};
 ghost use mathlib.Core.List.{[], map};
