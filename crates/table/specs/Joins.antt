@@ -1,7 +1,7 @@
 -- Laws of joining: a class is relabelled node by node, and its new root gets what is known of either and the size of both.
 use Prim.Native.Nat.{ℕ, zero, suc, _+_, _*_, _/_, _%_, _≤_, _<_}
 use mathlib.Core.Path.{_≡_, refl, sym, _∙_, ap, ap₂, subst}
-use mathlib.Core.Bool.{Bool, true, false, not}
+use mathlib.Core.Bool.{Bool, true, false}
 use mathlib.Core.List.{List, [], _∷_, map}
 use mathlib.Core.Logic.{_≢_, ⊎-elim}
 use native.Mathlib.Nat.{le-of-suc-le-suc, not-suc-le-zero}
@@ -312,12 +312,6 @@ type-small b n r h e = omega (arith, bit-most b)
 pub made-type : (b : Bool) (n i : ℕ) → i ≡ bit b → 2 * n + i ≡ word-of-type (b, n)
 unfolding word-of-type
 made-type b n i e = ap (λ k. 2 * n + k) e
-
-pub xor-true : (a b : Bool) → a ≡ true → not b ≡ xor a b
-xor-true a b e = sym (ap (λ (c : Bool). xor c b) e)
-
-pub xor-false : (a b : Bool) → a ≡ false → b ≡ xor a b
-xor-false a b e = sym (ap (λ (c : Bool). xor c b) e)
 
 pub opposed-types : (a b : ℕ) (i j r : Bool) → i ≡ (type-of-word a) .0 → j ≡ (type-of-word b) .0 → r ≡ xor i j → r ≡ xor ((type-of-word a) .0) ((type-of-word b) .0)
 opposed-types a b i j r ei ej e = e ∙ ap₂ (λ (x y : Bool). xor x y) ei ej

@@ -214,12 +214,6 @@ unfolding state-of
 state-known zero i d cs z = absurd (z refl)
 state-known (suc k) i d cs z = refl
 
-pub bit-true : (b : Bool) → b ≡ true → 1 ≡ bit b
-bit-true b e = sym (ap bit e)
-
-pub bit-false : (b : Bool) → b ≡ false → 0 ≡ bit b
-bit-false b e = sym (ap bit e)
-
 pub bit-back : (b : Bool) (i : ℕ) → i ≡ bit b → eqb i 1 ≡ b
 bit-back true i e = ap (λ j. eqb j 1) e
 bit-back false i e = ap (λ j. eqb j 1) e
@@ -247,9 +241,6 @@ node-low ws n h = omega (arith, types-few ws)
 
 pub type-small : (cs : Words) (i r : ℕ) → TypeWords cs → r ≡ at cs i → r < 512
 type-small cs i r s e = omega (arith, s .small i)
-
-pub double-low : (ws : Words) (n : ℕ) → n < length (types-of ws) → 2 * n < 512
-double-low ws n h = omega (arith, types-few ws)
 
 pub place-in : (ws : Words) (n w : ℕ) → w ≡ n → n < length (types-of ws) → 1537 ≤ length ws → 6 * w + 1 < length ws
 place-in ws n w e h long = omega (arith, types-few ws)
