@@ -1,17 +1,17 @@
 -- How many nodes a class has, through pushes, stores and joins: no class is ever counted larger than it is, so that sizes stay below the limit.
 use Prim.Native.Nat.{ℕ, zero, suc, _+_, _≤_, _<_}
-use mathlib.Core.Path.{_≡_, refl, sym, _∙_, ap, subst}
+use mathlib.Core.Path.{_≡_, refl, sym, _∙_, ap}
 use mathlib.Core.Bool.{Bool, true, false}
-use mathlib.Core.List.{List, [], _∷_, _++_, map}
-use mathlib.Core.Logic.{_≢_, ⊎-elim}
-use native.Mathlib.Nat.{le-of-suc-le-suc, not-suc-le-zero, eq-or-lt-of-le}
+use mathlib.Core.List.{[], _∷_, _++_, map}
+use mathlib.Core.Logic.{_≢_}
+use native.Mathlib.Nat.{le-of-suc-le-suc, not-suc-le-zero}
 use native.Mathlib.Decide.{ℕ-discrete}
 use native.Mathlib.Omega.{arith}
 use lib.Dec.{eqb}
 use lib.ListN.{length, getD, set, length-set, length-append, List·getD-append}
 use lib.Seq.{getD-at, getD-set-same, getD-set-other}
-use borrow.Author.Tests.{eq-eqb, ne-eqb, eqb-true, eqb-false}
-use Rattle.rules.specs.Types.{Ty, TypeState, unknown, TypeNode, Types, new-node, node-at, xor, invert-if, state-at, size-at, relabel, or-else, invert-state, hang, larger, join}
+use borrow.Author.Tests.{eq-eqb, ne-eqb}
+use Rattle.rules.specs.Types.{Ty, TypeState, unknown, TypeNode, Types, new-node, node-at, xor, invert-if, state-at, size-at, relabel, or-else, invert-state, hang}
 use Rattle.rules.specs.Solutions.{rep}
 use Rattle.rules.specs.Joining.{map-at, map-length}
 use Rattle.table.specs.Packing.{members, Counted}

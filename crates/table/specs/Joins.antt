@@ -1,14 +1,14 @@
 -- Laws of joining: a class is relabelled node by node, and its new root gets what is known of either and the size of both.
-use Prim.Native.Nat.{ℕ, zero, suc, _+_, _*_, _/_, _%_, _≤_, _<_, min}
+use Prim.Native.Nat.{ℕ, zero, suc, _+_, _*_, _/_, _%_, _≤_, _<_}
 use mathlib.Core.Path.{_≡_, refl, sym, _∙_, ap, ap₂, subst}
-use mathlib.Core.Bool.{Bool, true, false, not}
-use mathlib.Core.List.{List, [], _∷_, _++_, map}
+use mathlib.Core.Bool.{Bool, true, false}
+use mathlib.Core.List.{List, [], _∷_, map}
 use mathlib.Core.Logic.{_≢_, ⊎-elim}
 use native.Mathlib.Nat.{le-of-suc-le-suc, not-suc-le-zero}
 use native.Mathlib.Numerals.{add-one}
 use native.Mathlib.Omega.{arith}
-use lib.Dec.{eqb, ltb}
-use lib.ListN.{length, getD, set, take, length-set}
+use lib.Dec.{eqb}
+use lib.ListN.{length, getD, set, take}
 use lib.Seq.{set-getD}
 use borrow.Author.Tests.{eq-eqb, ne-eqb, lt-ltb, le-ltb}
 use Rattle.rules.specs.Lists.{Words, bit}
@@ -16,14 +16,13 @@ use Rattle.rules.specs.Sheet.{at}
 use Rattle.rules.specs.Types.{Ty, TypeState, unknown, known, TypeNode, Types, new-node, node-at, xor, invert-if, invert-state, state-at, size-at, relabel, or-else, hang, larger, join}
 use Rattle.rules.specs.Transfer.{type-of-word}
 use Rattle.rules.specs.Answer.{word-of-type}
-use Rattle.rules.specs.Solutions.{rep}
 use Rattle.rules.specs.Joining.{map-length}
 use Rattle.rules.specs.Pigeonholes.{lt-or}
 use Rattle.table.specs.Reads.{unknown-here}
-use Rattle.table.specs.Packing.{head·up, head·size, head·arity, head·inverted, eight, state-of, node-from, node-of, types-of, up-at, kind-at, kind-in, Counted, Packed, Put, Rewritten, Becomes, Roots, Head}
-use Rattle.table.specs.Nodes.{word-type, type-word, types-few, node-in, node-past}
+use Rattle.table.specs.Packing.{head·size, head·arity, head·inverted, eight, state-of, node-from, node-of, types-of, up-at, kind-at, kind-in, Counted, Packed, Put, Rewritten, Becomes, Roots, Head}
+use Rattle.table.specs.Nodes.{type-word, types-few, node-in, node-past}
 use Rattle.table.specs.Classes.{relabel-state, map-node, sizes-most, counted-hang}
-use Rattle.table.specs.Writes.{put-head, put-is, put-node, head-of, head-node, even-type, bit-back}
+use Rattle.table.specs.Writes.{put-head, put-is, put-node, head-node, even-type, bit-back}
 
 -- A node as type t of its root.
 unfoldable pub moved : Ty → TypeNode → TypeNode
@@ -313,12 +312,6 @@ type-small b n r h e = omega (arith, bit-most b)
 pub made-type : (b : Bool) (n i : ℕ) → i ≡ bit b → 2 * n + i ≡ word-of-type (b, n)
 unfolding word-of-type
 made-type b n i e = ap (λ k. 2 * n + k) e
-
-pub xor-true : (a b : Bool) → a ≡ true → not b ≡ xor a b
-xor-true a b e = sym (ap (λ (c : Bool). xor c b) e)
-
-pub xor-false : (a b : Bool) → a ≡ false → b ≡ xor a b
-xor-false a b e = sym (ap (λ (c : Bool). xor c b) e)
 
 pub opposed-types : (a b : ℕ) (i j r : Bool) → i ≡ (type-of-word a) .0 → j ≡ (type-of-word b) .0 → r ≡ xor i j → r ≡ xor ((type-of-word a) .0) ((type-of-word b) .0)
 opposed-types a b i j r ei ej e = e ∙ ap₂ (λ (x y : Bool). xor x y) ei ej

@@ -1,8 +1,8 @@
 -- Laws of lists counted up, of type words, and of the nodes of a table by the words that they stand in.
 use Prim.Native.Nat.{ℕ, zero, suc, _+_, _*_, _/_, _%_, _≤_, _<_, min}
-use mathlib.Core.Path.{_≡_, refl, sym, _∙_, ap, ap₂}
+use mathlib.Core.Path.{_≡_, refl, sym, _∙_, ap₂}
 use mathlib.Core.Bool.{Bool, true, false}
-use mathlib.Core.List.{List, [], _∷_, _++_}
+use mathlib.Core.List.{[], _∷_}
 use mathlib.Core.Logic.{_≢_, _⊎_, ⊎-elim}
 use native.Mathlib.Nat.{eq-or-lt-of-le}
 use native.Mathlib.Decide.{ℕ-discrete}
@@ -14,10 +14,10 @@ use borrow.Author.Tests.{eq-eqb, ne-eqb, eqb-true, eqb-false}
 use Rattle.rules.specs.Lists.{Words, bit}
 use Rattle.rules.specs.Limits.{limit·nodes}
 use Rattle.rules.specs.Sheet.{at}
-use Rattle.rules.specs.Types.{Ty, TypeState, unknown, known, TypeNode, Types, new-node, node-at}
+use Rattle.rules.specs.Types.{Ty, unknown, Types, new-node, node-at}
 use Rattle.rules.specs.Transfer.{type-of-word}
 use Rattle.rules.specs.Answer.{word-of-type}
-use Rattle.table.specs.Packing.{up-to, node-from, node-of, types-of}
+use Rattle.table.specs.Packing.{up-to, node-of, types-of}
 
 pub up-to-length : {A : Type 0} (f : ℕ → A) (n : ℕ) → length (up-to f n) ≡ n
 unfolding up-to

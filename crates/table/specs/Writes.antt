@@ -4,21 +4,19 @@ use mathlib.Core.Path.{_≡_, refl, sym, _∙_, ap, ap₂, subst}
 use mathlib.Core.Bool.{Bool, true, false}
 use mathlib.Core.List.{List, [], _∷_, _++_, map}
 use mathlib.Core.Logic.{_≢_}
-use native.Mathlib.Nat.{le-of-suc-le-suc, not-suc-le-zero}
-use native.Mathlib.Numerals.{add-one}
 use native.Mathlib.Omega.{arith}
 use lib.Dec.{eqb}
-use lib.ListN.{length, getD, set, take, length-set}
+use lib.ListN.{length, set, take, length-set}
 use lib.Seq.{getD-set-same, getD-set-other}
-use borrow.Author.Tests.{eq-eqb, ne-eqb}
+use borrow.Author.Tests.{ne-eqb}
 use Rattle.rules.specs.Lists.{Words, bit}
 use Rattle.rules.specs.Limits.{limit·nodes}
 use Rattle.rules.specs.Sheet.{at}
-use Rattle.rules.specs.Types.{Ty, TypeState, unknown, known, TypeNode, Types, new-node, node-at, state-at, size-at}
+use Rattle.rules.specs.Types.{Ty, TypeState, unknown, known, TypeNode, Types, new-node}
 use Rattle.rules.specs.Transfer.{type-of-word}
 use Rattle.rules.specs.Solutions.{rep}
-use Rattle.table.specs.Packing.{up-to, head·up, head·size, head·arity, head·inverted, eight, state-of, node-from, node-of, types-of, Counted, Packed, Put, Rewritten, Pushes, Becomes, Head, TypeWords}
-use Rattle.table.specs.Nodes.{up-to-length, up-to-same, up-to-set, types-length, types-few}
+use Rattle.table.specs.Packing.{up-to, eight, state-of, node-from, node-of, types-of, Counted, Packed, Put, Rewritten, Pushes, Becomes, Head, TypeWords}
+use Rattle.table.specs.Nodes.{up-to-same, up-to-set, types-length, types-few}
 use Rattle.table.specs.Classes.{counted-push, counted-set}
 
 -- Six words are stored from place 6 * n + 1 on.
@@ -216,12 +214,6 @@ unfolding state-of
 state-known zero i d cs z = absurd (z refl)
 state-known (suc k) i d cs z = refl
 
-pub bit-true : (b : Bool) → b ≡ true → 1 ≡ bit b
-bit-true b e = sym (ap bit e)
-
-pub bit-false : (b : Bool) → b ≡ false → 0 ≡ bit b
-bit-false b e = sym (ap bit e)
-
 pub bit-back : (b : Bool) (i : ℕ) → i ≡ bit b → eqb i 1 ≡ b
 bit-back true i e = ap (λ j. eqb j 1) e
 bit-back false i e = ap (λ j. eqb j 1) e
@@ -249,9 +241,6 @@ node-low ws n h = omega (arith, types-few ws)
 
 pub type-small : (cs : Words) (i r : ℕ) → TypeWords cs → r ≡ at cs i → r < 512
 type-small cs i r s e = omega (arith, s .small i)
-
-pub double-low : (ws : Words) (n : ℕ) → n < length (types-of ws) → 2 * n < 512
-double-low ws n h = omega (arith, types-few ws)
 
 pub place-in : (ws : Words) (n w : ℕ) → w ≡ n → n < length (types-of ws) → 1537 ≤ length ws → 6 * w + 1 < length ws
 place-in ws n w e h long = omega (arith, types-few ws)

@@ -1,8 +1,8 @@
 // A type table (`Types` of the Rust) in a lent slice of words. Only the functions of this file know where its words stand.
 // Types cross functions as type words: 2 * node, plus 1 if inverted.
 ghost use mathlib.Core.Path.{_≡_};
-ghost use mathlib.Core.Bool.{Bool, true, false};
-ghost use Prim.Native.Nat.{ℕ, _+_, _*_, _/_, _%_, _<_, _≤_};
+ghost use mathlib.Core.Bool.{false};
+ghost use Prim.Native.Nat.{_+_, _*_, _/_, _%_, _<_, _≤_};
 ghost use lib.ListN.{length, getD, set};
 ghost use Rattle.rules.specs.Sheet.{at};
 ghost use mathlib.Core.List.{[], map};
@@ -15,7 +15,8 @@ ghost use Rattle.rules.specs.AcyclicLaws.{children-at};
 ghost use Rattle.rules.specs.Transfer.{type-of-word};
 ghost use Rattle.rules.specs.Answer.{word-of-type};
 ghost use Rattle.table.specs.Reads.{digit};
-ghost use Rattle.table.specs.Packing.{types-of, node-from, Packed, Put, Rewritten, Pushes, Becomes, Roots, Head, TypeWords, up-at, kind-at, inverted-at, id-at};
+ghost use Rattle.rules.specs.Limits.{limit·nodes};
+ghost use Rattle.table.specs.Packing.{table·length, types-of, node-from, Packed, Put, Rewritten, Pushes, Becomes, Roots, Head, TypeWords, up-at, kind-at, inverted-at, id-at};
 ghost use Rattle.table.specs.Writes.{triple};
 ghost use Rattle.table.specs.Joins.{moved, with-head, root-node};
 
@@ -23,6 +24,21 @@ ghost use Rattle.table.specs.Joins.{moved, with-head, root-node};
 pub const TABLE: usize = 1537;
 
 pub const NODES: u32 = 256;
+
+// The words of a node, counted from 1: a head, the kind, the id, and three words of children. Word 0 of the table counts the nodes.
+const NODE: usize = 6;
+
+const HEAD: usize = 1;
+
+const KIND: usize = 2;
+
+const ID: usize = 3;
+
+const CHILDREN: usize = 4;
+
+const MORE_CHILDREN: usize = 5;
+
+const LAST_CHILDREN: usize = 6;
 
 fn wide(w: u32) -> usize
     ensures { λ r. ⌜ r ≡ w ⌝ }
@@ -34,7 +50,7 @@ fn wide(w: u32) -> usize
 fn field(ws: &[u32], n: u32, k: usize) -> u32
     ensures { λ r. ⌜ r ≡ at (now (ws .entry)) (6 * n + k) ⌝ }
 {
-    words::offset(ws, 6 * wide(n), k)
+    words::offset(ws, NODE * wide(n), k)
 }
 
 // How many nodes there are.
@@ -50,7 +66,7 @@ pub fn up_of(ws: &[u32], n: u32) -> u32
     ensures { λ r. ⌜ r ≡ word-of-type (up-at (types-of (now (ws .entry))) n) ⌝ }
 {
     if n < count(ws) {
-        field(ws, n, 1) / 18 % 512
+        field(ws, n, HEAD) / 18 % 512
     } else {
         0
     }
@@ -69,7 +85,7 @@ pub fn size_of(ws: &[u32], n: u32) -> u32
     ensures small { λ r. ⌜ r < 512 ⌝ }
 {
     if n < count(ws) {
-        field(ws, n, 1) / 18 / 512 % 512
+        field(ws, n, HEAD) / 18 / 512 % 512
     } else {
         1
     }
@@ -79,7 +95,7 @@ pub fn size_of(ws: &[u32], n: u32) -> u32
 pub fn kind_of(ws: &[u32], n: u32) -> u32
     ensures { λ r. ⌜ r ≡ kind-at (types-of (now (ws .entry))) n ⌝ }
 {
-    if n < count(ws) { field(ws, n, 2) } else { 0 }
+    if n < count(ws) { field(ws, n, KIND) } else { 0 }
 }
 
 // Whether node n is inverted; false where it is unknown.
@@ -89,7 +105,7 @@ pub fn inverted_of(ws: &[u32], n: u32) -> bool
     if kind_of(ws, n) == 0 {
         false
     } else {
-        field(ws, n, 1) % 2 == 1
+        field(ws, n, HEAD) % 2 == 1
     }
 }
 
@@ -100,7 +116,7 @@ pub fn id_of(ws: &[u32], n: u32) -> u32
     if kind_of(ws, n) == 0 {
         0
     } else {
-        field(ws, n, 3)
+        field(ws, n, ID)
     }
 }
 
@@ -111,7 +127,7 @@ pub fn child_count(ws: &[u32], n: u32) -> usize
     if kind_of(ws, n) == 0 {
         0
     } else {
-        wide(field(ws, n, 1) % 18 / 2)
+        wide(field(ws, n, HEAD) % 18 / 2)
     }
 }
 
@@ -135,7 +151,7 @@ pub fn child(ws: &[u32], n: u32, j: usize) -> u32
     ensures { λ r. ⌜ r ≡ word-of-type (getD (children-at (types-of (now (ws .entry))) n) j (false, 0)) ⌝ }
 {
     if j < child_count(ws, n) {
-        digit_of(j % 3, field(ws, n, 4 + j / 3))
+        digit_of(j % 3, field(ws, n, CHILDREN + j / 3))
     } else {
         0
     }
@@ -169,17 +185,17 @@ pub fn find(ws: &[u32], t: u32) -> u32
 
 // Writes the six words of node n.
 fn put(ws: &mut [u32], n: u32, h: u32, kind: u32, id: u32, x: u32, y: u32, z: u32)
-    requires { ⌜ n < 256 ⌝ }
-    requires { ⌜ 1537 ≤ length (now ws) ⌝ }
+    requires { ⌜ n < limit·nodes ⌝ }
+    requires { ⌜ table·length ≤ length (now ws) ⌝ }
     ensures { λ _. ⌜ Put (now (ws .entry)) (now (ws .exit)) n (node-from h kind id x y z) ⌝ }
 {
     let w = wide(n);
-    ws[6 * w + 1] = h;
-    ws[6 * w + 2] = kind;
-    ws[6 * w + 3] = id;
-    ws[6 * w + 4] = x;
-    ws[6 * w + 5] = y;
-    ws[6 * w + 6] = z;
+    ws[NODE * w + HEAD] = h;
+    ws[NODE * w + KIND] = kind;
+    ws[NODE * w + ID] = id;
+    ws[NODE * w + CHILDREN] = x;
+    ws[NODE * w + MORE_CHILDREN] = y;
+    ws[NODE * w + LAST_CHILDREN] = z;
 }
 
 // A head from its fields: which type of its root a node is, the size of its class, how many children, inverted or not.
@@ -223,8 +239,8 @@ fn triple_of(cs: &[u32], i: usize) -> u32
 
 // Writes a new unknown at node n.
 fn write_unknown(ws: &mut [u32], n: u32)
-    requires { ⌜ n < 256 ⌝ }
-    requires { ⌜ 1537 ≤ length (now ws) ⌝ }
+    requires { ⌜ n < limit·nodes ⌝ }
+    requires { ⌜ table·length ≤ length (now ws) ⌝ }
     ensures { λ _. ⌜ Put (now (ws .entry)) (now (ws .exit)) n (new-node n unknown) ⌝ }
 {
     let h = head(2 * n, 1, 0, 0);
@@ -233,8 +249,8 @@ fn write_unknown(ws: &mut [u32], n: u32)
 
 // Writes a new known type at node n.
 fn write_known(ws: &mut [u32], n: u32, inverted: bool, kind: u32, id: u32, cs: &[u32])
-    requires { ⌜ n < 256 ⌝ }
-    requires { ⌜ 1537 ≤ length (now ws) ⌝ }
+    requires { ⌜ n < limit·nodes ⌝ }
+    requires { ⌜ table·length ≤ length (now ws) ⌝ }
     requires { ⌜ kind ≢ 0 ⌝ }
     requires { ⌜ length (now cs) ≤ 8 ⌝ }
     requires { ⌜ TypeWords (now cs) ⌝ }
@@ -295,15 +311,15 @@ pub fn set_known(ws: &mut [u32], n: u32, inverted: bool, kind: u32, id: u32, cs:
 // Copies a table: the words of the nodes that it has.
 pub fn copy_table(from: &[u32], to: &mut [u32])
     requires { ⌜ Packed (now from) ⌝ }
-    requires { ⌜ 1537 ≤ length (now to) ⌝ }
+    requires { ⌜ table·length ≤ length (now to) ⌝ }
     ensures { λ _. ⌜ Becomes (now (to .exit)) (types-of (now (from .entry))) ⌝ }
 {
-    words::copy(from, to, 6 * wide(count(from)) + 1)
+    words::copy(from, to, NODE * wide(count(from)) + 1)
 }
 
 // Makes a table without nodes.
 pub fn clear_table(ws: &mut [u32])
-    requires { ⌜ 1537 ≤ length (now ws) ⌝ }
+    requires { ⌜ table·length ≤ length (now ws) ⌝ }
     ensures { λ _. ⌜ Becomes (now (ws .exit)) [] ⌝ }
 {
     ws[0] = 0;
@@ -317,7 +333,7 @@ pub fn xor(a: bool, b: bool) -> bool
 
 // The type word of node n, inverted or not.
 pub fn type_of(inverted: bool, n: u32) -> u32
-    requires { ⌜ n < 256 ⌝ }
+    requires { ⌜ n < limit·nodes ⌝ }
     ensures is { λ r. ⌜ r ≡ word-of-type (inverted, n) ⌝ }
     ensures small { λ r. ⌜ r < 512 ⌝ }
 {
@@ -326,19 +342,19 @@ pub fn type_of(inverted: bool, n: u32) -> u32
 
 // Makes node n type u of its root.
 fn set_up(ws: &mut [u32], n: u32, u: u32)
-    requires { ⌜ 1537 ≤ length (now ws) ⌝ }
+    requires { ⌜ table·length ≤ length (now ws) ⌝ }
     requires { ⌜ n < length (types-of (now ws)) ⌝ }
     requires { ⌜ u < 512 ⌝ }
     ensures { λ _. ⌜ Rewritten (now (ws .entry)) (now (ws .exit)) (set (types-of (now (ws .entry))) n (moved (type-of-word u) (node-at (types-of (now (ws .entry))) n))) ⌝ }
 {
-    let h = field(ws, n, 1);
+    let h = field(ws, n, HEAD);
     let w = wide(n);
-    ws[6 * w + 1] = h % 18 + 18 * (u + 512 * (h / 18 / 512 % 512));
+    ws[NODE * w + HEAD] = h % 18 + 18 * (u + 512 * (h / 18 / 512 % 512));
 }
 
 // Node n, if it is of the class of root lo, goes into the class of which type t is.
 fn relabel_node(ws: &mut [u32], n: u32, lo: u32, t: u32)
-    requires { ⌜ 1537 ≤ length (now ws) ⌝ }
+    requires { ⌜ table·length ≤ length (now ws) ⌝ }
     requires { ⌜ n < length (types-of (now ws)) ⌝ }
     requires { ⌜ t < 512 ⌝ }
     ensures { λ _. ⌜ Rewritten (now (ws .entry)) (now (ws .exit)) (set (types-of (now (ws .entry))) n (relabel lo (type-of-word t) (node-at (types-of (now (ws .entry))) n))) ⌝ }
@@ -353,7 +369,7 @@ fn relabel_node(ws: &mut [u32], n: u32, lo: u32, t: u32)
 
 // The class of root lo goes into the class of which type t is.
 fn relabel_class(ws: &mut [u32], lo: u32, t: u32)
-    requires { ⌜ 1537 ≤ length (now ws) ⌝ }
+    requires { ⌜ table·length ≤ length (now ws) ⌝ }
     requires { ⌜ t < 512 ⌝ }
     ensures { λ _. ⌜ Rewritten (now (ws .entry)) (now (ws .exit)) (map (relabel lo (type-of-word t)) (types-of (now (ws .entry)))) ⌝ }
 {
@@ -367,7 +383,7 @@ fn relabel_class(ws: &mut [u32], lo: u32, t: u32)
 
 // The head of a root of a size, for the state that another head has, inverted or not.
 fn root_head(h: u32, n: u32, size: u32, inverted: bool) -> u32
-    requires { ⌜ n < 256 ⌝ }
+    requires { ⌜ n < limit·nodes ⌝ }
     requires { ⌜ size < 512 ⌝ }
     ensures { λ r. ⌜ Head r (2 * n) size (h % 18 / 2) (xor-of inverted (eqb (h % 2) 1)) ⌝ }
 {
@@ -377,33 +393,33 @@ fn root_head(h: u32, n: u32, size: u32, inverted: bool) -> u32
 
 // Copies the words of node m to node n, all but the head.
 fn copy_node(ws: &mut [u32], n: u32, m: u32, h: u32)
-    requires { ⌜ n < 256 ⌝ }
-    requires { ⌜ 1537 ≤ length (now ws) ⌝ }
+    requires { ⌜ n < limit·nodes ⌝ }
+    requires { ⌜ table·length ≤ length (now ws) ⌝ }
     ensures { λ _. ⌜ Put (now (ws .entry)) (now (ws .exit)) n (with-head h (now (ws .entry)) m) ⌝ }
 {
-    let kind = field(ws, m, 2);
-    let id = field(ws, m, 3);
-    let x = field(ws, m, 4);
-    let y = field(ws, m, 5);
-    let z = field(ws, m, 6);
+    let kind = field(ws, m, KIND);
+    let id = field(ws, m, ID);
+    let x = field(ws, m, CHILDREN);
+    let y = field(ws, m, MORE_CHILDREN);
+    let z = field(ws, m, LAST_CHILDREN);
     put(ws, n, h, kind, id, x, y, z)
 }
 
 // Makes node n a root of a size that is what node m is, inverted or not.
 fn write_state(ws: &mut [u32], n: u32, m: u32, inverted: bool, size: u32)
-    requires { ⌜ 1537 ≤ length (now ws) ⌝ }
+    requires { ⌜ table·length ≤ length (now ws) ⌝ }
     requires { ⌜ n < length (types-of (now ws)) ⌝ }
     requires { ⌜ m < length (types-of (now ws)) ⌝ }
     requires { ⌜ size < 512 ⌝ }
     ensures { λ _. ⌜ Rewritten (now (ws .entry)) (now (ws .exit)) (set (types-of (now (ws .entry))) n (root-node n (invert-state inverted (state-at (types-of (now (ws .entry))) m)) size)) ⌝ }
 {
-    let h = root_head(field(ws, m, 1), n, size, inverted);
+    let h = root_head(field(ws, m, HEAD), n, size, inverted);
     copy_node(ws, n, m, h)
 }
 
 // Makes root n of a size know what either of n and m is, m inverted or not.
 fn set_root(ws: &mut [u32], n: u32, m: u32, inverted: bool, size: u32)
-    requires { ⌜ 1537 ≤ length (now ws) ⌝ }
+    requires { ⌜ table·length ≤ length (now ws) ⌝ }
     requires { ⌜ n < length (types-of (now ws)) ⌝ }
     requires { ⌜ m < length (types-of (now ws)) ⌝ }
     requires { ⌜ size < 512 ⌝ }

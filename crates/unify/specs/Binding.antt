@@ -1,15 +1,14 @@
 -- Laws of verdicts, of binding an unknown, of joining on success, and of the tests on two known types.
-use Prim.Native.Nat.{ℕ, _/_, _<_, _≤_}
+use Prim.Native.Nat.{ℕ, _/_, _<_}
 use mathlib.Core.Path.{_≡_, refl, sym, _∙_, ap, ap₂}
 use mathlib.Core.Bool.{Bool, true, false, not, _&&_, _||_}
 use mathlib.Core.Logic.{_≢_}
-use native.Mathlib.Omega.{arith}
 use lib.Dec.{eqb}
 use lib.ListN.{length}
 use borrow.Author.Tests.{eq-eqb, ne-eqb}
 use Rattle.rules.specs.Lists.{Words}
 use Rattle.rules.specs.Sheet.{kind-flag, row·may-meet}
-use Rattle.rules.specs.Types.{Ty, Types, xor, occurs, and, from-bool, success, failure, join, Unified, join-on-success, bind-unknown}
+use Rattle.rules.specs.Types.{Types, xor, occurs, and, from-bool, success, join, Unified, join-on-success, bind-unknown}
 use Rattle.rules.specs.Transfer.{type-of-word}
 use Rattle.table.specs.Packing.{types-of, kind-at, inverted-at, id-at, Packed, Becomes, Roots, Good}
 use Rattle.unify.specs.declared.UnifyResult.{UnifyResult}

@@ -1,36 +1,29 @@
 -- The children of two known roots: pair by pair, all of them, or of Closures of different counts the last two. They are read from the table as it changes, where what is known stays.
-use Prim.Native.Nat.{ℕ, zero, suc, _+_, _-_, _*_, _/_, _%_, _<_, _≤_}
-use mathlib.Core.Path.{_≡_, refl, sym, _∙_, ap, ap₂, subst}
-use mathlib.Core.Bool.{Bool, true, false}
+use Prim.Native.Nat.{ℕ, zero, suc, _+_, _-_, _*_, _/_, _%_, _<_}
+use mathlib.Core.Path.{_≡_, refl, sym, _∙_, ap, ap₂}
+use mathlib.Core.Bool.{Bool, false}
 use mathlib.Core.List.{List, [], _∷_, map}
 use mathlib.Core.Logic.{_≢_, ⊎-elim}
 use native.Mathlib.Nat.{le-of-suc-le-suc, not-suc-le-zero}
-use native.Mathlib.Numerals.{add-one}
 use native.Mathlib.Omega.{arith}
 use lib.Dec.{eqb}
-use lib.ListN.{length, getD, drop, drop-of-length-le, length-map}
-use lib.Seq.{drop-cons}
+use lib.ListN.{length, getD, length-map}
 use borrow.Author.Tests.{eq-eqb, ne-eqb}
 use Rattle.rules.specs.Lists.{Words}
-use Rattle.rules.specs.Layout.{kind·closure}
 use Rattle.rules.specs.Sheet.{at}
-use Rattle.rules.specs.Types.{Ty, TypeState, unknown, known, Types, xor, invert-if, state-at, and, success, failure, indeterminate, Unified, unify-each, last-of, unify-children, unify-in}
+use Rattle.rules.specs.Types.{Ty, Types, invert-if, failure, Unified, unify-each, last-of, unify-children}
 use Rattle.rules.specs.Types as rules
-use Rattle.rules.specs.Acyclic.{children}
 use Rattle.rules.specs.AcyclicLaws.{children-at}
 use Rattle.rules.specs.Transfer.{type-of-word}
 use Rattle.rules.specs.Answer.{word-of-type}
-use Rattle.rules.specs.Solutions.{rep, AllIn}
 use Rattle.rules.specs.Pigeonholes.{lt-or}
 use Rattle.rules.specs.RootRank.{child-in}
-use Rattle.rules.specs.UnifyKeeps.{unify-in-acyclic}
-use Rattle.table.specs.Packing.{types-of, kind-in, kind-at, Good}
+use Rattle.table.specs.Packing.{types-of, kind-at, Good}
 use Rattle.table.specs.Nodes.{type-word}
 use Rattle.table.specs.Reads.{digit, child-here, child-past}
 use Rattle.unify.specs.declared.UnifyResult.{UnifyResult}
-use Rattle.unify.specs.declared.UnifyResult.the-variants.{Success, Failure, Indeterminate}
+use Rattle.unify.specs.declared.UnifyResult.the-variants.{Failure}
 use Rattle.unify.specs.Results.{result-of, Unifies, KnownRoots, Leaves}
-use Rattle.unify.specs.Kept.{Kept, same, after, unify-kept}
 use Rattle.unify.specs.Known.{children-there}
 
 -- By their counts m and k.

@@ -1,6 +1,6 @@
 -- What is known stays: no `unify`, whatever it comes to, changes the state of a known node. So the children of two types can be read from the table while they are met.
 use Prim.Native.Nat.{ℕ, zero, suc, _+_, _≤_, _<_}
-use mathlib.Core.Path.{_≡_, refl, sym, _∙_, ap, subst}
+use mathlib.Core.Path.{_≡_, refl, sym, _∙_, ap}
 use mathlib.Core.Bool.{Bool, true, false, not, _&&_, _||_}
 use mathlib.Core.List.{List, [], _∷_, map}
 use mathlib.Core.Logic.{_≢_, _⊎_, inl, inr}
@@ -11,7 +11,7 @@ use lib.ListN.{length, set}
 use Rattle.rules.specs.Lists.{Words}
 use Rattle.rules.specs.Layout.{kind·closure, kind·error}
 use Rattle.rules.specs.Sheet.{kind-flag, row·may-meet}
-use Rattle.rules.specs.Types.{Ty, TypeState, unknown, known, TypeNode, Types, new-node, node-at, xor, invert-if, invert-state, find, state-at, size-at, relabel, or-else, hang, larger, join, UnifyResult, success, failure, indeterminate, Unified, unify-each, last-of, unify-children, unify-known, join-on-success, occurs-in, bind-unknown, unify-states, unify-roots, unify-in}
+use Rattle.rules.specs.Types.{Ty, TypeState, unknown, known, TypeNode, Types, new-node, xor, invert-if, invert-state, find, state-at, size-at, relabel, or-else, hang, larger, join, UnifyResult, success, failure, indeterminate, Unified, unify-each, last-of, unify-children, unify-known, join-on-success, occurs-in, bind-unknown, unify-states, unify-roots, unify-in}
 use Rattle.rules.specs.Joining.{map-length}
 use Rattle.rules.specs.Pigeonholes.{lt-or}
 use Rattle.table.specs.Nodes.{node-past}

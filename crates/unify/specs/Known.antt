@@ -1,6 +1,6 @@
 -- Two known types: the tests on them, and that two roots whose children were met with success are roots still.
-use Prim.Native.Nat.{ℕ, zero, suc, _+_, _/_, _<_, _≤_}
-use mathlib.Core.Path.{_≡_, refl, sym, _∙_, ap, ap₂, subst}
+use Prim.Native.Nat.{ℕ, _/_, _<_}
+use mathlib.Core.Path.{_≡_, refl, sym, _∙_, ap, subst}
 use mathlib.Core.Bool.{Bool, true, false, not, _&&_, _||_}
 use mathlib.Core.List.{List, map}
 use mathlib.Core.Logic.{_≢_}
@@ -9,7 +9,6 @@ use lib.Dec.{eqb}
 use lib.ListN.{length}
 use borrow.Author.Tests.{eq-eqb, ne-eqb}
 use Rattle.rules.specs.Lists.{Words}
-use Rattle.rules.specs.Layout.{kind·error}
 use Rattle.rules.specs.Sheet.{kind-flag, row·may-meet}
 use Rattle.rules.specs.Types.{Ty, TypeState, unknown, known, Types, invert-if, state-at, success, Unified, unify-children, unify-known, unify-in}
 use Rattle.rules.specs.Types as rules
@@ -23,7 +22,7 @@ use Rattle.rules.specs.Joining.{same-terms}
 use Rattle.rules.specs.MostGeneral.{Won, AfterAll, known-right, unify-in-right}
 use Rattle.table.specs.Packing.{types-of, kind-in, inverted-in, id-in, kind-at, inverted-at, id-at, Roots, Good}
 use Rattle.unify.specs.declared.UnifyResult.{UnifyResult}
-use Rattle.unify.specs.declared.UnifyResult.the-variants.{Success, Failure, Indeterminate}
+use Rattle.unify.specs.declared.UnifyResult.the-variants.{Failure, Indeterminate}
 use Rattle.unify.specs.Results.{result-of, Unifies, KnownRoots, met-inverted, unify-fields}
 
 known-parts : (st : TypeState) → kind-in st ≢ 0 → st ≡ known (inverted-in st) (kind-in st) (id-in st) (children st)

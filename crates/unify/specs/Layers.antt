@@ -1,33 +1,27 @@
 -- The layers of `unify`, one law for each way through the code: from roots to what they are, to two known types.
-use Prim.Native.Nat.{ℕ, zero, suc, _+_, _-_, _*_, _/_, _%_, _<_, _≤_}
+use Prim.Native.Nat.{ℕ, suc, _-_, _/_, _%_, _<_}
 use mathlib.Core.Path.{_≡_, refl, sym, _∙_, ap, ap₂, subst}
-use mathlib.Core.Bool.{Bool, true, false, not, _&&_, _||_}
-use mathlib.Core.List.{List, [], _∷_, map}
+use mathlib.Core.Bool.{Bool, true, false, not, _||_}
 use mathlib.Core.Logic.{_≢_}
 use native.Mathlib.Omega.{arith}
 use lib.Dec.{eqb}
 use lib.ListN.{length}
 use borrow.Author.Tests.{eq-eqb, ne-eqb, eqb-true, eqb-false}
 use Rattle.rules.specs.Lists.{Words}
-use Rattle.rules.specs.Layout.{kind·error}
-use Rattle.rules.specs.Sheet.{kind-flag, row·may-meet}
-use Rattle.rules.specs.Types.{Ty, TypeState, unknown, known, Types, xor, invert-if, find, state-at, self-inverse, from-bool, success, failure, indeterminate, Unified, unify-children, unify-known, join-on-success, bind-unknown, unify-states, unify-roots, unify-in}
+use Rattle.rules.specs.Types.{Ty, TypeState, unknown, known, Types, xor, invert-if, find, state-at, self-inverse, from-bool, Unified, unify-known, join-on-success, bind-unknown, unify-states, unify-roots, unify-in}
 use Rattle.rules.specs.Types as rules
 use Rattle.rules.specs.Acyclic.{children}
 use Rattle.rules.specs.AcyclicLaws.{children-at}
 use Rattle.rules.specs.Transfer.{type-of-word}
 use Rattle.rules.specs.Answer.{word-of-type}
-use Rattle.rules.specs.Solutions.{Sol, con, terms, term-size, rep, Fits, Solves, AllIn, ChildrenIn, WellFormed, Readable}
-use Rattle.rules.specs.RootRank.{rank}
-use Rattle.rules.specs.Readings.{Acyclic, ranked-readable}
-use Rattle.rules.specs.Joining.{same-terms}
-use Rattle.rules.specs.MostGeneral.{Won, AfterAll, known-right, unify-in-right}
+use Rattle.rules.specs.Solutions.{rep, WellFormed}
+use Rattle.rules.specs.Readings.{Acyclic}
 use Rattle.rules.specs.UnifyKeeps.{StaysAcyclic, unify-in-acyclic}
-use Rattle.table.specs.Packing.{types-of, kind-in, inverted-in, id-in, kind-at, inverted-at, id-at, Packed, Roots, Good}
+use Rattle.table.specs.Packing.{types-of, kind-in, inverted-in, id-in, kind-at, inverted-at, id-at, Roots, Good}
 use Rattle.table.specs.Nodes.{type-word}
 use Rattle.table.specs.Reads.{unknown-here}
 use Rattle.unify.specs.declared.UnifyResult.{UnifyResult}
-use Rattle.unify.specs.declared.UnifyResult.the-variants.{Success, Failure, Indeterminate}
+use Rattle.unify.specs.declared.UnifyResult.the-variants.{Success, Failure}
 use Rattle.unify.specs.Results.{result-of, Meets, Unifies, TwoRoots, KnownRoots, met-inverted, unify-fields}
 
 -- `unify` with no fuel left, and with some.

@@ -1,7 +1,7 @@
 -- `unify`, `unify_types` and `unify_impl_type` as the rules have them, over lists of type words.
 use Prim.Native.Nat.{ℕ, zero, suc, _+_, _/_, _<_, _≤_}
-use mathlib.Core.Path.{_≡_, refl, sym, _∙_, ap, ap₂, subst}
-use mathlib.Core.Bool.{Bool, true, false, not, _&&_, _||_}
+use mathlib.Core.Path.{_≡_, refl, sym, _∙_, ap, ap₂}
+use mathlib.Core.Bool.{Bool, false, not, _&&_}
 use mathlib.Core.List.{List, [], _∷_, map}
 use mathlib.Core.Logic.{_≢_}
 use native.Mathlib.Nat.{le-of-suc-le-suc, not-suc-le-zero}
@@ -13,7 +13,7 @@ use lib.Seq.{drop-cons}
 use borrow.Author.Tests.{eq-eqb, ne-eqb}
 use Rattle.rules.specs.Lists.{Words}
 use Rattle.rules.specs.Sheet.{at}
-use Rattle.rules.specs.Types.{Ty, Types, and, success, failure, indeterminate, Unified, unify-each, unify-types, unify-in, unify, unify-impl-type, approx-eq}
+use Rattle.rules.specs.Types.{Ty, Types, and, Unified, unify-each, unify-types, unify-in, unify, unify-impl-type, approx-eq}
 use Rattle.rules.specs.Types as rules
 use Rattle.rules.specs.Transfer.{type-of-word}
 use Rattle.rules.specs.Solutions.{AllIn}

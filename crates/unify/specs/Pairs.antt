@@ -1,8 +1,8 @@
 -- The loop over the pairs of children of two known roots: what is left of it, after so many pairs, comes to the whole.
-use Prim.Native.Nat.{ℕ, zero, suc, _+_, _*_, _/_, _<_, _≤_}
+use Prim.Native.Nat.{ℕ, _+_, _/_, _<_, _≤_}
 use mathlib.Core.Path.{_≡_, refl, sym, _∙_, ap, ap₂, subst}
-use mathlib.Core.Bool.{Bool, true, false}
-use mathlib.Core.List.{List, [], _∷_, map}
+use mathlib.Core.Bool.{Bool, false}
+use mathlib.Core.List.{List, _∷_, map}
 use mathlib.Core.Logic.{_≢_}
 use native.Mathlib.Numerals.{add-one}
 use native.Mathlib.Omega.{arith}
@@ -19,7 +19,7 @@ use Rattle.rules.specs.UnifyKeeps.{unify-in-acyclic}
 use Rattle.table.specs.Packing.{types-of, kind-in, kind-at, Good}
 use Rattle.table.specs.Nodes.{type-word}
 use Rattle.unify.specs.declared.UnifyResult.{UnifyResult}
-use Rattle.unify.specs.declared.UnifyResult.the-variants.{Success, Failure, Indeterminate}
+use Rattle.unify.specs.declared.UnifyResult.the-variants.{Success}
 use Rattle.unify.specs.Results.{result-of, Unifies, KnownRoots}
 use Rattle.unify.specs.Kept.{Kept, same, after, unify-kept}
 use Rattle.unify.specs.Children.{map-at, left-child, right-child}

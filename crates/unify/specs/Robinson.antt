@@ -1,7 +1,6 @@
 -- Robinson's theorem for the code: for every verdict and every words that `unify` may leave by its contract, on well-formed, acyclic, upright and error-free tables.
-use Prim.Native.Nat.{ℕ, _/_, _<_}
+use Prim.Native.Nat.{ℕ, _<_}
 use mathlib.Core.Path.{_≡_, refl, sym, _∙_, ap, subst}
-use mathlib.Core.Bool.{false}
 use mathlib.Core.Logic.{_↔_}
 use lib.ListN.{length}
 use Rattle.rules.specs.Lists.{Words}

@@ -1,10 +1,9 @@
 // `unify` of the Rust, over a type table in words. All pairs of children are tried, even after a failure.
 // Layers as in the rules: roots, then what they are, then two known types, then their children.
 ghost use mathlib.Core.Path.{_≡_};
-ghost use mathlib.Core.Bool.{Bool, true, false, not, _&&_, _||_};
+ghost use mathlib.Core.Bool.{true, false, not, _&&_, _||_};
 ghost use mathlib.Core.List.{List, map};
-ghost use mathlib.Core.Logic.{_≢_};
-ghost use Prim.Native.Nat.{ℕ, _/_, _<_, _≤_};
+ghost use Prim.Native.Nat.{_/_, _<_, _≤_};
 ghost use lib.Dec.{eqb};
 ghost use lib.ListN.{length, getD};
 ghost use Rattle.rules.specs.Sheet.{kind-flag, row·may-meet};

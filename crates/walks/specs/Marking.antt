@@ -1,13 +1,13 @@
 -- Marks of nodes, a word for each: marked where it is not 0.
-use Prim.Native.Nat.{ℕ, zero, suc, _≤_, _<_}
+use Prim.Native.Nat.{ℕ, zero, suc, _<_}
 use mathlib.Core.Path.{_≡_, refl, sym, _∙_, ap}
 use mathlib.Core.Bool.{Bool, true, false, not}
 use mathlib.Core.List.{[], _∷_}
-use mathlib.Core.Logic.{_≢_, _⊎_, inl, inr}
+use mathlib.Core.Logic.{_⊎_, inl, inr}
 use native.Mathlib.Decide.{ℕ-discrete}
 use native.Mathlib.Nat.{le-of-suc-le-suc, not-suc-le-zero}
 use lib.Dec.{eqb}
-use lib.ListN.{length, set, length-set}
+use lib.ListN.{set}
 use lib.Seq.{getD-set-other}
 use Rattle.rules.specs.Lists.{Words}
 use Rattle.rules.specs.Sheet.{at}
@@ -26,10 +26,6 @@ marked-word ms n w x e q = ap (λ y. not (eqb y 0)) (q ∙ ap (at ms) e)
 pub marks-word : (ms : Words) (n w : ℕ) → w ≡ n → set ms w 1 ≡ with-mark ms n
 unfolding with-mark
 marks-word ms n w e = ap (λ k. set ms k 1) e
-
-pub mark-length : (ms : Words) (n : ℕ) → length (with-mark ms n) ≡ length ms
-unfolding with-mark
-mark-length ms n = length-set ms n 1
 
 -- What is marked was marked, or is the node just marked.
 pub newly-marked : (ms : Words) (n m : ℕ) → is-marked (with-mark ms n) m ≡ true → (m ≡ n) ⊎ (is-marked ms m ≡ true)

@@ -1,10 +1,8 @@
 // Walks down a type table: `occurs`, `self_inverse` and `get_mod`. The first two visit a shared node once: a node that is finished is marked, in a lent word of its own.
 ghost use mathlib.Core.Path.{_≡_};
-ghost use Prim.Native.Nat.{ℕ, _/_, _<_, _≤_};
+ghost use Prim.Native.Nat.{_/_, _<_, _≤_};
 ghost use lib.ListN.{length};
-ghost use Rattle.rules.specs.Lists.{any};
 ghost use Rattle.rules.specs.Types.{occurs as occurs-of, self-inverse};
-ghost use Rattle.rules.specs.AcyclicLaws.{children-at};
 ghost use Rattle.rules.specs.Transfer.{type-of-word};
 ghost use Rattle.rules.specs.Solutions.{rep};
 ghost use Rattle.table.specs.Packing.{types-of, id-at, kind-at, Good};
