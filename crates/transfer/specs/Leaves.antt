@@ -62,7 +62,7 @@ type-at [] d = refl
 type-at (p ∷ ps) zero = refl
 type-at (p ∷ ps) (suc d) = type-at ps d
 
--- Parameters. b says whether there are any; p is the one that the Param of root type r names, and u what that stands for there.
+-- No parameter stands for root type r: b says whether there are any.
 module _ (src : Types) (b : Bool) (ps : Words) (r : ℕ) where
   pub param-not : b ≡ false → Param src (params-of b ps) r 0
   unfolding params-of param-for entry type-of-word
