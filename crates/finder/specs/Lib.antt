@@ -1,3 +1,5 @@
 pub mod Singles
 pub mod Tails
 pub mod Steps
+pub mod Queries
+pub mod Built
