@@ -3,3 +3,4 @@ pub mod Tails
 pub mod Steps
 pub mod Queries
 pub mod Built
+pub mod Fresh
