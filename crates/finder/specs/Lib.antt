@@ -4,3 +4,4 @@ pub mod Steps
 pub mod Queries
 pub mod Built
 pub mod Fresh
+pub mod Members
