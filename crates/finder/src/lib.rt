@@ -1,0 +1,107 @@
+// A question and its sub-questions (`Finder` of the Rust) in one lent slice. A part of the slice has the table that is asked about in slot 0 and the results in slots 1 to 4.
+ghost use mathlib.Core.Path.{_≡_};
+ghost use Prim.Native.Nat.{_+_, _*_, _<_, _≤_};
+ghost use lib.ListN.{length, drop};
+ghost use Rattle.table.specs.Packing.{types-of, Packed};
+ghost use Rattle.slots.specs.Copies.{Beside};
+ghost use Rattle.finder.specs.Queries.{query-in, query-of};
+ghost use Rattle.finder.specs.Fresh.{Freshens};
+ghost use Rattle.finder.specs.Built.{NoneLeft, LeafStep, SmallIds, Autos};
+use auto::Auto;
+use slots::Adding;
+use slots::Asked;
+
+// `ImplType`: a trait? and the first n of four type words.
+pub struct Query {
+    pub tr: u32,
+    pub n: usize,
+    pub args: [u32; 4],
+}
+
+// The first n of four sub-questions: trait?, how many type words, and four places for them.
+pub struct Queries {
+    pub n: usize,
+    pub trs: [u32; 4],
+    pub counts: [usize; 4],
+    pub args: [u32; 16],
+}
+
+// Sub-question k.
+fn query_at(qs: Queries, k: usize) -> Query
+    requires { ⌜ k < 4 ⌝ }
+    ensures { λ r. ⌜ r ≡ query-in qs k ⌝ }
+{
+    let args = [
+        qs.args[4 * k],
+        qs.args[4 * k + 1],
+        qs.args[4 * k + 2],
+        qs.args[4 * k + 3],
+    ];
+    Query {
+        tr: qs.trs[k],
+        n: qs.counts[k],
+        args,
+    }
+}
+
+// No sub-questions are left: the table itself, without trees.
+fn none_left(ws: &mut [u32], count: u32) -> Asked
+    requires { ⌜ Packed (now ws) ⌝ }
+    requires { ⌜ 8970 ≤ length (now ws) ⌝ }
+    requires { ⌜ count ≤ 4000000000 ⌝ }
+    ensures { λ r. ⌜ NoneLeft (now (ws .entry)) count r (now (ws .exit)) ⌝ }
+{
+    slots::copy_table_slot(ws, 0, slots::SLOT);
+    Asked::Found { count, n: 1 }
+}
+
+// Adds the types that stand in a slot with a leaf behind n.
+fn leaf_step(ws: &mut [u32], n: usize, from: usize, kind: u32, id: u32, count: u32) -> Asked
+    requires { ⌜ n ≤ 4 ⌝ }
+    requires { ⌜ Packed (drop from (now ws)) ⌝ }
+    requires { ⌜ Beside from (1794 + 1794 * n) ⌝ }
+    requires { ⌜ 8970 ≤ length (now ws) ⌝ }
+    requires { ⌜ kind < 8 ⌝ }
+    requires { ⌜ id < 4096 ⌝ }
+    requires { ⌜ count ≤ 4000000000 ⌝ }
+    ensures { λ r. ⌜ LeafStep (now (ws .entry)) n from kind id count r (now (ws .exit)) ⌝ }
+{
+    let one = slots::add_leaf(ws, n, from, kind, id);
+    match one {
+        Adding::Refused { number } => Asked::Refused { number, count },
+        Adding::Added => Asked::Found { count, n: n + 1 },
+    }
+}
+
+// Built-in fork and drop: adds what `find_auto_impls` finds.
+fn add_autos(sheet: &[u32], ws: &mut [u32], q: Query, count: u32) -> Asked
+    requires { ⌜ Packed (now ws) ⌝ }
+    requires { ⌜ 8970 ≤ length (now ws) ⌝ }
+    requires { ⌜ q .n ≤ 4 ⌝ }
+    requires { ⌜ SmallIds (now sheet) (types-of (now ws)) (query-of q) ⌝ }
+    requires { ⌜ count ≤ 4000000000 ⌝ }
+    ensures { λ r. ⌜ Autos (now (sheet .entry)) (now (ws .entry)) (query-of q) count r (now (ws .exit)) ⌝ }
+{
+    let args = [q.args[0], q.args[1], q.args[2], q.args[3]];
+    let n = q.n;
+    let found = auto::find_auto_impls(sheet, ws, q.tr, &args[..n]);
+    match found {
+        Auto::Nothing => Asked::Found { count, n: 0 },
+        Auto::Leaf { kind, id } => leaf_step(ws, 0, 0, kind, id, count),
+    }
+}
+
+// Pushes n fresh unknowns to a table. False where there is no room.
+fn fresh(ws: &mut [u32], n: usize) -> bool
+    requires { ⌜ Packed (now ws) ⌝ }
+    ensures { λ r. ⌜ Freshens (now (ws .entry)) (now (ws .exit)) n r ⌝ }
+{
+    let mut i = 0;
+    while i < n {
+        if table::new_var(ws) == table::NODES {
+            return false;
+        }
+        i += 1;
+    }
+    true
+}
