@@ -62,7 +62,7 @@ three-digits (suc (suc n)) l h =
     let m : ℕ = suc (suc n) in
     more-in m m (omega arith)
     ∙ ap (λ (xs : Words). xs ++ ((48 + m % 10) ∷ []))
-        (more-in (suc n) (m / 10) (omega arith) ∙ ap (λ (xs : Words). xs ++ ((48 + m / 10 % 10) ∷ [])) (low-in n (m / 10 / 10) (omega arith) ∙ ap (λ (k : ℕ). (48 + k) ∷ []) (let e : m / 10 / 10 ≡ m / 100 = omega arith in e)))
+    (more-in (suc n) (m / 10) (omega arith) ∙ ap (λ (xs : Words). xs ++ ((48 + m / 10 % 10) ∷ [])) (low-in n (m / 10 / 10) (omega arith) ∙ ap (λ (k : ℕ). (48 + k) ∷ []) (let e : m / 10 / 10 ≡ m / 100 = omega arith in e)))
 
 pub number-one : (n a from r : ℕ) (ws us : Words) → n < 10 → a ≡ 48 + n → Puts (a ∷ []) from ws us r → Puts (decimal n) from ws us r
 number-one n a from r ws us h e p = subst (λ l. Puts l from ws us r) (ap (λ (c : ℕ). c ∷ []) e ∙ sym (one-digit n h)) p
@@ -75,7 +75,7 @@ pub number-three : (n a b c from r q z : ℕ) (w₀ w₁ w₂ w₃ : Words) → 
     → Puts (decimal n) from w₀ w₃ z
 number-three n a b c from r q z w₀ w₁ w₂ w₃ h l e p f k g i =
     subst (λ xs. Puts xs from w₀ w₃ z) (ap₂ (λ (xs : Words) (d : ℕ). xs ++ (d ∷ [])) (ap₂ (λ (s t : ℕ). (s ∷ []) ++ (t ∷ [])) e f) g ∙ sym (three-digits n l h))
-      (puts-on ((a ∷ []) ++ (b ∷ [])) (c ∷ []) from q z w₀ w₂ w₃ (puts-on (a ∷ []) (b ∷ []) from r q w₀ w₁ w₂ p k) i)
+    (puts-on ((a ∷ []) ++ (b ∷ [])) (c ∷ []) from q z w₀ w₂ w₃ (puts-on (a ∷ []) (b ∷ []) from r q w₀ w₁ w₂ p k) i)
 
 -- At most three.
 pub number-short : (n : ℕ) → n < 1000 → length (decimal n) ≤ 3
