@@ -11,6 +11,8 @@ ghost use Rattle.candidates.specs.Index.{Indexes};
 ghost use Rattle.lines.specs.Text.{Puts};
 ghost use Rattle.lines.specs.Lines.{PutsImpls, Line};
 
+pub mod bytes;
+
 // Puts a byte behind the first `at` bytes.
 fn put(out: &mut [u8], at: usize, b: u8) -> usize
     requires { ⌜ at < length (now out) ⌝ }
