@@ -54,11 +54,11 @@ pub height-step : (k : ℕ) (ts : Types) (n : ℕ) → getD (heights (suc k) ts)
 unfolding heights children-at state-at node-at new-node children above
 height-step k ts n = map-get (λ nd. above (heights k ts) (children (nd .state))) ts n (new-node 0 unknown) refl
 
-above-kid : (hs : Words) (cs : List Ty) (j : ℕ) → j < length cs → getD hs ((getD cs j (false, 0)) .1) 0 < above hs cs
+pub above-child : (hs : Words) (cs : List Ty) (j : ℕ) → j < length cs → getD hs ((getD cs j (false, 0)) .1) 0 < above hs cs
 unfolding above
-above-kid hs [] j h = absurd (not-suc-le-zero h)
-above-kid hs (c ∷ cs) zero h = le-max-left (suc (getD hs (c .1) 0)) (above hs cs)
-above-kid hs (c ∷ cs) (suc j) h = le-trans (above-kid hs cs j (le-of-suc-le-suc h)) (le-max-right (suc (getD hs (c .1) 0)) (above hs cs))
+above-child hs [] j h = absurd (not-suc-le-zero h)
+above-child hs (c ∷ cs) zero h = le-max-left (suc (getD hs (c .1) 0)) (above hs cs)
+above-child hs (c ∷ cs) (suc j) h = le-trans (above-child hs cs j (le-of-suc-le-suc h)) (le-max-right (suc (getD hs (c .1) 0)) (above hs cs))
 
 above-same : (hs us : Words) (k : ℕ) → ((n : ℕ) → getD hs n 0 < k → getD us n 0 ≡ getD hs n 0) → (cs : List Ty) → above hs cs < suc k → above us cs ≡ above hs cs
 unfolding above
@@ -97,7 +97,7 @@ module _ (ts : Types) (e : T (acyclic ts)) where
   flat-rank-falls n j l = ⊎-elim inside outside (lt-or n (length ts))
     where
       inside : n < length ts → flat-rank ts (child ts n j) < flat-rank ts n
-      inside h = subst (λ m. flat-rank ts (child ts n j) < m) (sym (height-step (length ts) ts n) ∙ height-stays (length ts) ts n (flat-rank-below n h)) (above-kid (heights (length ts) ts) (children-at ts n) j l)
+      inside h = subst (λ m. flat-rank ts (child ts n j) < m) (sym (height-step (length ts) ts n) ∙ height-stays (length ts) ts n (flat-rank-below n h)) (above-child (heights (length ts) ts) (children-at ts n) j l)
 
       outside : length ts ≤ n → flat-rank ts (child ts n j) < flat-rank ts n
       outside h = absurd (not-suc-le-zero (subst (λ (cs : List Ty). j < length cs) (no-children ts n h) l))

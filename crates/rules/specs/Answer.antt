@@ -9,11 +9,12 @@ use Rattle.rules.specs.Types.{Ty, unknown, known, Types}
 use Rattle.rules.specs.Transfer.{export-types}
 use Rattle.rules.specs.Search.{Trees, end, tree, tree-size}
 
--- A head: the place p, or 0 where nothing stands there.
+-- A head: the place p, or 0 where the list there is empty.
 unfoldable pub head-or-zero : {A : Type 0} → ℕ → List A → ℕ
 head-or-zero p [] = 0
 head-or-zero p (x ∷ xs) = p
 
+-- The same for trees.
 unfoldable pub tree-head : ℕ → Trees → ℕ
 tree-head p end = 0
 tree-head p (tree k i c n) = p

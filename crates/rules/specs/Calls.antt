@@ -43,10 +43,11 @@ impl-outcome s q (got (r ∷ [])) =
       | false ↦ got (answer (r .1) end false false (length ts) ((unify-impl-type s (w .1) (impl-query q) (w .0)) .1))
     ]
 
--- The impl call's search and outcome, with no step limit and with one.
+-- The impl call's search and outcome with no step limit.
 unfoldable pub impl-free : Finder → Bool → Words → Out Words
 impl-free a basic q = impl-outcome (a .sheet) q (free (impl-search a basic q))
 
+-- The impl call's search and outcome under a step limit, from a count.
 unfoldable pub impl-within : (ℕ → Bool) → Finder → Bool → Words → ℕ → Out Words × ℕ
 impl-within over a basic q c =
     let r = within over (impl-search a basic q) c in
@@ -57,14 +58,16 @@ unfoldable pub or-nothing : Out (List Result) → Out (List Result)
 or-nothing (got fs) = got fs
 or-nothing (refused n) = elim (eqb n 18 || eqb n 19) [ true ↦ got [] | false ↦ refused n ]
 
+-- Results in front of those of later questions.
 abbrev pub with-first : List Result → Out (List (List Result)) → Out (List (List Result))
 with-first fs (got gs) = got (fs ∷ gs)
 with-first fs (refused n) = refused n
 
--- Searches read in turn, with what is carried from one to the next: a count, or nothing.
+-- One search read, then the rest, with what is carried from one to the next: a count, or nothing.
 unfoldable pub onward : {C : Type 0} → (C → Out (List (List Result)) × C) → Out (List Result) × C → Out (List (List Result)) × C
 onward rest o = elim (or-nothing (o .0)) [ refused n ↦ (refused n, o .1) | got fs ↦ let q = rest (o .1) in (with-first fs (q .0), q .1) ]
 
+-- Searches read in turn.
 unfoldable pub in-turn : {C : Type 0} → (Run (List Result) → C → Out (List Result) × C) → List (Run (List Result)) → C → Out (List (List Result)) × C
 in-turn read [] c = (got [], c)
 in-turn read (r ∷ rs) c = onward (λ d. in-turn read rs d) (read r c)
@@ -76,10 +79,12 @@ flex-searches a q =
     let ask : ℕ → Bool → Run (List Result) = λ h inv. question limit·depth a false (e .1) (at (a .sheet) h, map (invert-if inv) (e .0)) in
     ask header·fork false ∷ ask header·drop false ∷ ask header·fork true ∷ ask header·drop true ∷ []
 
+-- A flex question's tree, or none.
 unfoldable pub first-tree : List Result → Trees
 first-tree [] = end
 first-tree (f ∷ fs) = f .1
 
+-- A flex question found something.
 abbrev pub is-found : List Result → Bool
 is-found [] = false
 is-found (f ∷ fs) = true
@@ -136,27 +141,30 @@ unset s = elim (eqb (at s header·fork) 0) [ true ↦ some 22 | false ↦ elim (
 abbrev pub plainly : {A : Type 0} → Run A → Unit {0} → Out A × Unit {0}
 plainly r u = (free r, u)
 
--- The flex call's search and outcome, with no step limit and with one.
+-- The flex call's search and outcome with no step limit.
 unfoldable pub flex-free : Finder → Words → Out Words
 flex-free a q = elim (unset (a .sheet)) [ some n ↦ refused n | none ↦ flex-outcome (a .sheet) q false ((in-turn plainly (flex-searches a q) tt) .0) ]
 
+-- The flex call's search and outcome under a step limit, from a count.
 unfoldable pub flex-within : (ℕ → Bool) → Finder → Words → ℕ → Out Words × ℕ
 flex-within over a q c =
     let r = in-turn (within over) (flex-searches a q) c in
     elim (unset (a .sheet)) [ some n ↦ (refused n, c) | none ↦ (flex-outcome (a .sheet) q (over (r .1)) (r .0), r .1) ]
 
--- "The search without a step limit", with the checks that come between entry and search. It has no count, answer buffer or workspace.
+-- "The search without a step limit" of the impl call, with the checks that come between entry and search. It has no count, answer buffer or workspace.
 unfoldable pub free-find-impl : Finder → ℕ → Words → Out Words
 free-find-impl a basic q = elim (refusal (impl-checks a basic q)) [ some n ↦ refused n | none ↦ impl-free a (eqb basic 1) q ]
 
+-- "The search without a step limit" of the flex call, in the same way.
 unfoldable pub free-find-flex : Finder → Words → Out Words
 free-find-flex a q = elim (refusal (flex-checks a q)) [ some n ↦ refused n | none ↦ flex-free a q ]
 
--- The whole call: the number or the answer, and the count after. L is the step limit (calls pass `limit·steps`), answer and work are the buffers' lengths, c the start count.
+-- The whole impl call: the number or the answer, and the count after. L is the step limit (calls pass `limit·steps`), answer and work are the lengths of the buffers, c is the start count.
 unfoldable pub try-find-impl : ℕ → Finder → ℕ → Words → ℕ → ℕ → ℕ → Out Words × ℕ
 try-find-impl L a basic q answer work c =
     elim (refusal (entry (a .sheet) q answer work c ++ impl-checks a basic q)) [ some n ↦ (refused n, c) | none ↦ impl-within (ltb L) a (eqb basic 1) q c ]
 
+-- The whole flex call, in the same way.
 unfoldable pub find-flex : ℕ → Finder → Words → ℕ → ℕ → ℕ → Out Words × ℕ
 find-flex L a q answer work c =
     elim (refusal (entry (a .sheet) q answer work c ++ flex-checks a q)) [ some n ↦ (refused n, c) | none ↦ flex-within (ltb L) a q c ]

@@ -10,13 +10,15 @@ use Rattle.rules.specs.Layout.{header·definitions, header·impls, heade
 use Rattle.rules.specs.Sheet.{at, many, parent, trait-vis, def-trait, bindings, named-members, implicit-members, import-def, trait-def, impl-flag, impl-trait}
 use Rattle.rules.specs.Reach.{Marks, marked, closure, marks-of, reach}
 
--- A node is a definition and a `Level`, as one number: 3 × definition + level.
+-- A node is a definition and a `Level`, as one number: 3 × definition + level. `Level::Direct`;
 abbrev pub direct : ℕ → ℕ
 direct d = 3 * d
 
+-- `Level::Within`;
 abbrev pub within-def : ℕ → ℕ
 within-def d = 3 * d + 1
 
+-- `Level::WithinAncestors`.
 abbrev pub within-ancestors : ℕ → ℕ
 within-ancestors d = 3 * d + 2
 
@@ -62,6 +64,7 @@ for-each-child s d (suc (suc l)) =
 unfoldable pub edges : Words → ℕ → List Edge
 edges s n = for-each-child s (n / 3) (n % 3)
 
+-- How many nodes there are.
 unfoldable pub node-count : Words → ℕ
 node-count s = 3 * many s header·definitions
 
@@ -69,6 +72,7 @@ node-count s = 3 * many s header·definitions
 abbrev pub Graph : Type 0
 Graph = List (List Edge)
 
+-- The graph of a sheet.
 unfoldable pub graph : Words → Graph
 graph s = map (edges s) (range 0 (node-count s))
 
@@ -85,6 +89,7 @@ unfoldable pub ancestors-of : ℕ → Words → ℕ → Words
 ancestors-of zero s d = []
 ancestors-of (suc k) s d = d ∷ elim (optional (parent s d)) [ none ↦ [] | some p ↦ ancestors-of k s p ]
 
+-- The ancestors of a definition: no more than there are definitions.
 unfoldable pub ancestors : Words → ℕ → Words
 ancestors s d = ancestors-of (many s header·definitions) s d
 

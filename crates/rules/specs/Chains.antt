@@ -29,10 +29,11 @@ head-keeps lo s len heads h = elim (zero-or-from lo h) [ true ↦ chain-keeps s 
 abbrev pub no-heads : ℕ → Bool
 no-heads p = true
 
--- Cells, and nodes with their cells: of a sheet (lo 16) or a question (lo 3).
+-- Chains of cells, of a sheet (lo 16) or a question (lo 3).
 unfoldable pub cells-keep : ℕ → Words → ℕ → Bool
 cells-keep lo s h = head-keeps lo s cell·length no-heads h
 
+-- Chains of type nodes, with their cells.
 unfoldable pub nodes-keep : ℕ → Words → ℕ → Bool
 nodes-keep lo s h = head-keeps lo s node·length (λ p. cells-keep lo s (at s (p + node·children))) h
 
@@ -79,9 +80,10 @@ module _ (s : Words) where
       ∷ plain-keep import·length (at s header·imports)
       ∷ [])
 
--- 11: a question's table, and for the impl call its arguments.
+-- 11: an impl question's table and arguments.
 unfoldable pub impl-question-keeps : Words → Bool
 impl-question-keeps q = nodes-keep question·length q (at q question·table) && cells-keep question·length q (at q question·args)
 
+-- 11: a flex question's table.
 unfoldable pub flex-question-keeps : Words → Bool
 flex-question-keeps q = nodes-keep question·length q (at q question·table)

@@ -89,15 +89,18 @@ flex-question types t =
     let nodes = pack-nodes question·length (new-nodes 0 types) in
     (head-or-zero question·length nodes ∷ word-of-type t ∷ 0 ∷ []) ++ nodes
 
--- Types, upright: node n of the table; and what nodes may be.
+-- Node n, upright.
 abbrev pub node : ℕ → Ty
 node n = (false, n)
 
+-- A type parameter.
 abbrev pub param : ℕ → TypeState
 param n = known false kind·param n []
 
+-- A tuple.
 abbrev pub tuple : List Ty → TypeState
 tuple cs = known false kind·tuple 0 cs
 
+-- A struct.
 abbrev pub struct : ℕ → List Ty → TypeState
 struct d cs = known false kind·struct d cs

@@ -50,7 +50,7 @@ unfoldable pub of-ids : Finder → ℕ → Checks
 of-ids f basic =
     (10, not (holds (is-id (f .sheet) header·definitions (f .source) ∷ is-id (f .sheet) header·generics (f .generics) ∷ leb basic 1 ∷ []))) ∷ []
 
--- Question, 11 to 13, of the impl call and of the flex call.
+-- Question, 11 to 13, of the impl call.
 unfoldable pub of-impl-question : Finder → Words → Checks
 of-impl-question f q =
     (11, not (impl-question-keeps q))
@@ -58,6 +58,7 @@ of-impl-question f q =
     ∷ (13, not (question-acyclic q))
     ∷ []
 
+-- Question, 11 to 13, of the flex call.
 unfoldable pub of-flex-question : Finder → Words → Checks
 of-flex-question f q =
     (11, not (flex-question-keeps q))
@@ -65,9 +66,10 @@ of-flex-question f q =
     ∷ (13, not (question-acyclic q))
     ∷ []
 
--- The checks that come between entry and search: 6 to 13.
+-- The checks of the impl call that come between entry and search: 6 to 13.
 unfoldable pub impl-checks : Finder → ℕ → Words → Checks
 impl-checks f basic q = of-sheet (f .sheet) ++ of-ids f basic ++ of-impl-question f q
 
+-- The checks of the flex call that come between entry and search: 6 to 13.
 unfoldable pub flex-checks : Finder → Words → Checks
 flex-checks f q = of-sheet (f .sheet) ++ of-ids f 0 ++ of-flex-question f q

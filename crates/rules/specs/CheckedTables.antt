@@ -25,7 +25,7 @@ use Rattle.rules.specs.Readings.{Acyclic, readable-ranked, flat-inside, 
 use Rattle.rules.specs.CheckLaws.{part, both, unrefused, not-not}
 use Rattle.rules.specs.CheckedSheet.{Valid, valid}
 
-new-nodes-length : (i : ℕ) (sts : List TypeState) → length (new-nodes i sts) ≡ length sts
+pub new-nodes-length : (i : ℕ) (sts : List TypeState) → length (new-nodes i sts) ≡ length sts
 unfolding new-nodes
 new-nodes-length i [] = refl
 new-nodes-length i (st ∷ sts) = ap suc (new-nodes-length (suc i) sts)

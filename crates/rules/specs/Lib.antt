@@ -73,3 +73,4 @@ pub mod ResultLimits
 pub mod AnswerSize
 -- Laws in the form in which code asks for them.
 pub mod WordLaws
+pub mod ListingLaws

@@ -21,19 +21,23 @@ limit·workspace = 1048576
 abbrev pub limit·count : ℕ
 limit·count = 1000000
 
--- 8: definitions and impls of a sheet, type and impl parameters of generics, arity of a trait.
+-- 8: definitions of a sheet.
 abbrev pub limit·definitions : ℕ
 limit·definitions = 128
 
+-- 8: impls of a sheet.
 abbrev pub limit·impls : ℕ
 limit·impls = 128
 
+-- 8: type parameters of generics.
 abbrev pub limit·type-params : ℕ
 limit·type-params = 8
 
+-- 8: impl parameters of generics.
 abbrev pub limit·impl-params : ℕ
 limit·impl-params = 4
 
+-- 8: arity of a trait.
 abbrev pub limit·arity : ℕ
 limit·arity = 4
 

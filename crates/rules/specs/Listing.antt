@@ -31,6 +31,7 @@ unfoldable pub decimal-in : ℕ → ℕ → Words
 decimal-in zero n = []
 decimal-in (suc k) n = elim (n / 10) [ zero ↦ (48 + n % 10) ∷ [] | suc m ↦ decimal-in k (suc m) ++ ((48 + n % 10) ∷ []) ]
 
+-- A number's decimal digits.
 unfoldable pub decimal : ℕ → Words
 decimal n = decimal-in (suc n) n
 

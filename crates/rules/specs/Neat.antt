@@ -24,7 +24,7 @@ use Rattle.rules.specs.TransferKeeps.{imports}
 use Rattle.rules.specs.UnifyKeeps.{unify-keeps, impl-type-keeps}
 use Rattle.rules.specs.FreshKeeps.{Proper, fresh-proper}
 use Rattle.rules.specs.CheckedSheet.{part}
-use Rattle.rules.specs.CheckedTables.{table-length, Ready, question-formed, question-free, generics-formed, generics-free, impl-formed, impl-free}
+use Rattle.rules.specs.CheckedTables.{table-length, Ready, question-formed, question-free, generics-formed, generics-free, impl-formed, impl-free, new-nodes-length}
 use Rattle.rules.specs.Yields.{Every, every-map, every-all}
 use Rattle.rules.specs.Carried.{unify-carries, impl-type-carries, pushed}
 use Rattle.rules.specs.Slim.{Slim, slim-join, slim-import, slim-fresh, slim-table, no-params}
@@ -154,15 +154,10 @@ pub fresh-neat : (ts : Types) (n : ℕ) → Neat ts → Neat (with-fresh ts n)
 unfolding with-fresh
 fresh-neat ts n t = record { proper = fresh-proper n ts (t .proper); slim = slim-fresh ts n (t .slim) }
 
-new-length : (i : ℕ) (sts : List TypeState) → length (new-nodes i sts) ≡ length sts
-unfolding new-nodes
-new-length i [] = refl
-new-length i (st ∷ sts) = ap suc (new-length (suc i) sts)
-
 -- How many nodes there are then.
 pub fresh-length : (ts : Types) (n : ℕ) → length (with-fresh ts n) ≡ length ts + n
 unfolding with-fresh
-fresh-length ts n = length-append ts (new-nodes (length ts) (replicate n unknown)) ∙ ap (λ k. length ts + k) (new-length (length ts) (replicate n unknown) ∙ length-replicate {A = TypeState} n unknown)
+fresh-length ts n = length-append ts (new-nodes (length ts) (replicate n unknown)) ∙ ap (λ k. length ts + k) (new-nodes-length (length ts) (replicate n unknown) ∙ length-replicate {A = TypeState} n unknown)
 
 -- Nodes in a row, from i on.
 pub range-in : (i n N : ℕ) → i + n ≤ N → AllIn N (map (λ k. (false, k)) (range i n))

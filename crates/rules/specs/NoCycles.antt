@@ -10,8 +10,7 @@ use lib.Dec.{T, eqb, eqb→eq, eqb-refl, ltb, lt→ltb}
 use lib.ListN.{length, getD, replicate, length-replicate, getD-replicate}
 use Rattle.rules.specs.Lists.{Words, all, any}
 use Rattle.rules.specs.Reach.{Marks, marked, grow, closure}
-use Rattle.rules.specs.ReachLaws.{count, count-le, From, here, then, closure-paths, grow-length, grow-from, grow-new, rounds-length}
-use Rattle.rules.specs.Pigeonholes.{none-marked}
+use Rattle.rules.specs.ReachLaws.{count, count-le, From, here, then, closure-paths, grow-length, grow-from, grow-new, rounds-length, none-marked}
 use Rattle.rules.specs.Sheet.{at}
 use Rattle.rules.specs.Types.{Ty, Types}
 use Rattle.rules.specs.Acyclic.{above, heights, acyclic}

@@ -11,7 +11,7 @@ use lib.Dec.{T, ltb, ltb→lt, nltb→le}
 use lib.ListN.{length, set, length-set, replicate, length-replicate}
 use lib.Seq.{getD-set-other}
 use Rattle.rules.specs.Reach.{Marks, marked}
-use Rattle.rules.specs.ReachLaws.{count, count-le}
+use Rattle.rules.specs.ReachLaws.{count, count-le, none-marked}
 
 pub lt-or : (m n : ℕ) → (m < n) ⊎ (n ≤ m)
 lt-or m n = go (ltb m n) refl
@@ -36,12 +36,6 @@ marked-set ms x r t = go (ℕ-discrete r x)
     go : Dec (r ≡ x) → (r ≡ x) ⊎ T (marked ms r)
     go (yes e) = inl e
     go (no d) = inr (subst T (getD-set-other ms x r true false d) t)
-
--- Where none is marked, none is.
-pub none-marked : (n y : ℕ) → T (marked (replicate n false) y) → ⊥
-none-marked zero y t = t
-none-marked (suc n) zero t = t
-none-marked (suc n) (suc y) t = none-marked n y t
 
 -- What holds step by step from k on holds at every distance.
 pub steady : {A : Type 0} (f : ℕ → A) (k : ℕ) → ((m : ℕ) → f (m + k) ≡ f (suc (m + k))) → (m : ℕ) → f (m + k) ≡ f k

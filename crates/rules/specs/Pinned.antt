@@ -31,13 +31,15 @@ pin =
 unfoldable pub Q : Words
 Q = 3 ∷ 1 ∷ 8 ∷ 0 ∷ 4 ∷ 0 ∷ 0 ∷ 0 ∷ 0 ∷ 0 ∷ []
 
--- The places in Pin that the cases change: the bindings of definition 1, the inherent count of its trait, the vis of its binding.
+-- The places in Pin that the cases change: the bindings of definition 1,
 abbrev pin·bindings : ℕ
 pin·bindings = 27
 
+-- the inherent count of its trait,
 abbrev pin·inherent : ℕ
 pin·inherent = 40
 
+-- and the vis of its binding.
 abbrev pin·vis : ℕ
 pin·vis = 59
 
@@ -60,10 +62,11 @@ flex-of k = 3 ∷ 0 ∷ 0 ∷ 0 ∷ k ∷ 0 ∷ 0 ∷ 0 ∷ []
 abbrev pub End : Type 0
 End = Out Words × ℕ
 
--- Not basic, under generics 0, with the smallest buffers.
+-- The impl call, not basic, under generics 0, with the smallest buffers.
 unfoldable pub ask-impl : Words → ℕ → Words → ℕ → End
 ask-impl s source q c = try-find-impl limit·steps (record { sheet = s; source = source; generics = 0 }) 0 q limit·answer limit·workspace c
 
+-- The flex call, in the same way.
 unfoldable pub ask-flex : Words → ℕ → Words → ℕ → End
 ask-flex s source q c = find-flex limit·steps (record { sheet = s; source = source; generics = 0 }) q limit·answer limit·workspace c
 

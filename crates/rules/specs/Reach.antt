@@ -9,6 +9,7 @@ use Rattle.rules.specs.Lists.{Words}
 abbrev pub Marks : Type 0
 Marks = List Bool
 
+-- A number is marked.
 abbrev pub marked : Marks → ℕ → Bool
 marked ms n = getD ms n false
 
@@ -27,6 +28,7 @@ module _ (R : ℕ → ℕ → Bool) where
   unfoldable pub round : ℕ → Marks → Marks
   round n ms = grow (λ y. any-below n (λ x. elim (marked ms x) [ true ↦ R x y | false ↦ false ])) 0 ms
 
+  -- So many rounds.
   unfoldable pub rounds : ℕ → ℕ → Marks → Marks
   rounds n zero ms = ms
   rounds n (suc k) ms = rounds n k (round n ms)
@@ -35,11 +37,12 @@ module _ (R : ℕ → ℕ → Bool) where
 unfoldable pub closure : ℕ → (ℕ → ℕ → Bool) → Marks → Marks
 closure n R ms = rounds R n n ms
 
--- The marks of some places, of n in all.
+-- Further marks, of some places.
 unfoldable pub mark-all : Words → Marks → Marks
 mark-all [] ms = ms
 mark-all (x ∷ xs) ms = mark-all xs (set ms x true)
 
+-- The marks of some places, of n in all.
 unfoldable pub marks-of : ℕ → Words → Marks
 marks-of n xs = mark-all xs (replicate n false)
 

@@ -266,7 +266,7 @@ mark-all-back (x ∷ xs) ms y (inr r) = go (in-cases (r .0)) (mark-all-back xs (
     go (inl e) ih = ih (inl (set-back ms x y (inr (e, r .1))))
     go (inr i) ih = ih (inr (i, subst (λ k. y < k) (sym (length-set ms x true)) (r .1)))
 
-none-marked : (n y : ℕ) → T (marked (replicate n false) y) → ⊥
+pub none-marked : (n y : ℕ) → T (marked (replicate n false) y) → ⊥
 none-marked zero y t = t
 none-marked (suc n) zero t = t
 none-marked (suc n) (suc y) t = none-marked n y t

@@ -13,6 +13,7 @@ use Rattle.rules.specs.Solutions.{con, Sol, term-size, terms, rep, Fits,
 use Rattle.rules.specs.Acyclic.{children, acyclic}
 use Rattle.rules.specs.AcyclicLaws.{children-at, child, flat-rank, map-length, lt-or, no-children, Down, one, on, flat-rank-falls}
 use Rattle.rules.specs.NoCycles.{acyclic-if-none}
+use Rattle.rules.specs.Joining.{map-at}
 
 -- The table in which every node is what its root is: there a way down leads from a type to the children of its root.
 unfoldable pub rooted : Types → Types
@@ -22,11 +23,6 @@ rooted ts = map (λ nd. record { up = nd .up; state = state-at ts (nd .up .1); s
 unfoldable pub rank : Types → ℕ → ℕ
 rank ts n = flat-rank (rooted ts) n
 
-node-map : (f : TypeNode → TypeNode) (l : Types) (n : ℕ) (d : TypeNode) → n < length l → getD (map f l) n d ≡ f (getD l n d)
-node-map f [] n d h = absurd (not-suc-le-zero h)
-node-map f (x ∷ l) zero d h = refl
-node-map f (x ∷ l) (suc n) d h = node-map f l n d (le-of-suc-le-suc h)
-
 -- It has as many nodes, with the children of their roots.
 pub rooted-length : (ts : Types) → length (rooted ts) ≡ length ts
 unfolding rooted
@@ -34,7 +30,7 @@ rooted-length ts = map-length _ ts
 
 pub rooted-children : (ts : Types) (n : ℕ) → n < length ts → children-at (rooted ts) n ≡ children (state-at ts (rep ts n))
 unfolding rooted children-at state-at node-at rep
-rooted-children ts n h = ap (λ (nd : TypeNode). children (nd .state)) (node-map (λ nd. record { up = nd .up; state = state-at ts (nd .up .1); size = nd .size }) ts n (new-node 0 unknown) h)
+rooted-children ts n h = ap (λ (nd : TypeNode). children (nd .state)) (map-at (λ nd. record { up = nd .up; state = state-at ts (nd .up .1); size = nd .size }) ts n (new-node 0 unknown) h)
 
 child-size : (θ : Sol) (cs : List Ty) (j : ℕ) → j < length cs → term-size (θ ((getD cs j (false, 0)) .1)) ≤ term-size (terms θ cs)
 unfolding terms term-size

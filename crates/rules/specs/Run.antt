@@ -3,6 +3,7 @@
 use Prim.Native.Nat.{ℕ, suc}
 use mathlib.Core.Bool.{Bool, true, false}
 
+-- A search: it is done with a value, stops with a number, or asks a question and goes on.
 pub data Run (A : Type 0) : Type 0 where
   done : A → Run A
   stop : ℕ → Run A

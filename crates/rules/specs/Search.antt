@@ -129,6 +129,7 @@ get-mod-in (suc k) s ts t =
           ]
         ]
 
+-- `get_mod`: no way down is longer than the table.
 unfoldable pub get-mod : Words → Types → Ty → Run Words
 get-mod s ts t = get-mod-in (suc (length ts)) s ts t
 

@@ -38,22 +38,27 @@ many s h = length (records s h)
 unfoldable pub field : Words → ℕ → ℕ → ℕ → ℕ
 field s h id k = at s (at (records s h) id + k)
 
--- Of a definition: parent?, trait vis, trait?, and the records of its bindings and members.
+-- Of a definition: parent?.
 unfoldable pub parent : Words → ℕ → ℕ
 parent s d = field s header·definitions d definition·parent
 
+-- Of a definition: the vis of its trait.
 unfoldable pub trait-vis : Words → ℕ → ℕ
 trait-vis s d = field s header·definitions d definition·trait-vis
 
+-- Of a definition: trait?.
 unfoldable pub def-trait : Words → ℕ → ℕ
 def-trait s d = field s header·definitions d definition·trait
 
+-- Of a definition: the records of its impl bindings.
 unfoldable pub bindings : Words → ℕ → Words
 bindings s d = chain s (field s header·definitions d definition·bindings)
 
+-- Of a definition: the records of its named members.
 unfoldable pub named-members : Words → ℕ → Words
 named-members s d = chain s (field s header·definitions d definition·named)
 
+-- Of a definition: the records of its implicit members.
 unfoldable pub implicit-members : Words → ℕ → Words
 implicit-members s d = chain s (field s header·definitions d definition·implicit)
 
@@ -61,39 +66,47 @@ implicit-members s d = chain s (field s header·definitions d definition·implic
 unfoldable pub import-def : Words → ℕ → ℕ
 import-def s i = field s header·imports i import·definition
 
--- Of generics: the count of type parameters, the head of the table, the records of the impl parameters.
+-- Of generics: the type parameter count.
 unfoldable pub type-params : Words → ℕ → ℕ
 type-params s g = field s header·generics g generics·type-params
 
+-- Of generics: the head of their table.
 unfoldable pub generics-table : Words → ℕ → ℕ
 generics-table s g = field s header·generics g generics·table
 
+-- Of generics: the records of their impl parameters.
 unfoldable pub impl-param-records : Words → ℕ → Words
 impl-param-records s g = chain s (field s header·generics g generics·impl-params)
 
--- Of a trait: definition, arity, inherent count.
+-- Of a trait: its definition.
 unfoldable pub trait-def : Words → ℕ → ℕ
 trait-def s t = field s header·traits t trait·definition
 
+-- Of a trait: its arity.
 unfoldable pub trait-arity : Words → ℕ → ℕ
 trait-arity s t = field s header·traits t trait·arity
 
+-- Of a trait: its inherent count, `inherent_params`.
 unfoldable pub inherent-params : Words → ℕ → ℕ
 inherent-params s t = field s header·traits t trait·inherent
 
--- Of an impl: generics, a flag, trait?, the heads of its table and its arguments.
+-- Of an impl: its generics.
 unfoldable pub impl-generics : Words → ℕ → ℕ
 impl-generics s i = field s header·impls i impl·generics
 
+-- Of an impl: flag n (1 manual, 2 basic, 4 unsafe, 8 named).
 unfoldable pub impl-flag : Words → ℕ → ℕ → Bool
 impl-flag s n i = eqb ((field s header·impls i impl·flags / n) % 2) 1
 
+-- Of an impl: trait?.
 unfoldable pub impl-trait : Words → ℕ → ℕ
 impl-trait s i = field s header·impls i impl·trait
 
+-- Of an impl: the head of its table.
 unfoldable pub impl-table : Words → ℕ → ℕ
 impl-table s i = field s header·impls i impl·table
 
+-- Of an impl: the head of its arguments.
 unfoldable pub impl-args : Words → ℕ → ℕ
 impl-args s i = field s header·impls i impl·args
 
@@ -116,19 +129,23 @@ kinds =
     0 ∷ 0 ∷ 1 ∷ 0 ∷  -- 12 Default
     0 ∷ 0 ∷ 1 ∷ 0 ∷ []  -- 13 Error
 
--- The columns of a row, and its length.
+-- The columns of a row: least children,
 abbrev pub row·least : ℕ
 row·least = 0
 
+-- most children,
 abbrev pub row·most : ℕ
 row·most = 1
 
+-- own inverse,
 abbrev pub row·own-inverse : ℕ
 row·own-inverse = 2
 
+-- may meet inverted;
 abbrev pub row·may-meet : ℕ
 row·may-meet = 3
 
+-- and how many there are.
 abbrev pub row·length : ℕ
 row·length = 4
 

@@ -9,9 +9,9 @@ use native.Mathlib.Omega.{arith}
 use lib.Dec.{T, eqb, eqb→eq, eqb-refl}
 use lib.ListN.{length, getD, set, length-set, replicate, length-replicate}
 use Rattle.rules.specs.Reach.{Marks, marked}
-use Rattle.rules.specs.ReachLaws.{count, count-le}
+use Rattle.rules.specs.ReachLaws.{count, count-le, none-marked}
 use Rattle.rules.specs.Types.{Ty, TypeState, unknown, known, Types, node-at, state-at}
-use Rattle.rules.specs.Pigeonholes.{count-set, marked-set, none-marked}
+use Rattle.rules.specs.Pigeonholes.{count-set, marked-set}
 
 -- Terms: unknowns, types of a kind and an id over their children, and lists of children.
 pub data Term : Type 0 where

@@ -78,10 +78,11 @@ transfer-impl-types src ps (q ∷ qs) m =
 unfoldable pub import-impl-types : Types → Option (List Ty) → List ImplType → Types → List ImplType × Types
 import-impl-types src ps qs dst = let r = transfer-impl-types src ps qs ([], dst) in (r .0, r .1 .1)
 
--- `export`: into a table of its own.
+-- `export` of types: into a table of their own.
 unfoldable pub export-types : Types → List Ty → List Ty × Types
 export-types src ts = import-types src none ts []
 
+-- `export` of an `ImplType`.
 unfoldable pub export-impl-type : Types → ImplType → ImplType × Types
 export-impl-type src q = import-impl-type src none q []
 

@@ -32,9 +32,11 @@ Types = List TypeNode
 unfoldable pub new-node : ℕ → TypeState → TypeNode
 new-node n st = record { up = (false, n); state = st; size = 1 }
 
+-- Node n of a table.
 unfoldable pub node-at : Types → ℕ → TypeNode
 node-at ts n = getD ts n (new-node 0 unknown)
 
+-- One inversion on another.
 abbrev pub xor : Bool → Bool → Bool
 xor true b = not b
 xor false b = b
@@ -52,9 +54,11 @@ invert-state b (known i k d cs) = known (xor b i) k d cs
 unfoldable pub find : Types → Ty → Ty
 find ts t = invert-if (t .0) ((node-at ts (t .1)) .up)
 
+-- What node n is.
 unfoldable pub state-at : Types → ℕ → TypeState
 state-at ts n = (node-at ts n) .state
 
+-- The size of the class of root n.
 unfoldable pub size-at : Types → ℕ → ℕ
 size-at ts n = (node-at ts n) .size
 
@@ -79,6 +83,7 @@ self-inverse-in zero s ts t = false
 self-inverse-in (suc k) s ts t =
     elim (kind ts t) [ unknown ↦ false | known i kd d cs ↦ elim (kind-flag s row·own-inverse kd d) [ true ↦ all (λ c. self-inverse-in k s ts c) cs | false ↦ false ] ]
 
+-- `self_inverse`: no way down is longer than the table.
 unfoldable pub self-inverse : Words → Types → Ty → Bool
 self-inverse s ts t = self-inverse-in (suc (length ts)) s ts t
 
@@ -189,6 +194,7 @@ unfoldable pub unify-in : ℕ → Words → Types → Ty → Ty → Unified
 unify-in zero s ts a b = (failure, ts)
 unify-in (suc n) s ts a b = unify-roots (λ us t u. unify-in n s us t u) s ts (find ts a) (find ts b)
 
+-- `unify`: no way down is longer than the table.
 unfoldable pub unify : Words → Types → Ty → Ty → Unified
 unify s ts a b = unify-in (suc (length ts)) s ts a b
 

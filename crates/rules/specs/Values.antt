@@ -86,10 +86,11 @@ module _ (s : Words) where
       ∷ in-table n cs
       ∷ [])
 
-  -- The node at place p of a slice w, and a table of w: the sheet's own or the question's.
+  -- The node at place p of a slice w, the sheet or the question.
   unfoldable pub node-ok : Words → ℕ → ℕ → ℕ → Bool
   node-ok w params n p = node-fits params n (at w (p + node·kind)) (at w (p + node·inverted)) (at w (p + node·id)) (cell-types w (at w (p + node·children)))
 
+  -- The table from head h of a slice w: every node of it.
   unfoldable pub table-ok : Words → ℕ → ℕ → Bool
   table-ok w params h = all (node-ok w params (length (chain w h))) (chain w h)
 
@@ -175,13 +176,14 @@ module _ (s : Words) where
       ∷ all import-ok (records s header·imports)
       ∷ [])
 
-  -- 12: a question, asked under generics g: its table, then trait? and arguments (impl), or a type word and 0 (flex).
+  -- 12: an impl question, asked under generics g: its table, then trait? and arguments.
   unfoldable pub impl-question-values : ℕ → Words → Bool
   impl-question-values g q = holds (
       table-ok q (type-params s g) (at q question·table)
       ∷ args-ok q (at q question·table) (at q question·trait) (at q question·args)
       ∷ [])
 
+  -- 12: a flex question, asked under generics g: its table, then a type word and 0.
   unfoldable pub flex-question-values : ℕ → Words → Bool
   flex-question-values g q = holds (
       table-ok q (type-params s g) (at q question·table)

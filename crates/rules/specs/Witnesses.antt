@@ -22,10 +22,11 @@ number-of e = elim (e .0) [ got ws ↦ (0, e .1) | refused n ↦ (n, e .1) ]
 unfoldable pub fact : ℕ → Words → Impl
 fact t needs = record { trait = t; params = 0; types = []; args = []; needs = map (λ u. (u, [])) needs }
 
--- A sheet of n such traits, and the question whether trait t holds.
+-- A sheet of n such traits.
 unfoldable pub facts : ℕ → List Impl → Words
 facts n impls = sheet-of (replicate n (0, 0)) [] [] impls no-builtins
 
+-- The question whether trait t holds.
 unfoldable pub holds? : ℕ → Words
 holds? t = impl-question t [] []
 
@@ -54,7 +55,7 @@ wide =
 unfoldable pub bushy : Words
 bushy = facts 5 (fact 0 (1 ∷ 1 ∷ 1 ∷ 1 ∷ []) ∷ fact 1 (2 ∷ 2 ∷ 2 ∷ 2 ∷ []) ∷ fact 2 (3 ∷ 3 ∷ 3 ∷ 3 ∷ []) ∷ fact 3 (4 ∷ 4 ∷ 4 ∷ 4 ∷ []) ∷ fact 4 [] ∷ [])
 
--- The pinned case beside them: an impl for S[A] (struct 1) that needs A, one for Leaf (struct 0); and k S round Leaf.
+-- The pinned case beside them: an impl for S[A] (struct 1) that needs A, one for Leaf (struct 0).
 unfoldable pub nested : Words
 nested =
     sheet-of ((1, 0) ∷ []) (0 ∷ 0 ∷ []) []
@@ -63,6 +64,7 @@ nested =
     ∷ [])
     no-builtins
 
+-- k S round Leaf, from node n on.
 unfoldable pub s-round : ℕ → ℕ → List TypeState
 s-round n zero = struct 0 [] ∷ []
 s-round n (suc k) = struct 1 (node (suc n) ∷ []) ∷ s-round (suc n) k
@@ -116,6 +118,7 @@ pub record Witness : Type 0 where
   pub number : ℕ
   pub count : ℕ
 
+-- The table.
 unfoldable pub witnesses : List Witness
 unfolding pin Q put flex-pin flex-of ask-impl ask-flex entered fact facts holds? impl-for flex-sheet wide bushy nested s-round ring own-first any-three
 witnesses =
@@ -186,6 +189,7 @@ tied = record {
   comes-to = (got (6 ∷ 0 ∷ 10 ∷ 17 ∷ 0 ∷ 0 ∷ 0 ∷ 2 ∷ 0 ∷ 0 ∷ 0 ∷ 0 ∷ 0 ∷ 0 ∷ 0 ∷ 1 ∷ 0 ∷ []), 1);
 }
 
+-- It comes to that.
 pub tied-holds : tied .call ≡ tied .comes-to
 unfolding rules rows pack-needs pack-impls sheet-of no-builtins impl-question any-three ask-impl tied
 tied-holds = refl

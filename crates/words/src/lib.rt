@@ -36,7 +36,8 @@ pub fn next(s: &[u32], i: usize) -> usize
     wide(word(s, i))
 }
 
-fn wide(w: u32) -> usize
+// A word as an index.
+pub fn wide(w: u32) -> usize
     ensures { λ r. ⌜ r ≡ w ⌝ }
 {
     w as usize

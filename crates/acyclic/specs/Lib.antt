@@ -1,0 +1,4 @@
+pub mod Nodes
+pub mod Walk
+pub mod Tables
+pub mod Sheets

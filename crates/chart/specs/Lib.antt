@@ -1,0 +1,5 @@
+pub mod Fields
+pub mod Index
+pub mod Kinds
+pub mod Scope
+pub mod Ancestors

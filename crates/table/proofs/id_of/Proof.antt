@@ -1,0 +1,20 @@
+-- `id_of`: an unknown node has no id.
+use Rattle.table.specs.Reads.{id-none, id-here}
+use borrow.Author.Needs.{needs}
+use Rattle.table.proofs.id_of.Statement.{statement}
+use Rattle.table.proofs.id_of.Tie as tie
+
+kind-of-requires : tie.Need-kind-of-requires
+kind-of-requires c κs = search needs
+
+field-requires : tie.Need-field-requires
+field-requires c κs = search needs
+
+returns : tie.Need-returns
+returns c = search (needs, id-none)
+
+returns-2 : tie.Need-returns-2
+returns-2 c = search (needs, id-here)
+
+pub id-of-spec : {M : Type 1} → statement M
+id-of-spec = tie.close (tie.spec kind-of-requires field-requires returns returns-2)

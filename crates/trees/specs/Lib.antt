@@ -1,0 +1,3 @@
+pub mod Forests
+pub mod Carries
+pub mod Changes

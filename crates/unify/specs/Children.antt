@@ -1,0 +1,140 @@
+-- The children of two known roots: pair by pair, all of them, or of Closures of different counts the last two. They are read from the table as it changes, where what is known stays.
+use Prim.Native.Nat.{ℕ, zero, suc, _+_, _-_, _*_, _/_, _%_, _<_, _≤_}
+use mathlib.Core.Path.{_≡_, refl, sym, _∙_, ap, ap₂, subst}
+use mathlib.Core.Bool.{Bool, true, false}
+use mathlib.Core.List.{List, [], _∷_, map}
+use mathlib.Core.Logic.{_≢_, ⊎-elim}
+use native.Mathlib.Nat.{le-of-suc-le-suc, not-suc-le-zero}
+use native.Mathlib.Numerals.{add-one}
+use native.Mathlib.Omega.{arith}
+use lib.Dec.{eqb}
+use lib.ListN.{length, getD, drop, drop-of-length-le, length-map}
+use lib.Seq.{drop-cons}
+use borrow.Author.Tests.{eq-eqb, ne-eqb}
+use Rattle.rules.specs.Lists.{Words}
+use Rattle.rules.specs.Layout.{kind·closure}
+use Rattle.rules.specs.Sheet.{at}
+use Rattle.rules.specs.Types.{Ty, TypeState, unknown, known, Types, xor, invert-if, state-at, and, success, failure, indeterminate, Unified, unify-each, last-of, unify-children, unify-in}
+use Rattle.rules.specs.Types as rules
+use Rattle.rules.specs.Acyclic.{children}
+use Rattle.rules.specs.AcyclicLaws.{children-at}
+use Rattle.rules.specs.Transfer.{type-of-word}
+use Rattle.rules.specs.Answer.{word-of-type}
+use Rattle.rules.specs.Solutions.{rep, AllIn}
+use Rattle.rules.specs.Pigeonholes.{lt-or}
+use Rattle.rules.specs.RootRank.{child-in}
+use Rattle.rules.specs.UnifyKeeps.{unify-in-acyclic}
+use Rattle.table.specs.Packing.{types-of, kind-in, kind-at, Good}
+use Rattle.table.specs.Nodes.{type-word}
+use Rattle.table.specs.Reads.{digit, child-here, child-past}
+use Rattle.unify.specs.declared.UnifyResult.{UnifyResult}
+use Rattle.unify.specs.declared.UnifyResult.the-variants.{Success, Failure, Indeterminate}
+use Rattle.unify.specs.Results.{result-of, Unifies, KnownRoots, Leaves}
+use Rattle.unify.specs.Kept.{Kept, same, after, unify-kept}
+use Rattle.unify.specs.Known.{children-there}
+
+-- By their counts m and k.
+module _ (f : Types → Ty → Ty → Unified) (ws : Words) (x y m k : ℕ) (i : Bool) (em : m ≡ length (children-at (types-of ws) x)) (ek : k ≡ length (children-at (types-of ws) y)) where
+  counts : length (map (invert-if i) (children-at (types-of ws) y)) ≡ k
+  counts = length-map (children-at (types-of ws) y) (invert-if i) ∙ sym ek
+
+  pub children-each : (us : Words) (v : UnifyResult) → m ≡ k → Unifies us v (unify-each f (types-of ws) (children-at (types-of ws) x) (map (invert-if i) (children-at (types-of ws) y))) → Unifies us v (unify-children f (types-of ws) (kind-at (types-of ws) x) (children-at (types-of ws) x) (map (invert-if i) (children-at (types-of ws) y)))
+  unfolding unify-children
+  children-each us v e u = record { good = u .good; is = u .is ∙ sym (rw (eq-eqb (length (children-at (types-of ws) x)) (length (map (invert-if i) (children-at (types-of ws) y))) (sym em ∙ e ∙ sym counts), unify-children)) }
+
+  module _ (n : m ≢ k) (w : ℕ) (ew : w ≡ kind-at (types-of ws) x) where
+    differ : eqb (length (children-at (types-of ws) x)) (length (map (invert-if i) (children-at (types-of ws) y))) ≡ false
+    differ = ne-eqb _ _ (λ q. n (em ∙ q ∙ counts))
+
+    pub children-last : (us : Words) → w ≡ 8 → Leaves us (unify-each f (types-of ws) (last-of (children-at (types-of ws) x)) (last-of (map (invert-if i) (children-at (types-of ws) y)))) → Unifies us Failure (unify-children f (types-of ws) (kind-at (types-of ws) x) (children-at (types-of ws) x) (map (invert-if i) (children-at (types-of ws) y)))
+    unfolding unify-children result-of
+    children-last us e u = record { good = u .good; is = ap {B = Unified} (λ (ts : Types). (failure, ts)) (u .is) ∙ sym (rw (differ, eq-eqb (kind-at (types-of ws) x) 8 (sym ew ∙ e), unify-children)) }
+
+    pub children-fail : w ≢ 8 → Good ws → Unifies ws Failure (unify-children f (types-of ws) (kind-at (types-of ws) x) (children-at (types-of ws) x) (map (invert-if i) (children-at (types-of ws) y)))
+    unfolding unify-children result-of
+    children-fail e g = record { good = g; is = sym (rw (differ, ne-eqb (kind-at (types-of ws) x) 8 (λ q. e (ew ∙ q)), unify-children)) }
+
+-- A child's type word is small.
+digit-small : (j w : ℕ) → digit j w < 512
+digit-small zero w = omega arith
+digit-small (suc zero) w = omega arith
+digit-small (suc (suc j)) w = omega arith
+
+pub child-fits : (ws : Words) (n j c : ℕ) → c ≡ word-of-type (getD (children-at (types-of ws) n) j (false, 0)) → c < 4294967294
+child-fits ws n j c e = ⊎-elim
+    (λ h. omega (arith, digit-small (j % 3) (at ws (6 * n + (4 + j / 3))), child-here ws n j (length (children-at (types-of ws) n)) refl (at ws (6 * n + (4 + j / 3))) (digit (j % 3) (at ws (6 * n + (4 + j / 3)))) h refl refl))
+    (λ h. omega (arith, child-past ws n j (length (children-at (types-of ws) n)) refl h))
+    (lt-or j (length (children-at (types-of ws) n)))
+
+-- Child c, inverted if i.
+pub turned-child : (ts : Types) (n j c r : ℕ) (i : Bool) → c ≡ word-of-type (getD (children-at ts n) j (false, 0)) → r ≡ word-of-type (invert-if i (type-of-word c)) → r ≡ word-of-type (invert-if i (getD (children-at ts n) j (false, 0)))
+turned-child ts n j c r i e q = q ∙ ap (λ (t : Ty). word-of-type (invert-if i t)) (ap type-of-word e ∙ type-word (getD (children-at ts n) j (false, 0)))
+
+pub map-at : (i : Bool) (ys : List Ty) (j : ℕ) → j < length ys → getD (map (invert-if i) ys) j (false, 0) ≡ invert-if i (getD ys j (false, 0))
+map-at i [] j h = absurd (not-suc-le-zero h)
+map-at i (y ∷ ys) zero h = refl
+map-at i (y ∷ ys) (suc j) h = map-at i ys j (le-of-suc-le-suc h)
+
+last-at : (x : Ty) (xs : List Ty) → last-of (x ∷ xs) ≡ getD (x ∷ xs) (length xs) (false, 0) ∷ []
+unfolding last-of
+last-at x [] = refl
+last-at x (y ∷ ys) = last-at y ys
+
+last-is : (xs : List Ty) (m : ℕ) → m ≡ length xs → m ≢ 0 → last-of xs ≡ getD xs (m - 1) (false, 0) ∷ []
+last-is [] m e n = absurd (n e)
+last-is (x ∷ xs) m e n = last-at x xs ∙ ap (λ k. getD (x ∷ xs) k (false, 0) ∷ []) (let q : length xs ≡ m - 1 = omega arith in q)
+
+half-of : (t : Ty) (c : ℕ) → c ≡ word-of-type t → c / 2 ≡ t .1
+unfolding type-of-word
+half-of t c e = ap (λ (u : Ty). u .1) (ap type-of-word e ∙ type-word t)
+
+-- The nodes of two children that stand at the same place, or at the last.
+module _ (ws : Words) (x y : ℕ) (g : Good ws) (k : KnownRoots (types-of ws) x y) where
+  pub left-child : (j c : ℕ) → j < length (children-at (types-of ws) x) → c ≡ word-of-type (getD (children-at (types-of ws) x) j (false, 0)) → c / 2 < length (types-of ws)
+  left-child j c h e = omega (arith, half-of _ c e, child-in (length (types-of ws)) (children-at (types-of ws) x) j (children-there ws x g (k .left-in) (k .left-root) (k .left-known)) h)
+
+  pub right-child : (i : Bool) (j c : ℕ) → j < length (children-at (types-of ws) y) → c ≡ word-of-type (invert-if i (getD (children-at (types-of ws) y) j (false, 0))) → c / 2 < length (types-of ws)
+  unfolding invert-if
+  right-child i j c h e = omega (arith, half-of (invert-if i (getD (children-at (types-of ws) y) j (false, 0))) c e, child-in (length (types-of ws)) (children-at (types-of ws) y) j (children-there ws y g (k .right-in) (k .right-root) (k .right-known)) h)
+
+  -- The last two: m and n are the counts.
+  pub last-left : (m a : ℕ) → m ≡ length (children-at (types-of ws) x) → m ≢ 0 → a ≡ word-of-type (getD (children-at (types-of ws) x) (m - 1) (false, 0)) → a / 2 < length (types-of ws)
+  last-left m a e z ea = left-child (m - 1) a (omega arith) ea
+
+  pub last-right : (n b : ℕ) (i : Bool) → n ≡ length (children-at (types-of ws) y) → n ≢ 0 → b ≡ word-of-type (invert-if i (getD (children-at (types-of ws) y) (n - 1) (false, 0))) → b / 2 < length (types-of ws)
+  last-right n b i e z eb = right-child i (n - 1) b (omega arith) eb
+
+module _ (f : Types → Ty → Ty → Unified) (ws : Words) (x y : ℕ) (i : Bool) where
+  none-left : (xs ys : List Ty) → 0 ≡ length xs → (unify-each f (types-of ws) (last-of xs) ys) .1 ≡ types-of ws
+  unfolding unify-each last-of
+  none-left [] ys e = refl
+  none-left (z ∷ zs) ys e = absurd (omega arith)
+
+  none-right : (xs ys : List Ty) → 0 ≡ length ys → (unify-each f (types-of ws) xs (last-of (map (invert-if i) ys))) .1 ≡ types-of ws
+  unfolding unify-each last-of
+  none-right [] [] e = refl
+  none-right (x ∷ xs) [] e = refl
+  none-right xs (z ∷ zs) e = absurd (omega arith)
+
+  pub last-none-left : (m : ℕ) → m ≡ length (children-at (types-of ws) x) → m ≡ 0 → Good ws → Leaves ws (unify-each f (types-of ws) (last-of (children-at (types-of ws) x)) (last-of (map (invert-if i) (children-at (types-of ws) y))))
+  last-none-left m e z g = record { good = g; is = sym (none-left (children-at (types-of ws) x) (last-of (map (invert-if i) (children-at (types-of ws) y))) (sym z ∙ e)) }
+
+  pub last-none-right : (n : ℕ) → n ≡ length (children-at (types-of ws) y) → n ≡ 0 → Good ws → Leaves ws (unify-each f (types-of ws) (last-of (children-at (types-of ws) x)) (last-of (map (invert-if i) (children-at (types-of ws) y))))
+  last-none-right n e z g = record { good = g; is = sym (none-right (last-of (children-at (types-of ws) x)) (children-at (types-of ws) y) (sym z ∙ e)) }
+
+  pub last-met : (us : Words) (v : UnifyResult) (m n a b : ℕ) → m ≡ length (children-at (types-of ws) x) → m ≢ 0 → n ≡ length (children-at (types-of ws) y) → n ≢ 0
+      → a ≡ word-of-type (getD (children-at (types-of ws) x) (m - 1) (false, 0)) → b ≡ word-of-type (invert-if i (getD (children-at (types-of ws) y) (n - 1) (false, 0)))
+      → Unifies us v (f (types-of ws) (type-of-word a) (type-of-word b)) → Leaves us (unify-each f (types-of ws) (last-of (children-at (types-of ws) x)) (last-of (map (invert-if i) (children-at (types-of ws) y))))
+  unfolding unify-each
+  last-met us v m n a b em zm en zn ea eb u = record {
+    good = u .good;
+    is =
+        ap (λ (z : Unified). z .1) (u .is)
+        ∙ sym (ap₂ (λ (p q : List Ty). (unify-each f (types-of ws) p q) .1)
+        (last-is (children-at (types-of ws) x) m em zm ∙ ap (λ (t : Ty). t ∷ []) (sym (ap type-of-word ea ∙ type-word _)))
+        (last-is (map (invert-if i) (children-at (types-of ws) y)) n (en ∙ sym (length-map (children-at (types-of ws) y) (invert-if i))) zn
+        ∙ ap (λ (t : Ty). t ∷ []) (map-at i (children-at (types-of ws) y) (n - 1) (omega arith) ∙ sym (ap type-of-word eb ∙ type-word _))));
+  }
+
+pub counts-same : (ts : Types) (x y m k : ℕ) → m ≡ length (children-at ts x) → k ≡ length (children-at ts y) → m ≡ k → length (children-at ts x) ≡ length (children-at ts y)
+counts-same ts x y m k e q z = sym e ∙ z ∙ q

@@ -1,0 +1,136 @@
+-- Two known types: the tests on them, and that two roots whose children were met with success are roots still.
+use Prim.Native.Nat.{ℕ, zero, suc, _+_, _/_, _<_, _≤_}
+use mathlib.Core.Path.{_≡_, refl, sym, _∙_, ap, ap₂, subst}
+use mathlib.Core.Bool.{Bool, true, false, not, _&&_, _||_}
+use mathlib.Core.List.{List, map}
+use mathlib.Core.Logic.{_≢_}
+use native.Mathlib.Omega.{arith}
+use lib.Dec.{eqb}
+use lib.ListN.{length}
+use borrow.Author.Tests.{eq-eqb, ne-eqb}
+use Rattle.rules.specs.Lists.{Words}
+use Rattle.rules.specs.Layout.{kind·error}
+use Rattle.rules.specs.Sheet.{kind-flag, row·may-meet}
+use Rattle.rules.specs.Types.{Ty, TypeState, unknown, known, Types, invert-if, state-at, success, Unified, unify-children, unify-known, unify-in}
+use Rattle.rules.specs.Types as rules
+use Rattle.rules.specs.Acyclic.{children}
+use Rattle.rules.specs.AcyclicLaws.{children-at}
+use Rattle.rules.specs.Transfer.{type-of-word}
+use Rattle.rules.specs.Solutions.{Sol, con, terms, term-size, rep, Fits, Solves, AllIn, ChildrenIn, Readable}
+use Rattle.rules.specs.RootRank.{rank}
+use Rattle.rules.specs.Readings.{ranked-readable}
+use Rattle.rules.specs.Joining.{same-terms}
+use Rattle.rules.specs.MostGeneral.{Won, AfterAll, known-right, unify-in-right}
+use Rattle.table.specs.Packing.{types-of, kind-in, inverted-in, id-in, kind-at, inverted-at, id-at, Roots, Good}
+use Rattle.unify.specs.declared.UnifyResult.{UnifyResult}
+use Rattle.unify.specs.declared.UnifyResult.the-variants.{Success, Failure, Indeterminate}
+use Rattle.unify.specs.Results.{result-of, Unifies, KnownRoots, met-inverted, unify-fields}
+
+known-parts : (st : TypeState) → kind-in st ≢ 0 → st ≡ known (inverted-in st) (kind-in st) (id-in st) (children st)
+unfolding kind-in inverted-in id-in children
+known-parts unknown n = absurd (n refl)
+known-parts (known i k d cs) n = refl
+
+-- What a known node is, by its fields.
+pub known-fields : (ts : Types) (n : ℕ) → kind-at ts n ≢ 0 → state-at ts n ≡ known (inverted-at ts n) (kind-at ts n) (id-at ts n) (children-at ts n)
+unfolding kind-at inverted-at id-at children-at
+known-fields ts n z = known-parts (state-at ts n) z
+
+-- The children of a known root are nodes.
+pub children-there : (ws : Words) (n : ℕ) → Good ws → n < length (types-of ws) → rep (types-of ws) n ≡ n → kind-at (types-of ws) n ≢ 0 → AllIn (length (types-of ws)) (children-at (types-of ws) n)
+children-there ws n g h r z = subst (ChildrenIn (length (types-of ws))) (ap (state-at (types-of ws)) r ∙ known-fields (types-of ws) n z) (g .formed n h .2)
+
+-- Both are roots still: what the children touched is smaller, in a solution of what they left.
+module _ (s ws vs : Words) (x y left : ℕ) (v : UnifyResult) (g : Good ws) (r : Roots (types-of ws) (type-of-word x) (type-of-word y)) (k : KnownRoots (types-of ws) (x / 2) (y / 2)) (u : Unifies vs v (unify-fields (unify-in left s) s (types-of ws) (type-of-word x) (type-of-word y))) (won : result-of v ≡ success) where
+  abbrev ts : Types
+  ts = types-of ws
+
+  abbrev m : Unified
+  m = unify-known (unify-in left s) s (types-of ws) (met-inverted (types-of ws) (type-of-word x) (type-of-word y)) (kind-at (types-of ws) (x / 2)) (id-at (types-of ws) (x / 2)) (children-at (types-of ws) (x / 2)) (kind-at (types-of ws) (y / 2)) (id-at (types-of ws) (y / 2)) (children-at (types-of ws) (y / 2))
+
+  abbrev us : Types
+  us = m .1
+
+  abbrev xs : List Ty
+  xs = children-at ts (x / 2)
+
+  abbrev ys : List Ty
+  ys = children-at ts (y / 2)
+
+  is : _≡_ {A = Unified} (result-of v, types-of vs) m
+  unfolding unify-fields type-of-word
+  is = u .is
+
+  win : Won (m .0)
+  win = subst Won (sym won ∙ ap (λ (z : Unified). z .0) is) tt
+
+  ax : AllIn (length ts) xs
+  ax = children-there ws (x / 2) g (k .left-in) (k .left-root) (k .left-known)
+
+  ay : AllIn (length ts) ys
+  ay = children-there ws (y / 2) g (k .right-in) (k .right-root) (k .right-known)
+
+  p : (kind-at ts (x / 2) ≡ kind-at ts (y / 2)) × (id-at ts (x / 2) ≡ id-at ts (y / 2)) × AfterAll ts xs ys us × Readable us
+  p = known-right (unify-in left s) (unify-in-right left s) s ts (met-inverted ts (type-of-word x) (type-of-word y)) (kind-at ts (x / 2)) (id-at ts (x / 2)) xs (kind-at ts (y / 2)) (id-at ts (y / 2)) ys (g .formed) ax ay (ranked-readable ts (g .formed) (rank ts) (g .acyclic)) win
+
+  q : AfterAll ts xs ys us
+  q = p .2
+
+  abbrev σ : Sol
+  σ = p .3 .0
+
+  solved : Solves us σ
+  solved = p .3 .1 .solves
+
+  fit : (n : ℕ) → n < length ts → rep ts n ≡ n → kind-at ts n ≢ 0 → σ n ≡ con (kind-at ts n) (id-at ts n) (terms σ (children-at ts n))
+  fit n h rr z = subst (Fits σ n) (known-fields ts n z) (subst (λ r. Fits σ r (state-at ts r)) rr (q .out σ solved n h .1))
+
+  left-still : rep us (x / 2) ≡ x / 2
+  unfolding term-size
+  left-still = q .quiet σ solved (x / 2) (k .left-in) (k .left-root) (omega (arith, ap term-size (fit (x / 2) (k .left-in) (k .left-root) (k .left-known))))
+
+  right-still : rep us (y / 2) ≡ y / 2
+  unfolding term-size
+  right-still =
+      let axu : AllIn (length us) xs = subst (λ N. AllIn N xs) (sym (q .len)) ax in
+      let ayu : AllIn (length us) ys = subst (λ N. AllIn N ys) (sym (q .len)) ay in
+      q .quiet σ solved (y / 2) (k .right-in) (k .right-root) (omega (arith, ap term-size (fit (y / 2) (k .right-in) (k .right-root) (k .right-known)), ap term-size (same-terms us σ solved xs ys axu ayu (q .meet))))
+
+  pub still-roots : Roots (types-of vs) (type-of-word x) (type-of-word y)
+  unfolding type-of-word
+  still-roots =
+      let e : types-of vs ≡ us = ap (λ (z : Unified). z .1) is in
+      record {
+        left-in = subst (λ (l : Types). x / 2 < length l) (sym e) (subst (λ N. x / 2 < N) (sym (q .len)) (k .left-in));
+        right-in = subst (λ (l : Types). y / 2 < length l) (sym e) (subst (λ N. y / 2 < N) (sym (q .len)) (k .right-in));
+        left-root = subst (λ (l : Types). rep l (x / 2) ≡ x / 2) (sym e) left-still;
+        right-root = subst (λ (l : Types). rep l (y / 2) ≡ y / 2) (sym e) right-still;
+        apart = r .apart;
+      }
+
+-- Error against a known type, on either side; k is a kind that was read.
+module _ (f : Types → Ty → Ty → Unified) (s ws : Words) (x y : ℕ) (g : Good ws) where
+  pub error-left : (k : ℕ) → k ≡ kind-at (types-of ws) (x / 2) → k ≡ 13 → Unifies ws Indeterminate (unify-fields f s (types-of ws) (type-of-word x) (type-of-word y))
+  unfolding unify-fields unify-known result-of type-of-word
+  error-left k e z = record { good = g; is = sym (rw (eq-eqb (kind-at (types-of ws) (x / 2)) 13 (sym e ∙ z), unify-known)) }
+
+  module _ (k k′ : ℕ) (ek : k ≡ kind-at (types-of ws) (x / 2)) (ek′ : k′ ≡ kind-at (types-of ws) (y / 2)) (n : k ≢ 13) where
+    pub error-right : k′ ≡ 13 → Unifies ws Indeterminate (unify-fields f s (types-of ws) (type-of-word x) (type-of-word y))
+    unfolding unify-fields unify-known result-of type-of-word
+    error-right z = record { good = g; is = sym (rw (ne-eqb (kind-at (types-of ws) (x / 2)) 13 (λ q. n (ek ∙ q)), eq-eqb (kind-at (types-of ws) (y / 2)) 13 (sym ek′ ∙ z), unify-known)) }
+
+    -- No Error: b says whether they may meet, i whether they meet inverted.
+    module _ (n′ : k′ ≢ 13) (i b : Bool) (ei : i ≡ met-inverted (types-of ws) (type-of-word x) (type-of-word y))
+        (eb : b ≡ (eqb (kind-at (types-of ws) (x / 2)) (kind-at (types-of ws) (y / 2)) && eqb (id-at (types-of ws) (x / 2)) (id-at (types-of ws) (y / 2)) && (not i || kind-flag s row·may-meet (kind-at (types-of ws) (x / 2)) (id-at (types-of ws) (x / 2))))) where
+      opened : (c : Bool) → b ≡ c → unify-fields f s (types-of ws) (type-of-word x) (type-of-word y) ≡ elim c [ true ↦ unify-children f (types-of ws) (kind-at (types-of ws) (x / 2)) (children-at (types-of ws) (x / 2)) (map (invert-if i) (children-at (types-of ws) (y / 2))) | false ↦ (rules.failure, types-of ws) ]
+      unfolding unify-fields unify-known type-of-word
+      opened c ec =
+          ap (λ (j : Bool). unify-known f s (types-of ws) j (kind-at (types-of ws) (x / 2)) (id-at (types-of ws) (x / 2)) (children-at (types-of ws) (x / 2)) (kind-at (types-of ws) (y / 2)) (id-at (types-of ws) (y / 2)) (children-at (types-of ws) (y / 2))) (sym ei)
+          ∙ rw (ne-eqb (kind-at (types-of ws) (x / 2)) 13 (λ q. n (ek ∙ q)), ne-eqb (kind-at (types-of ws) (y / 2)) 13 (λ q. n′ (ek′ ∙ q)), sym eb ∙ ec, unify-known)
+
+      pub known-differ : b ≡ false → Unifies ws Failure (unify-fields f s (types-of ws) (type-of-word x) (type-of-word y))
+      unfolding result-of
+      known-differ z = record { good = g; is = sym (opened false z) }
+
+      pub known-meet : (us : Words) (v : UnifyResult) → b ≡ true → Unifies us v (unify-children f (types-of ws) (kind-at (types-of ws) (x / 2)) (children-at (types-of ws) (x / 2)) (map (invert-if i) (children-at (types-of ws) (y / 2)))) → Unifies us v (unify-fields f s (types-of ws) (type-of-word x) (type-of-word y))
+      known-meet us v z w = record { good = w .good; is = w .is ∙ sym (opened true z) }

@@ -1,0 +1,156 @@
+-- The layers of `unify`, one law for each way through the code: from roots to what they are, to two known types.
+use Prim.Native.Nat.{ℕ, zero, suc, _+_, _-_, _*_, _/_, _%_, _<_, _≤_}
+use mathlib.Core.Path.{_≡_, refl, sym, _∙_, ap, ap₂, subst}
+use mathlib.Core.Bool.{Bool, true, false, not, _&&_, _||_}
+use mathlib.Core.List.{List, [], _∷_, map}
+use mathlib.Core.Logic.{_≢_}
+use native.Mathlib.Omega.{arith}
+use lib.Dec.{eqb}
+use lib.ListN.{length}
+use borrow.Author.Tests.{eq-eqb, ne-eqb, eqb-true, eqb-false}
+use Rattle.rules.specs.Lists.{Words}
+use Rattle.rules.specs.Layout.{kind·error}
+use Rattle.rules.specs.Sheet.{kind-flag, row·may-meet}
+use Rattle.rules.specs.Types.{Ty, TypeState, unknown, known, Types, xor, invert-if, find, state-at, self-inverse, from-bool, success, failure, indeterminate, Unified, unify-children, unify-known, join-on-success, bind-unknown, unify-states, unify-roots, unify-in}
+use Rattle.rules.specs.Types as rules
+use Rattle.rules.specs.Acyclic.{children}
+use Rattle.rules.specs.AcyclicLaws.{children-at}
+use Rattle.rules.specs.Transfer.{type-of-word}
+use Rattle.rules.specs.Answer.{word-of-type}
+use Rattle.rules.specs.Solutions.{Sol, con, terms, term-size, rep, Fits, Solves, AllIn, ChildrenIn, WellFormed, Readable}
+use Rattle.rules.specs.RootRank.{rank}
+use Rattle.rules.specs.Readings.{Acyclic, ranked-readable}
+use Rattle.rules.specs.Joining.{same-terms}
+use Rattle.rules.specs.MostGeneral.{Won, AfterAll, known-right, unify-in-right}
+use Rattle.rules.specs.UnifyKeeps.{StaysAcyclic, unify-in-acyclic}
+use Rattle.table.specs.Packing.{types-of, kind-in, inverted-in, id-in, kind-at, inverted-at, id-at, Packed, Roots, Good}
+use Rattle.table.specs.Nodes.{type-word}
+use Rattle.table.specs.Reads.{unknown-here}
+use Rattle.unify.specs.declared.UnifyResult.{UnifyResult}
+use Rattle.unify.specs.declared.UnifyResult.the-variants.{Success, Failure, Indeterminate}
+use Rattle.unify.specs.Results.{result-of, Meets, Unifies, TwoRoots, KnownRoots, met-inverted, unify-fields}
+
+-- `unify` with no fuel left, and with some.
+pub unify-none : (s ws : Words) (left a b : ℕ) → left ≡ 0 → Good ws → Unifies ws Failure (unify-in left s (types-of ws) (type-of-word a) (type-of-word b))
+unfolding unify-in result-of
+unify-none s ws left a b e g = record { good = g; is = sym (ap (λ k. unify-in k s (types-of ws) (type-of-word a) (type-of-word b)) e) }
+
+found : (ts : Types) (a x : ℕ) → x ≡ word-of-type (find ts (type-of-word a)) → type-of-word x ≡ find ts (type-of-word a)
+found ts a x e = ap type-of-word e ∙ type-word (find ts (type-of-word a))
+
+module _ (ws : Words) (a b x y : ℕ) (g : Good ws) (ha : a / 2 < length (types-of ws)) (hb : b / 2 < length (types-of ws)) (ex : x ≡ word-of-type (find (types-of ws) (type-of-word a))) (ey : y ≡ word-of-type (find (types-of ws) (type-of-word b))) where
+  pub found-roots : TwoRoots (types-of ws) (type-of-word x) (type-of-word y)
+  unfolding find invert-if rep type-of-word
+  found-roots = record {
+    left-in = subst (λ (t : Ty). t .1 < length (types-of ws)) (sym (found (types-of ws) a x ex)) (g .formed (a / 2) ha .0);
+    right-in = subst (λ (t : Ty). t .1 < length (types-of ws)) (sym (found (types-of ws) b y ey)) (g .formed (b / 2) hb .0);
+    left-root = subst (λ (t : Ty). rep (types-of ws) (t .1) ≡ t .1) (sym (found (types-of ws) a x ex)) (g .formed (a / 2) ha .1);
+    right-root = subst (λ (t : Ty). rep (types-of ws) (t .1) ≡ t .1) (sym (found (types-of ws) b y ey)) (g .formed (b / 2) hb .1);
+  }
+
+  pub unify-on : (s us : Words) (left : ℕ) (v : UnifyResult) → left ≢ 0 → Meets us v (unify-roots (unify-in (left - 1) s) s (types-of ws) (type-of-word x) (type-of-word y)) → Unifies us v (unify-in left s (types-of ws) (type-of-word a) (type-of-word b))
+  unfolding unify-in type-of-word
+  unify-on s us left v nz m = record {
+    good = record { packed = m .packed; formed = subst WellFormed (sym end) (stays .formed); acyclic = subst Acyclic (sym end) (stays .acyclic) };
+    is = whole;
+  }
+    where
+      whole : _≡_ {A = Unified} (result-of v, types-of us) (unify-in left s (types-of ws) (type-of-word a) (type-of-word b))
+      whole =
+          m .is ∙ ap₂ (λ (t u : Ty). unify-roots (unify-in (left - 1) s) s (types-of ws) t u) (found (types-of ws) a x ex) (found (types-of ws) b y ey)
+          ∙ sym (ap (λ k. unify-in k s (types-of ws) (type-of-word a) (type-of-word b)) (let q : left ≡ suc (left - 1) = omega arith in q))
+
+      end : types-of us ≡ (unify-in left s (types-of ws) (type-of-word a) (type-of-word b)) .1
+      end = ap (λ (m : Unified). m .1) whole
+
+      stays : StaysAcyclic (types-of ws) ((unify-in left s (types-of ws) (type-of-word a) (type-of-word b)) .1)
+      stays = unify-in-acyclic left s (types-of ws) (type-of-word a) (type-of-word b) (g .formed) (g .acyclic) ha hb
+
+-- Type words of one node that are inverted alike are one.
+parity : (x y : ℕ) → x / 2 ≡ y / 2 → (type-of-word x) .0 ≡ (type-of-word y) .0 → x ≡ y
+unfolding type-of-word
+parity x y e q = go (eqb (x % 2) 1) refl (eqb (y % 2) 1) refl q
+  where
+    go : (b : Bool) → eqb (x % 2) 1 ≡ b → (c : Bool) → eqb (y % 2) 1 ≡ c → eqb (x % 2) 1 ≡ eqb (y % 2) 1 → x ≡ y
+    go true p true r z = omega (arith, eqb-true (x % 2) 1 p, eqb-true (y % 2) 1 r)
+    go true p false r z = let n : _≡_ {A = ℕ} 0 1 = cc in absurd (omega arith)
+    go false p true r z = let n : _≡_ {A = ℕ} 0 1 = cc in absurd (omega arith)
+    go false p false r z = let n : x % 2 ≢ 1 = eqb-false (x % 2) 1 p in let m : y % 2 ≢ 1 = eqb-false (y % 2) 1 r in omega arith
+
+-- Two roots.
+module _ (f : Types → Ty → Ty → Unified) (s ws : Words) (x y : ℕ) where
+  at-one : (b : Bool) → x / 2 ≡ y / 2 → (not (xor ((type-of-word x) .0) ((type-of-word y) .0)) || self-inverse s (types-of ws) (type-of-word x)) ≡ b → unify-roots f s (types-of ws) (type-of-word x) (type-of-word y) ≡ (from-bool b, types-of ws)
+  unfolding unify-roots type-of-word
+  at-one b e q = rw (eq-eqb (x / 2) (y / 2) e, unify-roots) (ap {B = Unified} (λ (c : Bool). (from-bool c, types-of ws)) q)
+
+  upright : (b c : Bool) → b ≡ c → (d : Bool) → (not (xor b c) || d) ≡ true
+  upright true true e d = refl
+  upright true false e d = absurd (apart e)
+    where
+      apart : true ≡ false → ⊥
+      apart q = let z : _≡_ {A = ℕ} 0 1 = cc in omega arith
+  upright false true e d = absurd (apart e)
+    where
+      apart : false ≡ true → ⊥
+      apart q = let z : _≡_ {A = ℕ} 0 1 = cc in omega arith
+  upright false false e d = refl
+
+  turned : (b c : Bool) → b ≢ c → (d : Bool) → (not (xor b c) || d) ≡ d
+  turned true true e d = absurd (e refl)
+  turned true false e d = refl
+  turned false true e d = refl
+  turned false false e d = absurd (e refl)
+
+  pub roots-same : x ≡ y → Good ws → Meets ws Success (unify-roots f s (types-of ws) (type-of-word x) (type-of-word y))
+  unfolding result-of from-bool
+  roots-same e g = record { packed = g .packed; is = sym (at-one true (ap (λ k. k / 2) e) (upright _ _ (ap (λ k. (type-of-word k) .0) e) (self-inverse s (types-of ws) (type-of-word x)))) }
+
+  pub roots-opposed : (b : Bool) (v : UnifyResult) → x / 2 ≡ y / 2 → x ≢ y → Good ws → b ≡ self-inverse s (types-of ws) (type-of-word x) → result-of v ≡ from-bool b → Meets ws v (unify-roots f s (types-of ws) (type-of-word x) (type-of-word y))
+  roots-opposed b v e n g eb ev = record { packed = g .packed; is = ap {B = Unified} (λ (r : rules.UnifyResult). (r, types-of ws)) ev ∙ sym (at-one b e (turned _ _ odd (self-inverse s (types-of ws) (type-of-word x)) ∙ sym eb)) }
+    where
+      odd : (type-of-word x) .0 ≢ (type-of-word y) .0
+      odd q = n (parity x y e q)
+
+  pub roots-apart : (us : Words) (v : UnifyResult) → x / 2 ≢ y / 2 → Meets us v (unify-states f s (types-of ws) (type-of-word x) (type-of-word y) (state-at (types-of ws) (x / 2)) (state-at (types-of ws) (y / 2))) → Meets us v (unify-roots f s (types-of ws) (type-of-word x) (type-of-word y))
+  unfolding unify-roots type-of-word
+  roots-apart us v n m = record { packed = m .packed; is = m .is ∙ sym (rw (ne-eqb (x / 2) (y / 2) n, unify-roots)) }
+
+pub two-apart : (ts : Types) (x y : ℕ) → TwoRoots ts (type-of-word x) (type-of-word y) → x / 2 ≢ y / 2 → Roots ts (type-of-word x) (type-of-word y)
+unfolding type-of-word
+two-apart ts x y r n = record { left-in = r .left-in; right-in = r .right-in; left-root = r .left-root; right-root = r .right-root; apart = n }
+
+pub left-node : (ts : Types) (x y : ℕ) → TwoRoots ts (type-of-word x) (type-of-word y) → x / 2 < length ts
+unfolding type-of-word
+left-node ts x y r = r .left-in
+
+-- Two different roots, by what they are: k and k′ are their kinds.
+module _ (f : Types → Ty → Ty → Unified) (s ws : Words) (x y k : ℕ) (ek : k ≡ kind-at (types-of ws) (x / 2)) where
+  pub states-left : (us : Words) (v : UnifyResult) → k ≡ 0 → Meets us v (bind-unknown (types-of ws) (type-of-word x) (type-of-word y)) → Meets us v (unify-states f s (types-of ws) (type-of-word x) (type-of-word y) (state-at (types-of ws) (x / 2)) (state-at (types-of ws) (y / 2)))
+  unfolding unify-states
+  states-left us v z m = record { packed = m .packed; is = m .is ∙ sym (ap (λ st. unify-states f s (types-of ws) (type-of-word x) (type-of-word y) st (state-at (types-of ws) (y / 2))) (unknown-here ws (x / 2) k ek z)) }
+
+  module _ (k′ : ℕ) (ek′ : k′ ≡ kind-at (types-of ws) (y / 2)) where
+    pub states-right : (us : Words) (v : UnifyResult) → k ≢ 0 → k′ ≡ 0 → Meets us v (bind-unknown (types-of ws) (type-of-word x) (type-of-word y)) → Meets us v (unify-states f s (types-of ws) (type-of-word x) (type-of-word y) (state-at (types-of ws) (x / 2)) (state-at (types-of ws) (y / 2)))
+    unfolding unify-states
+    states-right us v n z m = record { packed = m .packed; is = m .is ∙ sym (ap (λ st. unify-states f s (types-of ws) (type-of-word x) (type-of-word y) (state-at (types-of ws) (x / 2)) st) (unknown-here ws (y / 2) k′ ek′ z) ∙ go (state-at (types-of ws) (x / 2))) }
+      where
+        go : (st : TypeState) → unify-states f s (types-of ws) (type-of-word x) (type-of-word y) st unknown ≡ bind-unknown (types-of ws) (type-of-word x) (type-of-word y)
+        go unknown = refl
+        go (known i kd d cs) = refl
+
+    both : (st st′ : TypeState) → kind-in st ≢ 0 → kind-in st′ ≢ 0 → unify-states f s (types-of ws) (type-of-word x) (type-of-word y) st st′ ≡ join-on-success (unify-known f s (types-of ws) (xor (xor (inverted-in st) ((type-of-word x) .0)) (xor (inverted-in st′) ((type-of-word y) .0))) (kind-in st) (id-in st) (children st) (kind-in st′) (id-in st′) (children st′)) (type-of-word x) (type-of-word y)
+    unfolding unify-states kind-in inverted-in id-in children
+    both unknown st′ n n′ = absurd (n refl)
+    both (known i kd d cs) unknown n n′ = absurd (n′ refl)
+    both (known i kd d cs) (known j kd′ d′ cs′) n n′ = refl
+
+    pub states-both : (vs us : Words) (v r : UnifyResult) → k ≢ 0 → k′ ≢ 0 → Unifies vs v (unify-fields f s (types-of ws) (type-of-word x) (type-of-word y)) → Meets us r (join-on-success (result-of v, types-of vs) (type-of-word x) (type-of-word y)) → Meets us r (unify-states f s (types-of ws) (type-of-word x) (type-of-word y) (state-at (types-of ws) (x / 2)) (state-at (types-of ws) (y / 2)))
+    unfolding unify-fields met-inverted kind-at inverted-at id-at children-at type-of-word
+    states-both vs us v r n n′ u m = record {
+      packed = m .packed;
+      is = m .is ∙ ap (λ (z : Unified). join-on-success z (type-of-word x) (type-of-word y)) (u .is) ∙ sym (both (state-at (types-of ws) (x / 2)) (state-at (types-of ws) (y / 2)) (λ q. n (ek ∙ q)) (λ q. n′ (ek′ ∙ q)));
+    }
+
+pub known-roots : (ws : Words) (x y k k′ : ℕ) → k ≡ kind-at (types-of ws) (x / 2) → k′ ≡ kind-at (types-of ws) (y / 2) → k ≢ 0 → k′ ≢ 0 → Roots (types-of ws) (type-of-word x) (type-of-word y) → KnownRoots (types-of ws) (x / 2) (y / 2)
+unfolding type-of-word
+known-roots ws x y k k′ ek ek′ n n′ r = record { left-in = r .left-in; right-in = r .right-in; left-root = r .left-root; right-root = r .right-root; left-known = λ q. n (ek ∙ q); right-known = λ q. n′ (ek′ ∙ q) }

@@ -1,0 +1,25 @@
+-- `struct_ok`: the count is the sheet's.
+use Rattle.values.specs.Verdict.{struct-found}
+use borrow.Author.Needs.{needs}
+use Rattle.values.proofs.records.struct_ok.Statement.{statement}
+use Rattle.values.proofs.records.struct_ok.Tie as tie
+
+field-at-requires : tie.Need-field-at-requires
+field-at-requires c κs = search needs
+
+field-at-requires-2 : tie.Need-field-at-requires-2
+field-at-requires-2 c κs = search needs
+
+next-requires : tie.Need-next-requires
+next-requires c κs = search needs
+
+holds2-requires : tie.Need-holds2-requires
+holds2-requires c κs = search needs
+
+returns : tie.Need-returns
+returns c = search (needs, struct-found)
+
+pub struct-ok-spec : {M : Type 1} → statement M
+struct-ok-spec =
+    tie.close
+    (tie.spec field-at-requires field-at-requires-2 next-requires holds2-requires returns)
