@@ -25,7 +25,7 @@ fn word_at(bytes: &[u8], i: usize) -> u32
 // The words of bytes that are whole words, at the front of a buffer; how many they are.
 pub fn read_words(bytes: &[u8], out: &mut [u32]) -> usize
     requires { ⌜ (length (now bytes) % 4 ≡ 0) × (length (now bytes) ≤ 4 * length (now out)) ⌝ }
-    ensures { λ r. ⌜ ReadsWords (now (bytes .entry)) (now (out .exit)) r ⌝ }
+    ensures { λ r. ⌜ ReadsWords (now (bytes .entry)) (now (out .exit)) r × (r ≤ length (now (out .exit))) ⌝ }
 {
     let n = bytes.len() / 4;
     let mut k = 0;
