@@ -60,18 +60,18 @@ equal-or z x = go (eqb z x) refl
 
 -- "Manual, unsafe and Error impls never enter."
 module _ (s : Words) (i w : ℕ) (e : w ≡ field s header·impls i 2) where
-  pub enter-manual : w / 1 % 2 ≡ 1 → false ≡ may-enter s i
+  pub enter-manual : w % 2 ≡ 1 → false ≡ may-enter s i
   unfolding may-enter impl-flag
-  enter-manual h = sym (ap (λ b. (not b && not (impl-flag s flag·unsafe i)) && not (eqb (impl-trait s i) 0)) (ap (λ c. eqb (c / 1 % 2) 1) (sym e) ∙ eq-eqb (w / 1 % 2) 1 h))
+  enter-manual h = sym (ap (λ b. (not b && not (impl-flag s flag·unsafe i)) && not (eqb (impl-trait s i) 0)) (ap (λ c. eqb (c / 1 % 2) 1) (sym e) ∙ eq-eqb (w / 1 % 2) 1 (omega (arith, h))))
 
   pub enter-unsafe : w / 4 % 2 ≡ 1 → false ≡ may-enter s i
   unfolding may-enter impl-flag
   enter-unsafe h = sym (ap (λ b. (not (impl-flag s flag·manual i) && not b) && not (eqb (impl-trait s i) 0)) (ap (λ c. eqb (c / 4 % 2) 1) (sym e) ∙ eq-eqb (w / 4 % 2) 1 h) ∙ ap (λ b. b && not (eqb (impl-trait s i) 0)) (and-false (not (impl-flag s flag·manual i))))
 
-  pub enter-trait : (t : ℕ) → w / 1 % 2 ≢ 1 → w / 4 % 2 ≢ 1 → t ≡ field s header·impls i 3 → not (eqb t 0) ≡ may-enter s i
+  pub enter-trait : (t : ℕ) → w % 2 ≢ 1 → w / 4 % 2 ≢ 1 → t ≡ field s header·impls i 3 → not (eqb t 0) ≡ may-enter s i
   unfolding may-enter impl-flag impl-trait
   enter-trait t h k f =
-      sym (ap₂ (λ a b. (not a && not b) && not (eqb (impl-trait s i) 0)) (ap (λ c. eqb (c / 1 % 2) 1) (sym e) ∙ ne-eqb (w / 1 % 2) 1 h) (ap (λ c. eqb (c / 4 % 2) 1) (sym e) ∙ ne-eqb (w / 4 % 2) 1 k) ∙ ap (λ c. not (eqb c 0)) (sym f))
+      sym (ap₂ (λ a b. (not a && not b) && not (eqb (impl-trait s i) 0)) (ap (λ c. eqb (c / 1 % 2) 1) (sym e) ∙ ne-eqb (w / 1 % 2) 1 (λ q. h (omega (arith, q)))) (ap (λ c. eqb (c / 4 % 2) 1) (sym e) ∙ ne-eqb (w / 4 % 2) 1 k) ∙ ap (λ c. not (eqb c 0)) (sym f))
 
   pub node-named : (d : ℕ) → w / 8 % 2 ≡ 1 → 3 * d ≡ binding-node (impl-flag s flag·named i) d
   unfolding impl-flag

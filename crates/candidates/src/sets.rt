@@ -22,7 +22,7 @@ fn may_enter(s: &[u32], ws: &[u32], i: usize) -> bool
     ensures { λ r. ⌜ r ≡ may-enter (now (s .entry)) i ⌝ }
 {
     let flags = impl_word(s, ws, i, 2);
-    if flags / 1 % 2 == 1 {
+    if flags % 2 == 1 {
         return false;
     }
     if flags / 4 % 2 == 1 {
