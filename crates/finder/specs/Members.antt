@@ -11,14 +11,14 @@ use Rattle.rules.specs.Lists.{Words}
 use Rattle.rules.specs.Sheet.{at}
 use Rattle.rules.specs.Types.{Types, ImplType}
 use Rattle.rules.specs.Run.{Run, done, stop, _>>=_, Out, got, refused, within}
-use Rattle.rules.specs.Search.{end, Result, add-results, find-subimpls}
+use Rattle.rules.specs.Search.{end, Result, add-results, collect, find-subimpls}
 use Rattle.table.specs.Packing.{types-of}
 use Rattle.trees.specs.Forests.{Single}
 use Rattle.slots.specs.declared.Asked.{Asked}
 use Rattle.slots.specs.declared.Asked.the-variants.{Found, Refused}
 use Rattle.slots.specs.Slots.{slot·length, Slot, Slots, Written, slot-kept, slots-kept}
 use Rattle.slots.specs.Adding.{under, behind, Element}
-use Rattle.slots.specs.Turns.{Answers, answers-refused, answers-found, adding, Stepped, then-got, then-refused}
+use Rattle.slots.specs.Turns.{Answers, answers-refused, answers-found, adding, Going, Stepped, Turned, turn, going-same, going-end, collect-next, collect-none}
 use Rattle.slots.specs.Parts.{part, part-table, Lent}
 use Rattle.slots.specs.Settling.{Sub, Settles, JoinSettles, sub-answered, settled}
 use Rattle.finder.specs.Tails.{sub-one, Keeps}
@@ -53,6 +53,15 @@ pub record ResultStep (L : ℕ) (f : Result → Run (List Result)) (k n cur : �
 -- A step from words whose slots 1 to 4 are the same.
 stepped-from : (L : ℕ) (step : List Result → Run (List Result)) (n cur : ℕ) (ws us : Words) (r : Asked) (out : Words) → n ≤ 4 → length us ≡ length ws → ((i : ℕ) → i < 8970 → at us i ≡ at ws i) → Stepped L step n cur us r out → Stepped L step n cur ws r out
 stepped-from L step n cur ws us r out few e h s = record { at = λ fs p t. s .at fs p (slots-kept ws us slot·length fs e (λ i l m. h i (omega arith)) t) }
+
+-- The loop over candidates: b is the next, or none is left.
+pub collect-turn : {B : Type 0} (L : ℕ) (whole : Out (List Result) × ℕ) (f : B → Run (List Result)) (b : B) (bs cs : List B) (n cur : ℕ) (ws : Words) (r : Asked) (out : Words) → bs ≡ b ∷ cs → Going L whole (λ fs. collect f bs fs) ws n cur → CandidateStep L (f b) n cur ws r out → Turned L whole (λ fs. collect f cs fs) r out
+collect-turn L whole f b bs cs n cur ws r out e g s =
+    turn L whole (adding (f b)) (λ fs. collect f cs fs) ws out n cur r
+    (going-same L whole (λ fs. collect f bs fs) (λ fs. adding (f b) fs >>= λ hs. collect f cs hs) ws n cur (λ fs. ap (λ l. collect f l fs) e ∙ collect-next f b cs fs) g) (s .step)
+
+pub collect-end : {B : Type 0} (L : ℕ) (whole : Out (List Result) × ℕ) (f : B → Run (List Result)) (bs : List B) (n cur : ℕ) (ws : Words) → bs ≡ [] → Going L whole (λ fs. collect f bs fs) ws n cur → Answers whole (Found cur n) ws
+collect-end L whole f bs n cur ws e g = going-end L whole (λ fs. collect f bs fs) ws n cur (λ fs. ap (λ l. collect f l fs) e ∙ collect-none f fs) g
 
 -- A candidate that is refused, and one that does not fit.
 pub candidate-stops : (L : ℕ) (run : Run (List Result)) (n cur m : ℕ) (ws out : Words) → run ≡ stop m → Opened ws out → CandidateStep L run n cur ws (Refused m cur) out
