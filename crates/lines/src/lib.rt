@@ -16,7 +16,7 @@ pub mod bytes;
 // Puts a byte behind the first `at` bytes.
 fn put(out: &mut [u8], at: usize, b: u8) -> usize
     requires { ⌜ at < length (now out) ⌝ }
-    ensures { λ r. ⌜ Puts (b ∷ []) at (now (out .entry)) (now (out .exit)) r ⌝ }
+    ensures { λ r. ⌜ Puts (b ∷ []) at (now (out .entry)) (now (out .exit)) r × (r ≤ length (now (out .exit))) ⌝ }
 {
     out[at] = b;
     at + 1
@@ -33,7 +33,7 @@ fn digit(n: usize) -> u8
 // Puts a number below 1,000 in decimal.
 pub fn put_number(out: &mut [u8], at: usize, n: usize) -> usize
     requires { ⌜ (n < 1000) × (at + 3 ≤ length (now out)) ⌝ }
-    ensures { λ r. ⌜ Puts (decimal n) at (now (out .entry)) (now (out .exit)) r ⌝ }
+    ensures { λ r. ⌜ Puts (decimal n) at (now (out .entry)) (now (out .exit)) r × (r ≤ length (now (out .exit))) ⌝ }
 {
     if n < 10 {
         return put(out, at, digit(n));
@@ -77,7 +77,7 @@ fn put_impls(s: &[u32], ws: &[u32], node: usize, out: &mut [u8], at: usize) -> u
 // The line of a definition: its id, a colon, and the impls that its general set admits. So many bytes of the buffer hold it.
 pub fn list_line(s: &[u32], ws: &mut [u32], d: usize, out: &mut [u8]) -> usize
     requires { ⌜ Checked (now s) × (length (now s) ≤ 4096) × (d < many (now s) header·definitions) × (34948 ≤ length (now ws)) × (520 ≤ length (now out)) ⌝ }
-    ensures { λ r. ⌜ Line (now (s .entry)) d (now (out .exit)) r ⌝ }
+    ensures { λ r. ⌜ Line (now (s .entry)) d (now (out .exit)) r × (r ≤ length (now (out .exit))) ⌝ }
 {
     candidates::build(s, ws, d);
     let colon = put_number(out, 0, d);

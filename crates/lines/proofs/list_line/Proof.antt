@@ -13,7 +13,7 @@ put-number-requires : tie.Need-put-number-requires
 put-number-requires c κs = let h = source-low _ _ (c .before .before .before .before .before .before .before .before .pre .0) (c .before .before .before .before .before .before .before .before .pre .2) in (omega arith, search needs)
 
 put-requires : tie.Need-put-requires
-put-requires c κs = let h = source-low _ _ (c .before .before .before .before .before .before .before .before .before .before .before .before .pre .0) (c .before .before .before .before .before .before .before .before .before .before .before .before .pre .2) in omega (arith, c .before .before .before .put-number .ensures .ends, number-short (c .before .before .before .before .before .before .before .before .before .before .before .before .args .d) (omega arith))
+put-requires c κs = let h = source-low _ _ (c .before .before .before .before .before .before .before .before .before .before .before .before .pre .0) (c .before .before .before .before .before .before .before .before .before .before .before .before .pre .2) in omega (arith, c .before .before .before .put-number .ensures .0 .ends, number-short (c .before .before .before .before .before .before .before .before .before .before .before .before .args .d) (omega arith))
 
 mul-put-impls : tie.Need-mul-put-impls
 mul-put-impls c = let h = source-low _ _ (c .before .before .before .before .before .before .before .before .before .before .before .before .before .before .before .before .pre .0) (c .before .before .before .before .before .before .before .before .before .before .before .before .before .before .before .before .pre .2) in search needs
@@ -22,10 +22,10 @@ add-put-impls : tie.Need-add-put-impls
 add-put-impls c = let h = source-low _ _ (c .before .before .before .before .before .before .before .before .before .before .before .before .before .before .before .before .pre .0) (c .before .before .before .before .before .before .before .before .before .before .before .before .before .before .before .before .pre .2) in search needs
 
 put-impls-requires : tie.Need-put-impls-requires
-put-impls-requires c κs = let h = source-low _ _ (c .before .before .before .before .before .before .before .before .before .before .before .before .before .before .before .before .before .pre .0) (c .before .before .before .before .before .before .before .before .before .before .before .before .before .before .before .before .before .pre .2) in (c .before .before .before .before .before .before .before .before .before .before .before .before .build .ensures .indexes, omega arith, impls-few _ (c .before .before .before .before .before .before .before .before .before .before .before .before .before .before .before .before .before .pre .0), omega (arith, c .before .before .before .before .put .ensures .ends, c .before .before .before .before .before .before .before .before .put-number .ensures .ends, number-short (c .before .before .before .before .before .before .before .before .before .before .before .before .before .before .before .before .before .args .d) (omega arith)))
+put-impls-requires c κs = let h = source-low _ _ (c .before .before .before .before .before .before .before .before .before .before .before .before .before .before .before .before .before .pre .0) (c .before .before .before .before .before .before .before .before .before .before .before .before .before .before .before .before .before .pre .2) in (c .before .before .before .before .before .before .before .before .before .before .before .before .build .ensures .indexes, omega arith, impls-few _ (c .before .before .before .before .before .before .before .before .before .before .before .before .before .before .before .before .before .pre .0), omega (arith, c .before .before .before .before .put .ensures .0 .ends, c .before .before .before .before .before .before .before .before .put-number .ensures .0 .ends, number-short (c .before .before .before .before .before .before .before .before .before .before .before .before .before .before .before .before .before .args .d) (omega arith)))
 
 put-requires-2 : tie.Need-put-requires-2
-put-requires-2 c κs = let h = source-low _ _ (c .before .before .before .before .before .before .before .before .before .before .before .before .before .before .before .before .before .before .before .before .before .pre .0) (c .before .before .before .before .before .before .before .before .before .before .before .before .before .before .before .before .before .before .before .before .before .pre .2) in omega (arith, c .before .before .before .put-impls .ensures .1, c .before .before .before .before .before .before .before .before .put .ensures .ends, c .before .before .before .before .before .before .before .before .before .before .before .before .put-number .ensures .ends, number-short (c .before .before .before .before .before .before .before .before .before .before .before .before .before .before .before .before .before .before .before .before .before .args .d) (omega arith))
+put-requires-2 c κs = let h = source-low _ _ (c .before .before .before .before .before .before .before .before .before .before .before .before .before .before .before .before .before .before .before .before .before .pre .0) (c .before .before .before .before .before .before .before .before .before .before .before .before .before .before .before .before .before .before .before .before .before .pre .2) in omega (arith, c .before .before .before .put-impls .ensures .1, c .before .before .before .before .before .before .before .before .put .ensures .0 .ends, c .before .before .before .before .before .before .before .before .before .before .before .before .put-number .ensures .0 .ends, number-short (c .before .before .before .before .before .before .before .before .before .before .before .before .before .before .before .before .before .before .before .before .before .args .d) (omega arith))
 
 same-length : tie.Need-same-length
 same-length c = search needs
@@ -34,7 +34,7 @@ same-length-2 : tie.Need-same-length-2
 same-length-2 c = search needs
 
 returns : tie.Need-returns
-returns c = line-done _ _ _ _ _ _ _ _ _ _ _ _ (c .before .before .before .before .before .before .before .before .before .before .before .before .before .before .before .before .before .before .before .before .before .before .before .before .pre .0) (c .before .before .before .before .before .before .before .before .before .before .before .before .before .before .before .before .before .before .before .before .before .before .before .before .pre .2) (c .before .before .before .before .before .before .before .before .before .before .before .before .before .before .before .before .before .before .before .build .ensures) (c .before .before .before .before .before .before .before .before .before .before .before .before .before .before .before .put-number .ensures) (c .before .before .before .before .before .before .before .before .before .before .before .put .ensures) (c .before .before .before .before .before .before .put-impls .ensures .0) (c .before .before .put2 .ensures)
+returns c = (line-done _ _ _ _ _ _ _ _ _ _ _ _ (c .before .before .before .before .before .before .before .before .before .before .before .before .before .before .before .before .before .before .before .before .before .before .before .before .pre .0) (c .before .before .before .before .before .before .before .before .before .before .before .before .before .before .before .before .before .before .before .before .before .before .before .before .pre .2) (c .before .before .before .before .before .before .before .before .before .before .before .before .before .before .before .before .before .before .before .build .ensures) (c .before .before .before .before .before .before .before .before .before .before .before .before .before .before .before .put-number .ensures .0) (c .before .before .before .before .before .before .before .before .before .before .before .put .ensures .0) (c .before .before .before .before .before .before .put-impls .ensures .0) (c .before .before .put2 .ensures .0), search needs)
 
 pub list-line-spec : {M : Type 1} → statement M
 list-line-spec =

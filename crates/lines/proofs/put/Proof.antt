@@ -1,4 +1,6 @@
 -- `put`: one byte.
+use lib.ListN.{length-set}
+use native.Mathlib.Omega.{arith}
 use borrow.Author.Needs.{needs}
 use Rattle.lines.specs.Text.{put-one}
 use Rattle.lines.proofs.put.Statement.{statement}
@@ -14,7 +16,7 @@ same-length : tie.Need-same-length
 same-length c = search needs
 
 returns : tie.Need-returns
-returns c = search (needs, put-one)
+returns c = (search (needs, put-one), simp length-set (omega arith))
 
 pub put-spec : {M : Type 1} → statement M
 put-spec = tie.close (tie.spec slice-write-out add-result same-length returns)
