@@ -1,5 +1,5 @@
 // Which impls the sets of candidates admit for a source: nodes and edges, components, what a set admits (`finder/candidates.rs`).
-// `build` fills the part of the workspace that belongs to a source; `admits` and `next_candidate` read it.
+// `build` fills the part of the workspace that belongs to a source (34,948 words); `find::next_candidate` and `find::next_admitted` read it.
 ghost use mathlib.Core.Path.{_≡_};
 ghost use Prim.Native.Nat.{_≤_, _<_};
 ghost use lib.ListN.{length};
