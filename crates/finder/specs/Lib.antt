@@ -1,7 +1,6 @@
 pub mod Singles
 pub mod Tails
 pub mod Steps
-pub mod Queries
 pub mod Built
 pub mod Fresh
 pub mod Members

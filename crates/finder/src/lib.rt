@@ -4,45 +4,13 @@ ghost use Prim.Native.Nat.{_+_, _*_, _<_, _≤_};
 ghost use lib.ListN.{length, drop};
 ghost use Rattle.table.specs.Packing.{types-of, Packed};
 ghost use Rattle.slots.specs.Copies.{Beside};
-ghost use Rattle.finder.specs.Queries.{query-in, query-of};
+ghost use Rattle.opening.specs.Queries.{query-of};
 ghost use Rattle.finder.specs.Fresh.{Freshens};
 ghost use Rattle.finder.specs.Built.{NoneLeft, LeafStep, SmallIds, Autos};
 use auto::Auto;
+use opening::Query;
 use slots::Adding;
 use slots::Asked;
-
-// `ImplType`: a trait? and the first n of four type words.
-pub struct Query {
-    pub tr: u32,
-    pub n: usize,
-    pub args: [u32; 4],
-}
-
-// The first n of four sub-questions: trait?, how many type words, and four places for them.
-pub struct Queries {
-    pub n: usize,
-    pub trs: [u32; 4],
-    pub counts: [usize; 4],
-    pub args: [u32; 16],
-}
-
-// Sub-question k.
-fn query_at(qs: Queries, k: usize) -> Query
-    requires { ⌜ k < 4 ⌝ }
-    ensures { λ r. ⌜ r ≡ query-in qs k ⌝ }
-{
-    let args = [
-        qs.args[4 * k],
-        qs.args[4 * k + 1],
-        qs.args[4 * k + 2],
-        qs.args[4 * k + 3],
-    ];
-    Query {
-        tr: qs.trs[k],
-        n: qs.counts[k],
-        args,
-    }
-}
 
 // No sub-questions are left: the table itself, without trees.
 fn none_left(ws: &mut [u32], count: u32) -> Asked
