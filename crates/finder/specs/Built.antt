@@ -28,8 +28,8 @@ use Rattle.slots.specs.Slots.{slot·length, Slot, Slots, Written, slots-none, s
 use Rattle.slots.specs.Copies.{Beside}
 use Rattle.slots.specs.Adding.{Enters, Adds}
 use Rattle.slots.specs.Turns.{Answers, answers-refused, answers-found, Stepped}
-use Rattle.opening.specs.declared.Query.{Query}
-use Rattle.opening.specs.Queries.{four, query-of}
+use Rattle.queries.specs.declared.Query.{Query}
+use Rattle.queries.specs.Queries.{four, query-of}
 use Rattle.finder.specs.Tails.{tail-none}
 
 -- No sub-questions are left: one result, whatever the limit and the way to ask.

@@ -4,11 +4,11 @@ ghost use Prim.Native.Nat.{_+_, _*_, _<_, _≤_};
 ghost use lib.ListN.{length, drop};
 ghost use Rattle.table.specs.Packing.{types-of, Packed};
 ghost use Rattle.slots.specs.Copies.{Beside};
-ghost use Rattle.opening.specs.Queries.{query-of};
+ghost use Rattle.queries.specs.Queries.{query-of};
 ghost use Rattle.finder.specs.Fresh.{Freshens};
 ghost use Rattle.finder.specs.Built.{NoneLeft, LeafStep, SmallIds, Autos};
 use auto::Auto;
-use opening::Query;
+use queries::Query;
 use slots::Adding;
 use slots::Asked;
 

@@ -1,8 +1,7 @@
-// A candidate opened (`try_candidate` of the Rust up to its sub-questions): fresh unknowns, its signature imported and met with the question, its impl parameters imported.
-// Questions in the code's words.
+// Questions in the code's words: one with its type words, and the sub-questions of a candidate.
 ghost use mathlib.Core.Path.{_≡_};
 ghost use Prim.Native.Nat.{_<_};
-ghost use Rattle.opening.specs.Queries.{query-in};
+ghost use Rattle.queries.specs.Queries.{query-in};
 
 // `ImplType`: a trait? and the first n of four type words.
 pub struct Query {

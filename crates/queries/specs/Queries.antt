@@ -11,8 +11,8 @@ use Rattle.rules.specs.Types.{ImplType}
 use Rattle.rules.specs.Transfer.{type-of-word}
 use Rattle.table.specs.Packing.{up-to}
 use Rattle.table.specs.Nodes.{up-to-length, up-to-at}
-use Rattle.opening.specs.declared.Query.{Query}
-use Rattle.opening.specs.declared.Queries.{Queries}
+use Rattle.queries.specs.declared.Query.{Query}
+use Rattle.queries.specs.declared.Queries.{Queries}
 
 -- The four places of a question's type words.
 abbrev pub four : Words → Words
