@@ -11,11 +11,12 @@ use lib.Seq.{length-take-le}
 use Rattle.rules.specs.Lists.{Words}
 use Rattle.rules.specs.Sheet.{at}
 use Rattle.rules.specs.Layout.{header·duplicate, header·erase}
-use Rattle.rules.specs.Types.{Types, ImplType, kind}
+use Rattle.rules.specs.Types.{Types, ImplType}
+use Rattle.rules.specs.Slim.{Slim}
 use Rattle.rules.specs.Transfer.{type-of-word}
 use Rattle.rules.specs.Run.{Run, done, stop, within}
 use Rattle.rules.specs.Search.{Trees, end, leaf, Result, add-results, find-subimpls, find-auto-impls}
-use Rattle.table.specs.Packing.{types-of, id-in}
+use Rattle.table.specs.Packing.{types-of}
 use Rattle.auto.specs.declared.Auto.{Auto}
 use Rattle.auto.specs.declared.Auto.the-variants.{Nothing, Leaf}
 use Rattle.auto.specs.Built.{leaves}
@@ -80,23 +81,23 @@ pub record Autos (s ws : Words) (q : ImplType) (count : ℕ) (r : Asked) (out : 
   pub at : (L : ℕ) → Stepped L (λ fs. add-results fs (map (λ (t : Trees). (types-of ws, t)) (find-auto-impls s (types-of ws) q))) 0 count ws r out
 
 -- The ids that built-ins may have are below 4,096.
-pub record SmallIds (s : Words) (ts : Types) (q : ImplType) : Type 0 where
+pub record SmallIds (s : Words) (ts : Types) : Type 0 where
   pub duplicate : at s header·duplicate ≤ 4096
   pub erase : at s header·erase ≤ 4096
-  pub type-id : id-in (kind ts (getD (q .1) 0 (false, 0))) < 4096
+  pub closures : Slim ts
 
 -- The first of four.
 pub four-length : (xs : Words) (n : ℕ) → n ≤ 4 → n ≡ length (take n (four xs))
 four-length xs n h = sym (length-take-le n (four xs) h)
 
 module _ (s ws : Words) (q : Query) (o : Auto) (e : leaves o ≡ find-auto-impls s (types-of ws) (q .tr, map type-of-word (take (q .n) (four (q .args))))) where
-  pub auto-fits-kind : (k i : ℕ) → o ≡ Leaf k i → SmallIds s (types-of ws) (query-of q) → k < 8
+  pub auto-fits-kind : (k i : ℕ) → o ≡ Leaf k i → SmallIds s (types-of ws) → k < 8
   unfolding query-of
-  auto-fits-kind k i l h = leaf-fits s (types-of ws) (query-of q) k i (ap leaves (sym l) ∙ e) (h .duplicate) (h .erase) (h .type-id) .0
+  auto-fits-kind k i l h = leaf-fits s (types-of ws) (query-of q) k i (ap leaves (sym l) ∙ e) (h .duplicate) (h .erase) (h .closures) .0
 
-  pub auto-fits-id : (k i : ℕ) → o ≡ Leaf k i → SmallIds s (types-of ws) (query-of q) → i < 4096
+  pub auto-fits-id : (k i : ℕ) → o ≡ Leaf k i → SmallIds s (types-of ws) → i < 4096
   unfolding query-of
-  auto-fits-id k i l h = leaf-fits s (types-of ws) (query-of q) k i (ap leaves (sym l) ∙ e) (h .duplicate) (h .erase) (h .type-id) .1
+  auto-fits-id k i l h = leaf-fits s (types-of ws) (query-of q) k i (ap leaves (sym l) ∙ e) (h .duplicate) (h .erase) (h .closures) .1
 
   pub auto-none : (count : ℕ) → o ≡ Nothing → count ≤ 4000000000 → Autos s ws (query-of q) count (Found count 0) ws
   unfolding query-of leaves within add-results

@@ -46,7 +46,7 @@ fn add_autos(sheet: &[u32], ws: &mut [u32], q: Query, count: u32) -> Asked
     requires { ⌜ Packed (now ws) ⌝ }
     requires { ⌜ 8970 ≤ length (now ws) ⌝ }
     requires { ⌜ q .n ≤ 4 ⌝ }
-    requires { ⌜ SmallIds (now sheet) (types-of (now ws)) (query-of q) ⌝ }
+    requires { ⌜ SmallIds (now sheet) (types-of (now ws)) ⌝ }
     requires { ⌜ count ≤ 4000000000 ⌝ }
     ensures { λ r. ⌜ Autos (now (sheet .entry)) (now (ws .entry)) (query-of q) count r (now (ws .exit)) ⌝ }
 {

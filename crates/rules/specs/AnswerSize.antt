@@ -10,8 +10,8 @@ use native.Mathlib.Omega.{arith}
 use lib.Dec.{T, eqb, ltb, nltb→le}
 use lib.ListN.{length, getD, length-append}
 use Rattle.rules.specs.Lists.{Words, any, range}
-use Rattle.rules.specs.Limits.{limit·answer, limit·nodes, limit·tree-nodes, limit·depth}
-use Rattle.rules.specs.Layout.{header·fork, header·drop, question·type, answer·length, tree·length, node·length, cell·length}
+use Rattle.rules.specs.Limits.{limit·sheet, limit·answer, limit·nodes, limit·tree-nodes, limit·depth}
+use Rattle.rules.specs.Layout.{header·length, header·fork, header·drop, question·type, answer·length, tree·length, node·length, cell·length}
 use Rattle.rules.specs.Sheet.{at}
 use Rattle.rules.specs.Types.{Ty, TypeState, unknown, known, Types, UnifyResult, success, failure, indeterminate, Unified, ImplType, invert-if, self-inverse, unify-impl-type}
 use Rattle.rules.specs.Transfer.{transfer-in, transfer-types, import-types, import-impl-type, export-types, export-impl-type, type-of-word}
@@ -58,7 +58,7 @@ nodes-words p (n ∷ ns) h = go (n .state) refl (nodes-words (p + node·length) 
     go unknown e ih ik = rw (e, pack-nodes) (omega arith)
     go (known i k d cs) e ih ik =
         rw (e, pack-nodes)
-        (omega (arith, length-append (pack-cells (p + node·length) cs) (pack-nodes (p + node·length + cell·length * length cs) ns), cells-words (p + node·length) cs, ik cs, subst SlimState e (h .0)))
+        (omega (arith, length-append (pack-cells (p + node·length) cs) (pack-nodes (p + node·length + cell·length * length cs) ns), cells-words (p + node·length) cs, ik cs, (subst SlimState e (h .0)) .0))
 
 range-length : (i n : ℕ) → length (range i n) ≡ n
 unfolding range
@@ -107,14 +107,14 @@ within-nodes : (N : ℕ) → ltb limit·nodes N ≡ false → N ≤ limit·nodes
 within-nodes N e = nltb→le limit·nodes N (subst (λ b. T (not b)) (sym e) tt)
 
 -- The impl call.
-module _ (a : Finder) (basic : ℕ) (q : Words) (passed : refusal (impl-checks a basic q) ≡ none) where
+module _ (a : Finder) (basic : ℕ) (q : Words) (short : length (a .sheet) ≤ limit·sheet) (passed : refusal (impl-checks a basic q) ≡ none) where
   -- What its search comes to.
   abbrev ImplFound : List Result → Type 0
   ImplFound fs = AllKept ((export-impl-type (question-types q) (impl-query q)) .1) fs × Few fs
 
   impl-found : (b : Bool) → Yields ImplFound (impl-search a b q)
   unfolding impl-search
-  impl-found b = yields-both _ Few (impl-search a b q) (impl-search-keeps a basic q passed b) (question-few limit·depth a b _ _)
+  impl-found b = yields-both _ Few (impl-search a b q) (impl-search-keeps a basic q short passed b) (question-few limit·depth a b _ _)
 
   impl-sized : (o : Out (List Result)) → Comes ImplFound o → Comes Sized (impl-outcome (a .sheet) q o)
   unfolding impl-outcome
@@ -129,10 +129,10 @@ module _ (a : Finder) (basic : ℕ) (q : Words) (passed : refusal (impl-checks a
       go : (b : Bool) → ltb limit·nodes (length (w .1)) ≡ b → Comes Sized (impl-outcome (a .sheet) q (got (r ∷ [])))
       go true e = rw (e, impl-outcome) tt
       go false e =
-          let c = impl-closed a basic q passed r (h .0 .0) in
+          let c = impl-closed a basic q short passed r (h .0 .0) in
           rw (e, impl-outcome)
           (answer-words (r .1) end false false (length (question-types q)) ((unify-impl-type (a .sheet) (w .1) (impl-query q) (w .0)) .1) (c .neat)
-          (omega (arith, c .len, (impl-last a basic q passed r (h .0 .0)) .grown)) (omega (arith, c .len, within-nodes (length (w .1)) e)) (h .1 .small .0) small-end)
+          (omega (arith, c .len, (impl-last a basic q short passed r (h .0 .0)) .grown)) (omega (arith, c .len, within-nodes (length (w .1)) e)) (h .1 .small .0) small-end)
 
   impl-free-sized : (b : Bool) → Comes Sized (impl-free a b q)
   unfolding impl-free
@@ -143,7 +143,7 @@ module _ (a : Finder) (basic : ℕ) (q : Words) (passed : refusal (impl-checks a
   impl-within-sized over b c = impl-sized ((within over (impl-search a b q) c) .0) (yields-within ImplFound over (impl-search a b q) c (impl-found b))
 
 -- The flex call.
-module _ (a : Finder) (q : Words) (passed : refusal (flex-checks a q) ≡ none) where
+module _ (a : Finder) (q : Words) (short : length (a .sheet) ≤ limit·sheet) (passed : refusal (flex-checks a q) ≡ none) where
   abbrev asked-type : Ty
   asked-type = type-of-word (at q question·type)
 
@@ -157,7 +157,7 @@ module _ (a : Finder) (q : Words) (passed : refusal (flex-checks a q) ≡ none) 
   flex-found : Every (Yields FlexFound) (flex-searches a q)
   unfolding flex-searches
   flex-found =
-      let k = flex-searches-keep a q passed in
+      let k = flex-searches-keep a q short passed in
       (one header·fork false (k .0), (one header·drop false (k .1 .0), (one header·fork true (k .1 .1 .0), (one header·drop true (k .1 .1 .1 .0), tt))))
     where
       one : (h : ℕ) (inv : Bool) → let r = question limit·depth a false (exported .1) (at (a .sheet) h, map (invert-if inv) (exported .0)) in Yields (AllKept (exported .1)) r → Yields FlexFound r
@@ -236,16 +236,16 @@ module _ (a : Finder) (q : Words) (passed : refusal (flex-checks a q) ≡ none) 
       words = answer (first-tree fork) (first-tree drop) inv self (length (question-types q)) ((unify-first (a .sheet) (m .1) (asked-type ∷ []) (w .0 ++ v .0)) .1)
 
       x : Brought (question-types q) (w .0) (w .1)
-      x = fork-brought a q passed fork drop (f .0) (g .0)
+      x = fork-brought a q short passed fork drop (f .0) (g .0)
 
       y : Brought (w .1) (v .0) (v .1)
-      y = drop-brought a q passed fork drop (f .0) (g .0)
+      y = drop-brought a q short passed fork drop (f .0) (g .0)
 
       j : Joined (v .1) (m .1)
-      j = flex-joined a q passed fork drop (f .0) (g .0)
+      j = flex-joined a q short passed fork drop (f .0) (g .0)
 
       c : Joined (m .1) ((unify-first (a .sheet) (m .1) (asked-type ∷ []) (w .0 ++ v .0)) .1)
-      c = flex-closed a q passed fork drop (f .0) (g .0)
+      c = flex-closed a q short passed fork drop (f .0) (g .0)
 
   outcome-sized : (over : Bool) (o : Out (List (List Result))) → Comes (Every FlexFound) o → Comes Sized (flex-outcome (a .sheet) q over o)
   unfolding flex-outcome
@@ -269,23 +269,23 @@ module _ (a : Finder) (q : Words) (passed : refusal (flex-checks a q) ≡ none) 
       go (some n) e = rw (e, flex-within) tt
       go none e = rw (e, flex-within) (outcome-sized _ ((in-turn (within over) (flex-searches a q) c) .0) (in-turn-comes FlexFound (tt, few-none) (within over) (λ r d h. yields-within FlexFound over r d h) (flex-searches a q) flex-found c))
 
--- An answer of the search without a step limit has at most 10,240 words, whatever the call: of impl,
-pub free-impl-answer : (a : Finder) (basic : ℕ) (q ws : Words) → free-find-impl a basic q ≡ got ws → length ws ≤ limit·answer
+-- An answer of the search without a step limit, of a sheet that passes 1, has at most 10,240 words: of impl,
+pub free-impl-answer : (a : Finder) (basic : ℕ) (q ws : Words) → length (a .sheet) ≤ limit·sheet → free-find-impl a basic q ≡ got ws → length ws ≤ limit·answer
 unfolding free-find-impl
-free-impl-answer a basic q ws = came Sized (free-find-impl a basic q) ws (go (refusal (impl-checks a basic q)) refl)
+free-impl-answer a basic q ws short = came Sized (free-find-impl a basic q) ws (go (refusal (impl-checks a basic q)) refl)
   where
     go : (o : Option ℕ) → refusal (impl-checks a basic q) ≡ o → Comes Sized (free-find-impl a basic q)
     go (some n) e = rw (e, free-find-impl) tt
-    go none e = rw (e, free-find-impl) (impl-free-sized a basic q e (eqb basic 1))
+    go none e = rw (e, free-find-impl) (impl-free-sized a basic q short e (eqb basic 1))
 
 -- and of flex.
-pub free-flex-answer : (a : Finder) (q ws : Words) → free-find-flex a q ≡ got ws → length ws ≤ limit·answer
+pub free-flex-answer : (a : Finder) (q ws : Words) → length (a .sheet) ≤ limit·sheet → free-find-flex a q ≡ got ws → length ws ≤ limit·answer
 unfolding free-find-flex
-free-flex-answer a q ws = came Sized (free-find-flex a q) ws (go (refusal (flex-checks a q)) refl)
+free-flex-answer a q ws short = came Sized (free-find-flex a q) ws (go (refusal (flex-checks a q)) refl)
   where
     go : (o : Option ℕ) → refusal (flex-checks a q) ≡ o → Comes Sized (free-find-flex a q)
     go (some n) e = rw (e, free-find-flex) tt
-    go none e = rw (e, free-find-flex) (flex-free-sized a q e)
+    go none e = rw (e, free-find-flex) (flex-free-sized a q short e)
 
 -- Checks in a row refuse if and only if some of them do.
 refusal-rest : (xs ys : Checks) → refusal (xs ++ ys) ≡ none → (refusal xs ≡ none) × (refusal ys ≡ none)
@@ -301,6 +301,14 @@ buffer-holds : (s q : Words) (answer work c : ℕ) → refusal (entry s q answer
 unfolding entry of-length
 buffer-holds s q answer work c e = nltb→le answer limit·answer (unrefused (entry s q answer work c) e 2)
 
+pub sheet-short : (s q : Words) (answer work c : ℕ) → refusal (entry s q answer work c) ≡ none → length s ≤ limit·sheet
+unfolding entry of-length
+sheet-short s q answer work c e = nltb→le limit·sheet (length s) (nor (ltb (length s) header·length) (ltb limit·sheet (length s)) (unrefused (entry s q answer work c) e 0))
+  where
+    nor : (a b : Bool) → T (not (a || b)) → T (not b)
+    nor true b t = absurd t
+    nor false b t = t
+
 fitting : (answer : ℕ) → limit·answer ≤ answer → (o : Out Words) → Comes Sized o → Comes (λ (ws : Words). (length ws ≤ limit·answer) × (length ws ≤ answer)) o
 fitting answer h (got ws) k = (k, le-trans k h)
 fitting answer h (refused n) k = tt
@@ -314,7 +322,7 @@ impl-answer L a basic q answer work c ws = came (λ (ws : Words). (length ws ≤
     go (some n) e = rw (e, try-find-impl) tt
     go none e =
         let p = refusal-rest (entry (a .sheet) q answer work c) (impl-checks a basic q) e in
-        rw (e, try-find-impl) (fitting answer (buffer-holds (a .sheet) q answer work c (p .0)) ((impl-within (ltb L) a (eqb basic 1) q c) .0) (impl-within-sized a basic q (p .1) (ltb L) (eqb basic 1) c))
+        rw (e, try-find-impl) (fitting answer (buffer-holds (a .sheet) q answer work c (p .0)) ((impl-within (ltb L) a (eqb basic 1) q c) .0) (impl-within-sized a basic q (sheet-short (a .sheet) q answer work c (p .0)) (p .1) (ltb L) (eqb basic 1) c))
 
 -- and of flex.
 pub flex-answer : (L : ℕ) (a : Finder) (q : Words) (answer work c : ℕ) (ws : Words) → (find-flex L a q answer work c) .0 ≡ got ws → (length ws ≤ limit·answer) × (length ws ≤ answer)
@@ -325,4 +333,4 @@ flex-answer L a q answer work c ws = came (λ (ws : Words). (length ws ≤ limit
     go (some n) e = rw (e, find-flex) tt
     go none e =
         let p = refusal-rest (entry (a .sheet) q answer work c) (flex-checks a q) e in
-        rw (e, find-flex) (fitting answer (buffer-holds (a .sheet) q answer work c (p .0)) ((flex-within (ltb L) a q c) .0) (flex-within-sized a q (p .1) (ltb L) c))
+        rw (e, find-flex) (fitting answer (buffer-holds (a .sheet) q answer work c (p .0)) ((flex-within (ltb L) a q c) .0) (flex-within-sized a q (sheet-short (a .sheet) q answer work c (p .0)) (p .1) (ltb L) c))

@@ -1,5 +1,5 @@
 -- Tables stay neat through the whole calls: the search of each, its last import and its closing joins, for every call that no check from 6 to 13 refuses.
-use Prim.Native.Nat.{ℕ, _/_, _<_}
+use Prim.Native.Nat.{ℕ, _/_, _≤_, _<_}
 use mathlib.Core.Path.{_≡_, refl, sym, subst}
 use mathlib.Core.Bool.{Bool, true, false, _||_}
 use mathlib.Core.List.{List, [], _∷_, _++_, map}
@@ -9,7 +9,7 @@ use native.Mathlib.Omega.{arith}
 use lib.Dec.{T, eqb, ltb→lt}
 use lib.ListN.{length}
 use Rattle.rules.specs.Lists.{Words}
-use Rattle.rules.specs.Limits.{limit·depth}
+use Rattle.rules.specs.Limits.{limit·sheet, limit·depth}
 use Rattle.rules.specs.Layout.{header·fork, header·drop, question·table, question·args, question·type}
 use Rattle.rules.specs.Sheet.{at, chain}
 use Rattle.rules.specs.Types.{Ty, Types, Unified, ImplType, invert-if, unify-impl-type}
@@ -28,9 +28,9 @@ use Rattle.rules.specs.Neat.{Neat, in-more, in-append, in-checked, Broug
 use Rattle.rules.specs.SearchKeeps.{Kept, AllKept, question-keeps}
 
 -- The impl call.
-module _ (a : Finder) (basic : ℕ) (q : Words) (passed : refusal (impl-checks a basic q) ≡ none) where
+module _ (a : Finder) (basic : ℕ) (q : Words) (short : length (a .sheet) ≤ limit·sheet) (passed : refusal (impl-checks a basic q) ≡ none) where
   impl-ready′ : Ready a q
-  impl-ready′ = impl-ready a basic q passed
+  impl-ready′ = impl-ready a basic q short passed
 
   caller-neat : Neat (question-types q)
   unfolding question-types
@@ -102,9 +102,9 @@ first-joined s ts (x ∷ xs) [] n h k = record { neat = n; len = refl }
 first-joined s ts (x ∷ xs) (y ∷ ys) n h k = unify-neat s ts x y n (h .0) (k .0)
 
 -- The flex call.
-module _ (a : Finder) (q : Words) (passed : refusal (flex-checks a q) ≡ none) where
+module _ (a : Finder) (q : Words) (short : length (a .sheet) ≤ limit·sheet) (passed : refusal (flex-checks a q) ≡ none) where
   flex-ready′ : Ready a q
-  flex-ready′ = flex-ready a q passed
+  flex-ready′ = flex-ready a q short passed
 
   flex-caller-neat : Neat (question-types q)
   unfolding question-types

@@ -46,6 +46,11 @@ chain-of-length zero s i = le-refl 0
 chain-of-length (suc k) s zero = zero-le
 chain-of-length (suc k) s (suc i) = suc-le-suc (chain-of-length k s (at s (suc i)))
 
+-- A slice has no more records on a chain than words.
+pub chain-short : (s : Words) (i : ℕ) → length (chain s i) ≤ length s
+unfolding chain
+chain-short s i = chain-of-length (length s) s i
+
 -- Where the walk is the whole chain, any further count changes nothing.
 pub whole-enough : (s : Words) (i : ℕ) → Whole s i → (k : ℕ) → chain-of (k + length s) s i ≡ chain s i
 unfolding chain

@@ -1,5 +1,5 @@
 -- The tables of a call that no check refused are well formed and acyclic, as Robinson's theorem wants them: the question's, and those of the sheet's generics and impls.
-use Prim.Native.Nat.{ℕ, zero, suc, _+_, _<_}
+use Prim.Native.Nat.{ℕ, zero, suc, _+_, _≤_, _<_}
 use mathlib.Core.Path.{_≡_, refl, sym, _∙_, ap, subst}
 use mathlib.Core.Bool.{Bool, true, false}
 use mathlib.Core.List.{List, [], _∷_, map}
@@ -9,6 +9,7 @@ use native.Mathlib.Nat.{le-of-suc-le-suc, not-suc-le-zero, zero-add, add-zero, a
 use lib.Dec.{T, eqb, ltb, leb, ltb→lt}
 use lib.ListN.{length, getD}
 use Rattle.rules.specs.Lists.{Words, all, holds}
+use Rattle.rules.specs.Limits.{limit·sheet}
 use Rattle.rules.specs.Layout.{header·edition, header·definitions, header·generics, header·impls, edition·1, generics·type-params, generics·table, impl·generics, impl·table, node·kind, node·children, question·table, kind·unknown}
 use Rattle.rules.specs.Sheet.{at, chain, records, field, type-params, generics-table, impl-table, many}
 use Rattle.rules.specs.Types.{Ty, TypeState, unknown, TypeNode, new-node, node-at, state-at}
@@ -91,8 +92,9 @@ module _ (w : Words) (h : ℕ) where
   pub table-readable : WellFormed (table w h) → T (acyclic (table w h)) → Readable (table w h)
   table-readable formed e = flat-readable (table w h) formed table-flat e
 
--- What a call that passed 6 to 13 promises.
+-- What a call that passed 1 and 6 to 13 promises.
 pub record Ready (a : Finder) (q : Words) : Type 0 where
+  pub short : length (a .sheet) ≤ limit·sheet
   pub edition : T (eqb (at (a .sheet) header·edition) edition·1)
   pub chains : T (sheet-keeps (a .sheet))
   pub values : Valid (a .sheet)
@@ -102,12 +104,13 @@ pub record Ready (a : Finder) (q : Words) : Type 0 where
   pub typed : T (table-ok (a .sheet) q (type-params (a .sheet) (a .generics)) (at q question·table))
   pub asked : T (acyclic (table q (at q question·table)))
 
-pub impl-ready : (a : Finder) (basic : ℕ) (q : Words) → refusal (impl-checks a basic q) ≡ none → Ready a q
+pub impl-ready : (a : Finder) (basic : ℕ) (q : Words) → length (a .sheet) ≤ limit·sheet → refusal (impl-checks a basic q) ≡ none → Ready a q
 unfolding impl-checks of-sheet of-ids of-impl-question impl-question-values question-acyclic is-id
-impl-ready a basic q e =
+impl-ready a basic q few e =
     let h = unrefused (impl-checks a basic q) e in
     let i = part _ (not-not (holds (is-id (a .sheet) header·definitions (a .source) ∷ is-id (a .sheet) header·generics (a .generics) ∷ leb basic 1 ∷ [])) (h 4)) in
     record {
+      short = few;
       edition = not-not (eqb (at (a .sheet) header·edition) edition·1) (h 0);
       chains = not-not (sheet-keeps (a .sheet)) (h 1);
       values = valid (a .sheet) (not-not (sheet-values (a .sheet)) (h 2));
@@ -118,12 +121,13 @@ impl-ready a basic q e =
       asked = not-not (question-acyclic q) (h 7);
     }
 
-pub flex-ready : (a : Finder) (q : Words) → refusal (flex-checks a q) ≡ none → Ready a q
+pub flex-ready : (a : Finder) (q : Words) → length (a .sheet) ≤ limit·sheet → refusal (flex-checks a q) ≡ none → Ready a q
 unfolding flex-checks of-sheet of-ids of-flex-question flex-question-values question-acyclic is-id
-flex-ready a q e =
+flex-ready a q few e =
     let h = unrefused (flex-checks a q) e in
     let i = part _ (not-not (holds (is-id (a .sheet) header·definitions (a .source) ∷ is-id (a .sheet) header·generics (a .generics) ∷ leb 0 1 ∷ [])) (h 4)) in
     record {
+      short = few;
       edition = not-not (eqb (at (a .sheet) header·edition) edition·1) (h 0);
       chains = not-not (sheet-keeps (a .sheet)) (h 1);
       values = valid (a .sheet) (not-not (sheet-values (a .sheet)) (h 2));
@@ -186,8 +190,8 @@ checked-tables a q r = record {
 }
 
 -- An impl call that no check refuses, and a flex call: all their tables are well formed and acyclic to start with.
-pub impl-tables : (a : Finder) (basic : ℕ) (q : Words) → refusal (impl-checks a basic q) ≡ none → CheckedTables a q
-impl-tables a basic q e = checked-tables a q (impl-ready a basic q e)
+pub impl-tables : (a : Finder) (basic : ℕ) (q : Words) → length (a .sheet) ≤ limit·sheet → refusal (impl-checks a basic q) ≡ none → CheckedTables a q
+impl-tables a basic q few e = checked-tables a q (impl-ready a basic q few e)
 
-pub flex-tables : (a : Finder) (q : Words) → refusal (flex-checks a q) ≡ none → CheckedTables a q
-flex-tables a q e = checked-tables a q (flex-ready a q e)
+pub flex-tables : (a : Finder) (q : Words) → length (a .sheet) ≤ limit·sheet → refusal (flex-checks a q) ≡ none → CheckedTables a q
+flex-tables a q few e = checked-tables a q (flex-ready a q few e)

@@ -11,8 +11,9 @@ use native.Mathlib.Omega.{arith}
 use lib.Dec.{T, eqb, ltb, ltb→lt}
 use lib.ListN.{length, getD, set, replicate, length-append, length-replicate}
 use Rattle.rules.specs.Lists.{Words, range, concat-map}
-use Rattle.rules.specs.Layout.{header·generics, header·impls, impl-param·trait, impl-param·args, question·table, kind·param}
-use Rattle.rules.specs.Sheet.{at, many, field, type-params, generics-table, impl-param-records, impl-generics, impl-table, impl-args}
+use Rattle.rules.specs.Limits.{limit·sheet}
+use Rattle.rules.specs.Layout.{header·generics, header·impls, header·closures, impl-param·trait, impl-param·args, question·table, kind·param}
+use Rattle.rules.specs.Sheet.{at, many, records, field, type-params, generics-table, impl-param-records, impl-generics, impl-table, impl-args}
 use Rattle.rules.specs.Types.{Ty, TypeState, unknown, known, Types, new-node, invert-if, find, state-at, ImplType, unify, unify-impl-type}
 use Rattle.rules.specs.Transfer.{Transfer, mapped, param-for, transfer-each, transfer-in, transfer-types, import-types, import-impl-type, transfer-impl-types, import-impl-types, export-types, export-impl-type, cell-types, new-nodes, table}
 use Rattle.rules.specs.Search.{Finder, impl-signature, impl-params, fresh-params, with-fresh}
@@ -23,6 +24,7 @@ use Rattle.rules.specs.Readings.{ranked-readable}
 use Rattle.rules.specs.TransferKeeps.{imports}
 use Rattle.rules.specs.UnifyKeeps.{unify-keeps, impl-type-keeps}
 use Rattle.rules.specs.FreshKeeps.{Proper, fresh-proper}
+use Rattle.rules.specs.ChainLaws.{chain-short}
 use Rattle.rules.specs.CheckedSheet.{part}
 use Rattle.rules.specs.CheckedTables.{table-length, Ready, question-formed, question-free, generics-formed, generics-free, impl-formed, impl-free, new-nodes-length}
 use Rattle.rules.specs.Yields.{Every, every-map, every-all}
@@ -229,9 +231,13 @@ in-checked n xs t = go xs (every-all (λ (t : Ty). ltb (t .1) n) xs t)
 
 -- The tables of a call that passed 6 to 13.
 module _ (a : Finder) (q : Words) (r : Ready a q) where
+  few : many (a .sheet) header·closures ≤ limit·sheet
+  unfolding many records
+  few = le-trans (chain-short (a .sheet) (at (a .sheet) header·closures)) (r .short)
+
   -- The question's.
   pub question-neat : Neat (table q (at q question·table))
-  question-neat = record { proper = record { formed = question-formed a q r; kept = question-free a q r }; slim = slim-table (a .sheet) q (type-params (a .sheet) (a .generics)) (at q question·table) (r .typed) }
+  question-neat = record { proper = record { formed = question-formed a q r; kept = question-free a q r }; slim = slim-table (a .sheet) q few (type-params (a .sheet) (a .generics)) (at q question·table) (r .typed) }
 
   -- An impl's signature, over its table.
   module _ (i : ℕ) (h : i < many (a .sheet) header·impls) where
@@ -247,7 +253,7 @@ module _ (a : Finder) (q : Words) (r : Ready a q) where
     -- Its table is neat,
     pub signature-neat : Neat ((impl-signature (a .sheet) i) .0)
     unfolding impl-signature impl-table
-    signature-neat = record { proper = record { formed = impl-formed a q r i h; kept = impl-free a q r i h }; slim = slim-table (a .sheet) (a .sheet) _ (impl-table (a .sheet) i) signature-ok }
+    signature-neat = record { proper = record { formed = impl-formed a q r i h; kept = impl-free a q r i h }; slim = slim-table (a .sheet) (a .sheet) few _ (impl-table (a .sheet) i) signature-ok }
 
     -- its arguments are nodes of it,
     pub signature-in : AllIn (length ((impl-signature (a .sheet) i) .0)) ((impl-signature (a .sheet) i) .1 .1)
@@ -268,7 +274,7 @@ module _ (a : Finder) (q : Words) (r : Ready a q) where
     -- It is neat,
     pub impl-params-neat : Neat ((impl-params (a .sheet) g) .0)
     unfolding impl-params generics-table
-    impl-params-neat = record { proper = record { formed = generics-formed a q r g h; kept = generics-free a q r g h }; slim = slim-table (a .sheet) (a .sheet) _ (generics-table (a .sheet) g) impl-params-ok }
+    impl-params-neat = record { proper = record { formed = generics-formed a q r g h; kept = generics-free a q r g h }; slim = slim-table (a .sheet) (a .sheet) few _ (generics-table (a .sheet) g) impl-params-ok }
 
     -- their arguments are nodes of it,
     pub impl-params-in : QueriesIn (length ((impl-params (a .sheet) g) .0)) ((impl-params (a .sheet) g) .1)

@@ -1,4 +1,4 @@
--- No type has over 8 children: 8 and 12 say so of the tables of a sheet and a question, and joining, transfer and fresh unknowns keep it.
+-- No type has over 8 children, and no closure's id is over a sheet's words: 8 and 12 say so of the tables of a sheet and a question, and joining, transfer and fresh unknowns keep it.
 use Prim.Native.Nat.{ℕ, zero, suc, _+_, _*_, _≤_, _<_}
 use mathlib.Core.Path.{_≡_, refl, sym, subst}
 use mathlib.Core.Bool.{Bool, true, false}
@@ -9,9 +9,10 @@ use native.Mathlib.Omega.{arith}
 use lib.Dec.{T, eqb, leb, ltb, leb→le, ltb→lt, eqb→eq}
 use lib.ListN.{length, replicate}
 use Rattle.rules.specs.Lists.{Words, all}
-use Rattle.rules.specs.Layout.{node·kind, node·id, kind·unknown, kind·param}
-use Rattle.rules.specs.Sheet.{at, chain, kinds, row·most, row·length}
-use Rattle.rules.specs.Types.{Ty, TypeState, unknown, known, TypeNode, Types, new-node, node-at, xor, invert-state, state-at, larger, relabel, or-else, hang, join}
+use Rattle.rules.specs.Limits.{limit·sheet}
+use Rattle.rules.specs.Layout.{header·closures, node·kind, node·id, kind·unknown, kind·param, kind·closure}
+use Rattle.rules.specs.Sheet.{at, chain, many, kinds, row·most, row·length}
+use Rattle.rules.specs.Types.{Ty, TypeState, unknown, known, TypeNode, Types, new-node, node-at, find, kind, xor, invert-state, state-at, larger, relabel, or-else, hang, join}
 use Rattle.rules.specs.Transfer.{Transfer, param-for, transfer-types, import-types, node-state, new-nodes, table}
 use Rattle.rules.specs.Values.{id-bound, node-fits, node-ok, table-ok}
 use Rattle.rules.specs.Robinson.{AllIn, WellFormed}
@@ -23,19 +24,19 @@ use Rattle.rules.specs.Carried.{transfer-carries}
 abbrev pub most-children : ℕ
 most-children = 8
 
--- A type has at most so many.
+-- A type has at most so many; the id of a closure is that of a record of a sheet.
 abbrev pub SlimState : TypeState → Type 0
 SlimState unknown = Unit {0}
-SlimState (known i k d cs) = length cs ≤ most-children
+SlimState (known i k d cs) = (length cs ≤ most-children) × (k ≡ kind·closure → d < limit·sheet)
 
 abbrev SlimNode : TypeNode → Type 0
 SlimNode nd = SlimState (nd .state)
 
--- No type of a table has more.
+-- So it is with every type of a table,
 unfoldable pub Slim : Types → Type 0
 Slim ts = Every SlimNode ts
 
--- So none that is looked up has.
+-- and with each that is looked up.
 pub slim-at : (ts : Types) → Slim ts → (n : ℕ) → SlimState (state-at ts n)
 unfolding Slim state-at node-at new-node
 slim-at ts h n = every-at SlimNode ts n (new-node 0 unknown) h tt
@@ -44,6 +45,11 @@ slim-invert : (b : Bool) (st : TypeState) → SlimState st → SlimState (invert
 unfolding invert-state
 slim-invert b unknown h = tt
 slim-invert b (known i k d cs) h = h
+
+-- So it is with what a type is.
+pub slim-kind : (ts : Types) (t : Ty) → Slim ts → SlimState (kind ts t)
+unfolding kind
+slim-kind ts t h = slim-invert ((find ts t) .0) (state-at ts ((find ts t) .1)) (slim-at ts h ((find ts t) .1))
 
 slim-or : (st st′ : TypeState) → SlimState st → SlimState st′ → SlimState (or-else st st′)
 unfolding or-else
@@ -78,7 +84,7 @@ slim-transfer : (src : Types) → WellFormed src → Slim src → (ps : Option (
 unfolding Slim new-node
 slim-transfer src formed slim ps = transfer-carries src formed ps (λ (m : Transfer). Slim (m .1))
     (λ m r l e h. every-append SlimNode (m .1) (new-node (length (m .1)) unknown ∷ []) h (tt, tt))
-    (λ m n r i kd d cs qs e l h. every-set SlimNode (m .1) n (new-node n (known i kd d qs)) h (omega (arith, l, subst SlimState e (slim-at src slim r))))
+    (λ m n r i kd d cs qs e l h. every-set SlimNode (m .1) n (new-node n (known i kd d qs)) h (let k = subst SlimState e (slim-at src slim r) in (omega (arith, l, k .0), k .1)))
 
 -- An import keeps it.
 pub slim-import : (src : Types) → WellFormed src → Slim src → (ps : Option (List Ty)) (ts : List Ty) (dst : Types) → AllIn (length src) ts → Slim dst → Slim ((import-types src ps ts dst) .1)
@@ -110,18 +116,22 @@ kinds-most : (i : ℕ) → at kinds i ≤ most-children
 unfolding kinds all
 kinds-most i = every-at (λ k. k ≤ most-children) kinds i 0 (every-weaken (λ k. T (leb k most-children)) (λ k. k ≤ most-children) (λ k. leb→le k most-children) kinds (every-all (λ k. leb k most-children) kinds tt)) (omega arith)
 
-slim-node : (s w : Words) (params n p : ℕ) → T (node-ok s w params n p) → SlimState (node-state w p)
-unfolding node-ok node-fits node-state
-slim-node s w params n p t = go (eqb (at w (p + node·kind)) kind·unknown) refl
+slim-node : (s w : Words) → many s header·closures ≤ limit·sheet → (params n p : ℕ) → T (node-ok s w params n p) → SlimState (node-state w p)
+unfolding node-ok node-fits node-state id-bound
+slim-node s w few params n p t = go (eqb (at w (p + node·kind)) kind·unknown) refl
   where
     go : (b : Bool) → eqb (at w (p + node·kind)) kind·unknown ≡ b → SlimState (node-state w p)
     go true e = rw (e, node-state) tt
-    go false e = rw (e, node-state) (le-trans (leb→le _ _ (part _ t 5)) (kinds-most (row·length * at w (p + node·kind) + row·most)))
+    go false e =
+        rw (e, node-state) (
+          le-trans (leb→le _ _ (part _ t 5)) (kinds-most (row·length * at w (p + node·kind) + row·most)),
+          λ c. le-trans (ltb→lt (at w (p + node·id)) (many s header·closures) (subst (λ k. T (ltb (at w (p + node·id)) (id-bound s params (at w (p + node·id)) k))) c (part _ t 3))) few,
+        )
 
 -- A table that passed 8 or 12.
-pub slim-table : (s w : Words) (params h : ℕ) → T (table-ok s w params h) → Slim (table w h)
+pub slim-table : (s w : Words) → many s header·closures ≤ limit·sheet → (params h : ℕ) → T (table-ok s w params h) → Slim (table w h)
 unfolding Slim
-slim-table s w params h t = every-table SlimState s w params h (slim-node s w params) t
+slim-table s w few params h t = every-table SlimState s w params h (slim-node s w few params) t
 
 -- 8 and 12: a Param is below the count of type parameters.
 abbrev pub ParamBelow : ℕ → TypeState → Type 0

@@ -169,7 +169,7 @@ few-children src n s = go (state-at src n) refl (slim-at src s n)
   where
     go : (st : TypeState) → state-at src n ≡ st → SlimState (state-at src n) → length (children (state-at src n)) ≤ 8
     go unknown e h = rw e (omega arith)
-    go (known i k d cs) e h = rw e (rw e at h)
+    go (known i k d cs) e h = rw e ((rw e at h) .0)
 
 -- The first j of the m children of node n are read.
 pub record Reading (src : Types) (n : ℕ) (cs : Words) (m j : ℕ) : Type 0 where
