@@ -13,7 +13,7 @@ use lib.Seq.{getD-set-same, getD-set-other}
 use borrow.Author.Tests.{lt-ltb, le-ltb, ltb-true, ltb-false, eqb-true, eqb-false}
 use Rattle.rules.specs.Lists.{Words}
 use Rattle.rules.specs.Layout.{header·definitions, header·traits, header·impls, header·imports}
-use Rattle.rules.specs.Sheet.{at, chain, chain-of, records, many, field, trait-def, import-def}
+use Rattle.rules.specs.Sheet.{at, chain, chain-of, records, many, field, trait-def, inherent-params, import-def}
 use Rattle.rules.specs.WordLaws.{count-start, count-end, count-on, count-full}
 
 -- Outside the words that may be written.
@@ -197,6 +197,16 @@ impl-word-is s ws id k p r x = field-is s header·impls 22657 ws id k p r (x .im
 pub trait-def-is : (s ws : Words) (id p r : ℕ) → Indexes s ws → p ≡ looked ws 26754 id → r ≡ at s (p + 1) → r ≡ trait-def s id
 unfolding trait-def
 trait-def-is s ws id p r x = field-is s header·traits 26754 ws id 1 p r (x .traits)
+
+pub inherent-is : (s ws : Words) (id p r : ℕ) → Indexes s ws → p ≡ looked ws 26754 id → r ≡ at s (p + 3) → r ≡ inherent-params s id
+unfolding inherent-params
+inherent-is s ws id p r x = field-is s header·traits 26754 ws id 3 p r (x .traits)
+
+pub definitions-are : (s ws : Words) (r : ℕ) → Indexes s ws → r ≡ at ws 18560 → r ≡ many s header·definitions
+definitions-are s ws r x e = e ∙ x .definitions .count
+
+pub impls-are : (s ws : Words) (r : ℕ) → Indexes s ws → r ≡ at ws 22657 → r ≡ many s header·impls
+impls-are s ws r x e = e ∙ x .impls .count
 
 pub import-def-is : (s ws : Words) (id p r : ℕ) → Indexes s ws → p ≡ looked ws 30851 id → r ≡ at s (p + 1) → r ≡ import-def s id
 unfolding import-def

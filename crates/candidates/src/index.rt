@@ -4,7 +4,7 @@ ghost use mathlib.Core.Path.{_≡_};
 ghost use Prim.Native.Nat.{_+_, _≤_, _<_};
 ghost use lib.ListN.{length};
 ghost use Rattle.rules.specs.Layout.{header·definitions, header·impls};
-ghost use Rattle.rules.specs.Sheet.{field, trait-def, import-def};
+ghost use Rattle.rules.specs.Sheet.{many, field, trait-def, inherent-params, import-def};
 ghost use Rattle.candidates.specs.Index.{Places, Indexing, looked, Indexes, IndexedAll};
 
 pub const DEFINITIONS: usize = 18560;
@@ -70,6 +70,22 @@ pub fn index_all(s: &[u32], ws: &mut [u32])
     index(s, 10, ws, IMPORTS);
 }
 
+// How many definitions there are.
+pub fn definitions(s: &[u32], ws: &[u32]) -> usize
+    requires { ⌜ Indexes (now s) (now ws) ⌝ }
+    ensures { λ r. ⌜ r ≡ many (now (s .entry)) header·definitions ⌝ }
+{
+    words::next(ws, DEFINITIONS)
+}
+
+// How many impls there are.
+pub fn impls(s: &[u32], ws: &[u32]) -> usize
+    requires { ⌜ Indexes (now s) (now ws) ⌝ }
+    ensures { λ r. ⌜ r ≡ many (now (s .entry)) header·impls ⌝ }
+{
+    words::next(ws, IMPLS)
+}
+
 // Word k of definition d.
 pub fn definition(s: &[u32], ws: &[u32], d: usize, k: usize) -> u32
     requires { ⌜ Indexes (now s) (now ws) ⌝ }
@@ -92,6 +108,14 @@ pub fn trait_def(s: &[u32], ws: &[u32], t: usize) -> u32
     ensures { λ r. ⌜ r ≡ trait-def (now (s .entry)) t ⌝ }
 {
     words::offset(s, look(ws, TRAITS, t), 1)
+}
+
+// How many of a trait's arguments are inherent.
+pub fn inherent(s: &[u32], ws: &[u32], t: usize) -> u32
+    requires { ⌜ Indexes (now s) (now ws) ⌝ }
+    ensures { λ r. ⌜ r ≡ inherent-params (now (s .entry)) t ⌝ }
+{
+    words::offset(s, look(ws, TRAITS, t), 3)
 }
 
 // The definition? of an import.

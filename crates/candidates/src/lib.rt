@@ -11,7 +11,7 @@ ghost use Rattle.candidates.specs.Sets.{BindingAll};
 ghost use Rattle.candidates.specs.Build.{Prepared, Connected, Filled, Candidates};
 
 pub mod find;
-mod index;
+pub mod index;
 mod inner;
 mod links;
 mod rows;
