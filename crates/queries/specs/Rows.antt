@@ -341,3 +341,12 @@ query-types q h = ap (λ (l : Words). (q .tr, map type-of-word (take (q .n) l)))
 pub query-inside : (src : Types) (q : Query) (p : ImplType) → length (q .args) ≡ 4 → query-of q ≡ p → AllIn (length src) (p .1) → Inside src (take (q .n) (q .args))
 unfolding types-in
 query-inside src q p h e i = record { each = words-in (length src) (take (q .n) (q .args)) (subst (AllIn (length src)) (ap (λ (x : ImplType). x .1) (sym e ∙ query-types q h)) i) }
+
+-- The same of a copy of its four places, word by word.
+pub query-words : (q : Query) → query-of q ≡ (q .tr, types-in (q .n) (four (q .args)))
+unfolding query-of types-in
+query-words q = refl
+
+pub words-inside : (src : Types) (q : Query) (p : ImplType) → query-of q ≡ p → AllIn (length src) (p .1) → Inside src (take (q .n) (four (q .args)))
+unfolding query-of
+words-inside src q p e i = record { each = words-in (length src) (take (q .n) (four (q .args))) (subst (AllIn (length src)) (ap (λ (x : ImplType). x .1) (sym e)) i) }
