@@ -8,7 +8,7 @@ use native.Mathlib.Omega.{arith}
 use lib.Dec.{T, eqb→eq, leb→le}
 use lib.ListN.{length, getD, length-map}
 use Rattle.rules.specs.Lists.{Words}
-use Rattle.rules.specs.Limits.{limit·arity}
+use Rattle.rules.specs.Limits.{limit·arity, limit·sheet}
 use Rattle.rules.specs.Layout.{header·generics, header·traits, header·impls, impl-param·trait, impl-param·args, question·args}
 use Rattle.rules.specs.Sheet.{at, field, many, trait-arity, impl-param-records, impl-args}
 use Rattle.rules.specs.Types.{ImplType}
@@ -71,10 +71,10 @@ module _ (a : Finder) (q : Words) (r : Ready a q) where
   few-signature = few-args
 
 -- and those of the question of an impl call.
-pub few-question : (a : Finder) (basic : ℕ) (q : Words) → refusal (impl-checks a basic q) ≡ none → length (cell-types q (at q question·args)) ≤ 4
+pub few-question : (a : Finder) (basic : ℕ) (q : Words) → length (a .sheet) ≤ limit·sheet → refusal (impl-checks a basic q) ≡ none → length (cell-types q (at q question·args)) ≤ 4
 unfolding impl-checks of-sheet of-ids of-impl-question impl-question-values
-few-question a basic q e = args-few (a .sheet) (impl-ready a basic q e .values) q _ _ _ (part _ (not-not (impl-question-values (a .sheet) (a .generics) q) (unrefused (impl-checks a basic q) e 6)) 1)
+few-question a basic q short e = args-few (a .sheet) (impl-ready a basic q short e .values) q _ _ _ (part _ (not-not (impl-question-values (a .sheet) (a .generics) q) (unrefused (impl-checks a basic q) e 6)) 1)
 
-pub few-query : (a : Finder) (basic : ℕ) (q : Words) → refusal (impl-checks a basic q) ≡ none → length ((impl-query q) .1) ≤ 4
+pub few-query : (a : Finder) (basic : ℕ) (q : Words) → length (a .sheet) ≤ limit·sheet → refusal (impl-checks a basic q) ≡ none → length ((impl-query q) .1) ≤ 4
 unfolding impl-query
 few-query = few-question
