@@ -1,6 +1,8 @@
+pub mod Asking
+pub mod Loops
 pub mod Singles
 pub mod Tails
 pub mod Steps
 pub mod Built
-pub mod Fresh
 pub mod Members
+pub mod Cycle

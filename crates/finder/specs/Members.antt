@@ -21,6 +21,7 @@ use Rattle.slots.specs.Adding.{under, behind, Element}
 use Rattle.slots.specs.Turns.{Answers, answers-refused, answers-found, adding, Going, Stepped, Turned, turn, going-same, going-end, collect-next, collect-none}
 use Rattle.slots.specs.Parts.{part, part-table, Lent}
 use Rattle.slots.specs.Settling.{Sub, Settles, JoinSettles, sub-answered, settled}
+use Rattle.finder.specs.Asking.{Front, Opened}
 use Rattle.finder.specs.Tails.{sub-one, Keeps}
 
 -- The words of a question's part with d levels left, and of a part of sub-questions, of which l are left.
@@ -29,16 +30,6 @@ question-room d = 62790 * d + 8970
 
 abbrev pub tail-room : ℕ → ℕ → ℕ
 tail-room d l = question-room d + 17940 * (l - 1)
-
--- Slot 0 is as it was.
-pub record Front (ws out : Words) : Type 0 where
-  pub len : length out ≡ length ws
-  pub at : (i : ℕ) → i < 1794 → at out i ≡ at ws i
-
--- Slots 0 to 4 are as they were.
-pub record Opened (ws out : Words) : Type 0 where
-  pub len : length out ≡ length ws
-  pub at : (i : ℕ) → i < 8970 → at out i ≡ at ws i
 
 -- A member of the loop over candidates: what one gives is added behind n.
 pub record CandidateStep (L : ℕ) (run : Run (List Result)) (n cur : ℕ) (ws : Words) (r : Asked) (out : Words) : Type 0 where

@@ -1,0 +1,356 @@
+-- The members of the search that have loops: the candidates of a question, and the results of a sub-question; how a question and sub-questions begin.
+use Prim.Native.Nat.{ℕ, zero, suc, _+_, _-_, _*_, _≤_, _<_}
+use mathlib.Core.Path.{_≡_, refl, sym, _∙_, ap, subst}
+use mathlib.Core.Bool.{Bool, true, false}
+use mathlib.Core.Logic.{_≢_}
+use mathlib.Core.List.{List, [], _∷_, _++_, map}
+use native.Mathlib.Omega.{arith}
+use lib.Dec.{eqb, ltb}
+use lib.ListN.{length, getD, drop}
+use Rattle.rules.specs.Lists.{Words}
+use Rattle.rules.specs.Layout.{header·impls}
+use Rattle.rules.specs.Sheet.{at, many}
+use Rattle.rules.specs.Types.{Types, ImplType}
+use Rattle.rules.specs.Run.{Run, done, stop, _>>=_, Out, got, refused, within}
+use Rattle.rules.specs.Search.{end, Result, collect, find-impl-candidates, find-subimpls, try-candidate, before-candidates, question}
+use Rattle.rules.specs.Search as rules
+use Rattle.rules.specs.Solutions.{AllIn}
+use Rattle.rules.specs.CheckLaws.{Checked, passed}
+use Rattle.rules.specs.CheckedSheet.{valid}
+use Rattle.rules.specs.Yields.{Every, every-weaken, Yields, yields-within, came}
+use Rattle.rules.specs.Neat.{Neat, QueriesIn, in-more}
+use Rattle.rules.specs.SearchKeeps.{Kept, AllKept, question-keeps}
+use Rattle.rules.specs.ResultLimits.{question-few}
+use Rattle.table.specs.Packing.{types-of, Packed}
+use Rattle.trees.specs.Forests.{Single}
+use Rattle.slots.specs.declared.Asked.{Asked}
+use Rattle.slots.specs.declared.Asked.the-variants.{Found, Refused}
+use Rattle.slots.specs.Slots.{slot·length, Table, Slot, Slots, Written, slots-kept}
+use Rattle.slots.specs.Adding.{Element}
+use Rattle.slots.specs.Gathering.{Row}
+use Rattle.slots.specs.Turns.{Got, Answers, answers-refused, answers-same, then-got, then-refused, adding, Going, Stepped, going-start, going-same, collect-next, collect-none}
+use Rattle.slots.specs.Parts.{part, part-table, Lent, slots-back}
+use Rattle.candidates.specs.Index.{Indexes}
+use Rattle.candidates.specs.Find.{Standing, from-on}
+use Rattle.admitted.specs.declared.Found.{Found as Sets}
+use Rattle.admitted.specs.declared.Candidate.{Candidate}
+use Rattle.admitted.specs.declared.Candidate.the-variants.{Impl, End}
+use Rattle.admitted.specs.Found.{Stands, Finds, Gives, ids, nodes-of, found-stops, found-goes, found-standing}
+use Rattle.queries.specs.declared.Query.{Query}
+use Rattle.queries.specs.declared.Queries.{Queries}
+use Rattle.queries.specs.Queries.{query-of, query-in, queries-of, queries-next, queries-none}
+use Rattle.finder.specs.declared.Finder.{Finder}
+use Rattle.finder.specs.Asking.{finder-of, Sound, Searching, Front, Asking, Tail, Begins, front-table, asking-table}
+use Rattle.finder.specs.Loops.{Stepping, stepping-start, stepping-same, stepping-end, stepping-on, stepping-refused}
+use Rattle.finder.specs.Singles.{One, question-ones}
+use Rattle.finder.specs.Steps.{ask-below, candidates-left, question-over, question-deep, question-start}
+use Rattle.finder.specs.Tails.{sub-one, tail-none, tail-next, tail-last, Resting, Rested, Keeps, rest-turn, rest-end}
+use Rattle.finder.specs.Built.{NoneLeft}
+use Rattle.finder.specs.Members.{CandidateStep, ResultStep}
+
+-- The next candidate, or a number past every impl.
+pub record NextId (s ws : Words) (f : Sets) (from r : ℕ) : Type 0 where
+  pub up : r < 384 → (from ≤ r) × (r < many s header·impls)
+  pub found : r < 384 → (src : ℕ) → Standing s src ws (nodes-of f) → from-on from (ids s src f) ≡ r ∷ from-on (r + 1) (ids s src f)
+  pub none : 384 ≤ r → (src : ℕ) → Standing s src ws (nodes-of f) → from-on from (ids s src f) ≡ []
+
+pub next-impl : (s ws : Words) (f : Sets) (from id : ℕ) (r : Candidate) → many s header·impls ≤ 384 → Gives s ws f from r → r ≡ Impl id → NextId s ws f from id
+next-impl s ws f from id r few g e = record { up = λ h. g .up id e; found = λ h. g .found id e; none = λ h. absurd (omega (arith, g .up id e .1)) }
+
+pub next-none : (s ws : Words) (f : Sets) (from : ℕ) (r : Candidate) → Gives s ws f from r → r ≡ End → NextId s ws f from 384
+next-none s ws f from r g e = record { up = λ h. absurd (omega arith); found = λ h. absurd (omega arith); none = λ h. g .none e }
+
+pub few-impls : (s sets : Words) (f : Finder) → Searching s sets f → many s header·impls ≤ 384
+few-impls s sets f h = omega (arith, valid s (passed s (h .stands .checked) .values) .impl-count)
+
+-- How a question ends before its candidates, and goes on with them.
+module _ (L : ℕ) (a : rules.Finder) (basic : Bool) (q : ImplType) (d count : ℕ) where
+  pub question-limit : (ts : Types) (out : Words) → L ≤ count → Answers (within (ltb L) (question d a basic ts q) count) (Refused 18 (count + 1)) out
+  question-limit ts out h = answers-refused _ 18 (count + 1) out (question-over L a basic ts q count d h)
+
+  pub question-depth : (ts : Types) (out : Words) → count < L → d ≡ 0 → Answers (within (ltb L) (question d a basic ts q) count) (Refused 15 (count + 1)) out
+  question-depth ts out h e = answers-refused _ 15 (count + 1) out (question-deep L a basic ts q count d e h)
+
+  module _ (ws us : Words) (first : Asked) (low : count < L) (deep : d ≢ 0) (b : Begins a basic ws q (count + 1) first us) where
+    starts : within (ltb L) (question d a basic (types-of ws) q) count ≡ within (ltb L) (before-candidates a basic (types-of ws) q >>= λ fs. candidates-left (d - 1) a basic (types-of ws) q fs) (count + 1)
+    starts = question-start L a basic (types-of ws) q count d deep low
+
+    pub question-refused : (m c : ℕ) → first ≡ Refused m c → Answers (within (ltb L) (question d a basic (types-of ws) q) count) (Refused m c) us
+    question-refused m c e = answers-refused _ m c us (starts ∙ then-refused (ltb L) (before-candidates a basic (types-of ws) q) (λ fs. candidates-left (d - 1) a basic (types-of ws) q fs) (count + 1) m c (b .at L .refuses m c e))
+
+    module _ (c n : ℕ) (e : first ≡ Found c n) where
+      stood : Got (within (ltb L) (before-candidates a basic (types-of ws) q) (count + 1)) c n us
+      stood = b .at L .found c n e
+
+      pub begun-low : c ≤ 4000000000
+      begun-low = stood .low
+
+      pub begun-few : n ≤ 4
+      begun-few = stood .few
+
+      pub begun-row : Row us 1794 n
+      begun-row = record { results = stood .results; size = stood .size; slots = stood .stand }
+
+      pub question-goes : (r : Asked) (out : Words) → Packed ws → Stepped L (candidates-left (d - 1) a basic (types-of us) q) n c us r out → Answers (within (ltb L) (question d a basic (types-of ws) q) count) r out
+      question-goes r out p s =
+          let t = front-table ws us (b .front .len) (b .front .at) p in
+          answers-same _ (within (ltb L) (candidates-left (d - 1) a basic (types-of ws) q (stood .results)) c) r out
+          (starts ∙ then-got (ltb L) (before-candidates a basic (types-of ws) q) (λ fs. candidates-left (d - 1) a basic (types-of ws) q fs) (count + 1) c (stood .results) (stood .is))
+          (subst (λ (ts : Types). Answers (within (ltb L) (candidates-left (d - 1) a basic ts q (stood .results)) c) r out) (t .is) (s .at (stood .results) (stood .size) (stood .stand)))
+
+pub begun-asking : (a : rules.Finder) (basic : Bool) (ws us : Words) (q : Query) (p : ImplType) (count : ℕ) (r : Asked) → Asking ws q → Begins a basic ws p count r us → Asking us q
+begun-asking a basic ws us q p count r h b = asking-table ws us q h (front-table ws us (b .front .len) (b .front .at) (h .packed))
+
+-- The loop over candidates: the next is `id`, those behind it are found later.
+pub record Trying (s sets : Words) (f : Finder) (basic : ℕ) (q : Query) (d : ℕ) (x : Sets) (n₀ c₀ : ℕ) (ws₀ ws : Words) (id n c : ℕ) : Type 0 where
+  pub front : Front ws₀ ws
+  pub asking : Asking ws q
+  pub up : id < 384 → id < many s header·impls
+  pub left : Words
+  pub next : id < 384 → left ≡ id ∷ from-on (id + 1) (ids s (f .source) x)
+  pub none : 384 ≤ id → left ≡ []
+  pub going : Stepping (f .limit) (candidates-left d (finder-of s f) (eqb basic 1) (types-of ws₀) (query-of q)) (λ fs. collect (try-candidate (ask-below d (finder-of s f)) s (types-of ws₀) (query-of q)) left fs) n₀ c₀ ws₀ n c ws
+
+module _ (s sets : Words) (f : Finder) (basic : ℕ) (q : Query) (d : ℕ) (x : Sets) (n₀ c₀ : ℕ) (ws₀ : Words) (search : Searching s sets f) (sets-are : Finds s (f .source) (types-of ws₀) (query-of q) basic x) where
+  -- Where candidates cannot be looked for,
+  pub sets-refused : x .number ≢ 0 → Stepped (f .limit) (candidates-left d (finder-of s f) (eqb basic 1) (types-of ws₀) (query-of q)) n₀ c₀ ws₀ (Refused (x .number) c₀) ws₀
+  unfolding candidates-left within _>>=_
+  sets-refused z = record {
+    at = λ fs e t. answers-refused _ (x .number) c₀ ws₀ (ap (λ (m : Run Words). within (ltb (f .limit)) (m >>= λ is. collect (try-candidate (ask-below d (finder-of s f)) s (types-of ws₀) (query-of q)) is fs) c₀) (found-stops s (f .source) sets (types-of ws₀) (query-of q) basic x (search .stands) sets-are z (f .generics)));
+  }
+
+  -- else it begins with the first,
+  pub trying-start : (id : ℕ) → x .number ≡ 0 → Asking ws₀ q → Row ws₀ 1794 n₀ → n₀ ≤ 4 → c₀ ≤ 4000000000 → NextId s sets x 0 id → Trying s sets f basic q d x n₀ c₀ ws₀ ws₀ id n₀ c₀
+  unfolding candidates-left _>>=_
+  trying-start id z a row few low g = record {
+    front = record { len = refl; at = λ i l. refl };
+    asking = a;
+    up = λ h. g .up h .1;
+    left = from-on 0 (ids s (f .source) x);
+    next = λ h. g .found h (f .source) standing;
+    none = λ h. g .none h (f .source) standing;
+    going = stepping-same (f .limit) _ n₀ c₀ ws₀ _ n₀ c₀ ws₀ (stepping-start (f .limit) _ n₀ c₀ ws₀ ws₀ row few low (λ fs e t. t)) _
+        (λ fs. ap (λ (m : Run Words). m >>= λ is. collect (try-candidate (ask-below d (finder-of s f)) s (types-of ws₀) (query-of q)) is fs) (found-goes s (f .source) sets (types-of ws₀) (query-of q) basic x (search .stands) sets-are z (f .generics)));
+  }
+    where
+      standing : Standing s (f .source) sets (nodes-of x)
+      standing = found-standing s (f .source) sets (types-of ws₀) (query-of q) basic x (search .stands) sets-are
+
+  module _ (ws : Words) (id n c : ℕ) (t : Trying s sets f basic q d x n₀ c₀ ws₀ ws id n c) (packed : Packed ws₀) where
+    table : Table ws 0 (types-of ws₀)
+    table = front-table ws₀ ws (t .front .len) (t .front .at) packed
+
+    module _ (more : id < 384) (r : Asked) (out : Words) (o : CandidateStep (f .limit) (try-candidate (ask-below d (finder-of s f)) s (types-of ws) (query-of q) id) n c ws r out) where
+      one : Stepped (f .limit) (adding (try-candidate (ask-below d (finder-of s f)) s (types-of ws₀) (query-of q) id)) n c ws r out
+      one = subst (λ (ts : Types). Stepped (f .limit) (adding (try-candidate (ask-below d (finder-of s f)) s ts (query-of q) id)) n c ws r out) (table .is) (o .step)
+
+      here : Stepping (f .limit) (candidates-left d (finder-of s f) (eqb basic 1) (types-of ws₀) (query-of q)) (λ fs. adding (try-candidate (ask-below d (finder-of s f)) s (types-of ws₀) (query-of q) id) fs >>= λ hs. collect (try-candidate (ask-below d (finder-of s f)) s (types-of ws₀) (query-of q)) (from-on (id + 1) (ids s (f .source) x)) hs) n₀ c₀ ws₀ n c ws
+      here = stepping-same (f .limit) _ n₀ c₀ ws₀ _ n c ws (t .going) _
+          (λ fs. ap (λ (l : Words). collect (try-candidate (ask-below d (finder-of s f)) s (types-of ws₀) (query-of q)) l fs) (t .next more) ∙ collect-next (try-candidate (ask-below d (finder-of s f)) s (types-of ws₀) (query-of q)) id (from-on (id + 1) (ids s (f .source) x)) fs)
+
+      pub trying-refused : (k e : ℕ) → r ≡ Refused k e → Stepped (f .limit) (candidates-left d (finder-of s f) (eqb basic 1) (types-of ws₀) (query-of q)) n₀ c₀ ws₀ (Refused k e) out
+      trying-refused k e p = stepping-refused (f .limit) _ n₀ c₀ ws₀ _ _ n c ws here r out one k e p
+
+      pub trying-on : (e m id′ : ℕ) → r ≡ Found e m → NextId s sets x (id + 1) id′ → Trying s sets f basic q d x n₀ c₀ ws₀ out id′ m e
+      trying-on e m id′ p g =
+          let st = found-standing s (f .source) sets (types-of ws₀) (query-of q) basic x (search .stands) sets-are in
+          record {
+            front = record { len = o .front .len ∙ t .front .len; at = λ i l. o .front .at i l ∙ t .front .at i l };
+            asking = asking-table ws out q (t .asking) (front-table ws out (o .front .len) (o .front .at) (t .asking .packed));
+            up = λ h. g .up h .1;
+            left = from-on (id + 1) (ids s (f .source) x);
+            next = λ h. g .found h (f .source) st;
+            none = λ h. g .none h (f .source) st;
+            going = stepping-on (f .limit) _ n₀ c₀ ws₀ _ _ n c ws here r out one e m p;
+          }
+
+    pub trying-end : 384 ≤ id → Stepped (f .limit) (candidates-left d (finder-of s f) (eqb basic 1) (types-of ws₀) (query-of q)) n₀ c₀ ws₀ (Found c n) ws
+    trying-end h = stepping-end (f .limit) _ n₀ c₀ ws₀ _ n c ws (t .going)
+        (λ fs. ap (λ (l : Words). collect (try-candidate (ask-below d (finder-of s f)) s (types-of ws₀) (query-of q)) l fs) (t .none h) ∙ collect-none (try-candidate (ask-below d (finder-of s f)) s (types-of ws₀) (query-of q)) fs)
+
+-- A result of a sub-question, of which those from one on are asked.
+pub record Ready-for (qs : Queries) (from : ℕ) (r : Result) : Type 0 where
+  pub one : Single (r .1)
+  pub neat : Neat (r .0)
+  pub inside : QueriesIn (length (r .0)) (drop from (queries-of qs))
+
+pub record ElementAt (ws : Words) (a : ℕ) (qs : Queries) (from : ℕ) : Type 0 where
+  pub result : Result
+  pub slot : Slot ws a result
+  pub for : Ready-for qs from result
+  pub few : qs .n ≤ 4
+  pub counts : (k : ℕ) → getD (qs .counts) k 0 ≤ 4
+
+-- m of them in slots 6 to 9.
+pub record Elements (ws : Words) (m : ℕ) (qs : Queries) (from : ℕ) : Type 0 where
+  pub all : List Result
+  pub size : length all ≡ m
+  pub there : Slots ws 10764 all
+  pub for : Every (Ready-for qs from) all
+  pub few : qs .n ≤ 4
+  pub counts : (k : ℕ) → getD (qs .counts) k 0 ≤ 4
+
+-- What each gives is collected.
+pub record Collects (L : ℕ) (f : Result → Run (List Result)) (m count : ℕ) (ws : Words) (r : Asked) (out : Words) : Type 0 where
+  pub at : (all : List Result) → length all ≡ m → Slots ws 10764 all → Every One all → Answers (within (ltb L) (collect f all []) count) r out
+
+-- k of them are done.
+pub record Collecting (L : ℕ) (f : Result → Run (List Result)) (m count : ℕ) (qs : Queries) (from : ℕ) (ws₀ ws : Words) (k n c : ℕ) : Type 0 where
+  pub long : length ws ≡ length ws₀
+  pub first : Elements ws₀ m qs from
+  pub elements : Elements ws m qs from
+  pub at : (all : List Result) → length all ≡ m → Slots ws₀ 10764 all → Every One all → Resting L (within (ltb L) (collect f all []) count) f m k ws n c
+
+pub collecting-start : (L : ℕ) (f : Result → Run (List Result)) (m count : ℕ) (qs : Queries) (from : ℕ) (ws : Words) → count ≤ 4000000000 → Elements ws m qs from → Collecting L f m count qs from ws ws 0 0 count
+collecting-start L f m count qs from ws low e = record {
+  long = refl;
+  first = e;
+  elements = e;
+  at = λ all p t o. record { all = all; size = p; ones = o; there = t; going = going-start L _ (λ fs. collect f all fs) ws count low refl };
+}
+
+module _ (L : ℕ) (f : Result → Run (List Result)) (m count : ℕ) (qs : Queries) (from : ℕ) (ws₀ ws : Words) (k n c : ℕ) (g : Collecting L f m count qs from ws₀ ws k n c) where
+  now-at : Resting L (within (ltb L) (collect f (g .first .all) []) count) f m k ws n c
+  now-at = g .at (g .first .all) (g .first .size) (g .first .there) (every-weaken (Ready-for qs from) One (λ r h. h .one) (g .first .all) (g .first .for))
+
+  pub collecting-few : n ≤ 4
+  collecting-few = now-at .going .few
+
+  pub collecting-low : c ≤ 4000000000
+  collecting-low = now-at .going .low
+
+  every-get : (P : Result → Type 0) (rs : List Result) (j : ℕ) (d : Result) → Every P rs → j < length rs → P (getD rs j d)
+  every-get P [] j d h l = absurd (omega arith)
+  every-get P (r ∷ rs) zero d h l = h .0
+  every-get P (r ∷ rs) (suc j) d h l = every-get P rs j d (h .1) (omega arith)
+
+  pub collecting-element : k < m → ElementAt ws (10764 + 1794 * k) qs from
+  collecting-element h =
+      let e = g .elements in
+      record {
+        result = getD (e .all) k ([], end);
+        slot = e .there .at k (omega (arith, e .size));
+        for = every-get (Ready-for qs from) (e .all) k ([], end) (e .for) (omega (arith, e .size));
+        few = e .few;
+        counts = e .counts;
+      }
+
+  module _ (more : k < m) (small : m ≤ 4) (r : Asked) (out : Words) (s : ResultStep L f k n c ws r out) where
+    pub collecting-on : (d j : ℕ) → r ≡ Found d j → Collecting L f m count qs from ws₀ out (k + 1) j d
+    collecting-on d j e = record {
+      long = s .keeps .len ∙ g .long;
+      first = g .first;
+      elements = let x = g .elements in record {
+        all = x .all;
+        size = x .size;
+        there = slots-kept ws out 10764 (x .all) (s .keeps .len) (λ i p q. s .keeps .at i (omega arith) (omega (arith, x .size))) (x .there);
+        for = x .for;
+        few = x .few;
+        counts = x .counts;
+      };
+      at = λ all p t o. rest-turn L _ f m k ws out n c r (g .at all p t o) more small (s .keeps) (s .step) .on d j e;
+    }
+
+    pub collecting-refused : (d j : ℕ) → r ≡ Refused d j → Collects L f m count ws₀ (Refused d j) out
+    collecting-refused d j e = record { at = λ all p t o. rest-turn L _ f m k ws out n c r (g .at all p t o) more small (s .keeps) (s .step) .stops d j e }
+
+  pub collecting-end : m ≤ k → Collects L f m count ws₀ (Found c n) ws
+  collecting-end h = record { at = λ all p t o. rest-end L _ f m k ws n c (g .at all p t o) h }
+
+-- A result's table, copied to slot 10, with the sub-questions that are left.
+pub element-filled : (ws : Words) (a : ℕ) (qs : Queries) (from : ℕ) → ElementAt ws a qs from → Packed (drop a ws)
+element-filled ws a qs from e = e .slot .table .packed
+
+pub element-of : (ws : Words) (a : ℕ) (qs : Queries) (from : ℕ) → ElementAt ws a qs from → Element ws a
+element-of ws a qs from e = record { result = e .result; slot = e .slot; one = e .for .one }
+
+pub element-tail : (ws us : Words) (a : ℕ) (qs : Queries) (from : ℕ) → ElementAt ws a qs from → Written ws us 17940 (types-of (drop a ws), end) → Tail (part 17940 us) qs from
+element-tail ws us a qs from e w =
+    let t = part-table 17940 us (types-of (drop a ws)) (w .slot .table) in
+    let same : types-of (part 17940 us) ≡ e .result .0 = t .is ∙ e .slot .table .is in
+    record {
+      packed = t .packed;
+      neat = subst Neat (sym same) (e .for .neat);
+      inside = subst (λ (ts : Types). QueriesIn (length ts) (drop from (queries-of qs))) (sym same) (e .for .inside);
+      few = e .few;
+      counts = e .counts;
+    }
+
+-- Sub-questions: none are left, or one.
+pub sub-none : (L d : ℕ) (a : rules.Finder) (ws out : Words) (qs : Queries) (from count : ℕ) (r : Asked) → qs .n ≤ from → NoneLeft ws count r out → Answers (within (ltb L) (find-subimpls (ask-below d a) (types-of ws) (drop from (queries-of qs))) count) r out
+sub-none L d a ws out qs from count r h n = subst (λ (l : List ImplType). Answers (within (ltb L) (find-subimpls (ask-below d a) (types-of ws) l) count) r out) (sym (queries-none qs from h)) (n .at L (ask-below d a))
+
+pub sub-last : (L d : ℕ) (a : rules.Finder) (ws out : Words) (qs : Queries) (from count : ℕ) (r : Asked) → qs .n ≡ from + 1 → Answers (within (ltb L) (question d a false (types-of ws) (query-of (query-in qs from))) count) r out →
+    Answers (within (ltb L) (find-subimpls (ask-below d a) (types-of ws) (drop from (queries-of qs))) count) r out
+sub-last L d a ws out qs from count r h w = answers-same _ _ r out (ap (λ (m : Run (List Result)). within (ltb L) m count) (ap (find-subimpls (ask-below d a) (types-of ws)) one ∙ tail-last (ask-below d a) (types-of ws) (query-of (query-in qs from)) (question-few d a false (types-of ws) (query-of (query-in qs from))) (question-ones d a false (types-of ws) (query-of (query-in qs from))))) w
+  where
+    one : drop from (queries-of qs) ≡ query-of (query-in qs from) ∷ []
+    one = queries-next qs from (omega arith) ∙ ap (λ (l : List ImplType). query-of (query-in qs from) ∷ l) (queries-none qs (from + 1) (omega arith))
+
+-- The first of more, asked of a copy of the table in slot 5.
+pub first-asking : (ws us : Words) (qs : Queries) (from : ℕ) → Tail ws qs from → from < qs .n → Written ws us 8970 (types-of ws, end) → Asking (part 8970 us) (query-in qs from)
+first-asking ws us qs from t h w =
+    let x = part-table 8970 us (types-of ws) (w .slot .table) in
+    record {
+      packed = x .packed;
+      neat = subst Neat (sym (x .is)) (t .neat);
+      inside = subst (λ (ts : Types). AllIn (length ts) ((query-of (query-in qs from)) .1)) (sym (x .is)) ((subst (QueriesIn (length (types-of ws))) (queries-next qs from h) (t .inside)) .0);
+      few = t .counts from;
+    }
+
+module _ (L d : ℕ) (a : rules.Finder) (sound : Sound a) (ws us ys back : Words) (qs : Queries) (from count : ℕ) (first : Asked) (t : Tail ws qs from) (h : from < qs .n) (room : 17940 ≤ length ws)
+    (copied : Written ws us 8970 (types-of ws, end)) (w : Answers (within (ltb L) (question d a false (types-of (part 8970 us)) (query-of (query-in qs from))) count) first ys) (l : Lent 8970 us ys back) where
+  abbrev q : ImplType
+  q = query-of (query-in qs from)
+
+  same : types-of (part 8970 us) ≡ types-of ws
+  same = part-table 8970 us (types-of ws) (copied .slot .table) .is
+
+  asked : Answers (within (ltb L) (question d a false (types-of ws) q) count) first ys
+  asked = subst (λ (ts : Types). Answers (within (ltb L) (question d a false ts q) count) first ys) same w
+
+  runs : within (ltb L) (find-subimpls (ask-below d a) (types-of ws) (drop from (queries-of qs))) count ≡ within (ltb L) (question d a false (types-of ws) q >>= λ rs. collect (sub-one (ask-below d a) (drop (from + 1) (queries-of qs))) rs []) count
+  runs = ap (λ (m : Run (List Result)). within (ltb L) m count) (ap (find-subimpls (ask-below d a) (types-of ws)) (queries-next qs from h) ∙ tail-next (ask-below d a) (types-of ws) q (drop (from + 1) (queries-of qs)))
+
+  pub sub-refused : (m c : ℕ) (out : Words) → first ≡ Refused m c → Answers (within (ltb L) (find-subimpls (ask-below d a) (types-of ws) (drop from (queries-of qs))) count) (Refused m c) out
+  sub-refused m c out e = answers-refused _ m c out (runs ∙ then-refused (ltb L) (question d a false (types-of ws) q) (λ rs. collect (sub-one (ask-below d a) (drop (from + 1) (queries-of qs))) rs []) count m c (asked .refuses m c e))
+
+  module _ (c m : ℕ) (e : first ≡ Found c m) where
+    g : Got (within (ltb L) (question d a false (types-of ws) q) count) c m ys
+    g = asked .found c m e
+
+    ones : Every One (g .results)
+    ones = came (Every One) ((within (ltb L) (question d a false (types-of ws) q) count) .0) (g .results) (yields-within (Every One) (ltb L) (question d a false (types-of ws) q) count (question-ones d a false (types-of ws) q)) (ap (λ (o : Out (List Result) × ℕ). o .0) (g .is))
+
+    inside : QueriesIn (length (types-of ws)) (q ∷ drop (from + 1) (queries-of qs))
+    inside = subst (QueriesIn (length (types-of ws))) (queries-next qs from h) (t .inside)
+
+    kept : AllKept (types-of ws) (g .results)
+    kept = came (AllKept (types-of ws)) ((within (ltb L) (question d a false (types-of ws) q) count) .0) (g .results)
+        (yields-within (AllKept (types-of ws)) (ltb L) (question d a false (types-of ws) q) count (question-keeps a (sound .question) (sound .ready) d false (types-of ws) q (t .neat) (inside .0)))
+        (ap (λ (o : Out (List Result) × ℕ). o .0) (g .is))
+
+    ready : (rs : List Result) → Every One rs → AllKept (types-of ws) rs → Every (Ready-for qs (from + 1)) rs
+    ready [] o k = tt
+    ready (r ∷ rs) o k = (
+      record {
+        one = o .0;
+        neat = k .0 .neat;
+        inside = every-weaken (λ (p : ImplType). AllIn (length (types-of ws)) (p .1)) (λ (p : ImplType). AllIn (length (r .0)) (p .1)) (λ p. in-more (length (types-of ws)) (length (r .0)) (k .0 .grown) (p .1)) (drop (from + 1) (queries-of qs)) (inside .1);
+      },
+      ready rs (o .1) (k .1))
+
+    stands : Slots back 10764 (g .results)
+    stands = slots-back 8970 1794 us ys back (g .results) l (omega (arith, g .size, g .few, copied .len)) (g .stand)
+
+    pub sub-low : c ≤ 4000000000
+    sub-low = g .low
+
+    pub sub-few : m ≤ 4
+    sub-few = g .few
+
+    pub sub-elements : Elements back m qs (from + 1)
+    sub-elements = record { all = g .results; size = g .size; there = stands; for = ready (g .results) ones kept; few = t .few; counts = t .counts }
+
+    pub sub-goes : (r : Asked) (out : Words) → Collects L (sub-one (ask-below d a) (drop (from + 1) (queries-of qs))) m c back r out → Answers (within (ltb L) (find-subimpls (ask-below d a) (types-of ws) (drop from (queries-of qs))) count) r out
+    sub-goes r out k = answers-same _ _ r out (runs ∙ then-got (ltb L) (question d a false (types-of ws) q) (λ rs. collect (sub-one (ask-below d a) (drop (from + 1) (queries-of qs))) rs []) count c (g .results) (g .is)) (k .at (g .results) (g .size) stands ones)
