@@ -2,7 +2,7 @@
 use Prim.Native.Nat.{ℕ, zero, suc, _+_, _-_, _*_, _≤_, _<_}
 use mathlib.Core.Path.{_≡_, refl, sym, _∙_, ap, subst}
 use mathlib.Core.Bool.{Bool, true, false}
-use mathlib.Core.Logic.{_≢_}
+use mathlib.Core.Logic.{_≢_, inl}
 use mathlib.Core.List.{List, [], _∷_, _++_, map}
 use native.Mathlib.Omega.{arith}
 use lib.Dec.{eqb, ltb}
@@ -26,10 +26,13 @@ use Rattle.trees.specs.Forests.{Single}
 use Rattle.slots.specs.declared.Asked.{Asked}
 use Rattle.slots.specs.declared.Asked.the-variants.{Found, Refused}
 use Rattle.slots.specs.Slots.{slot·length, Table, Slot, Slots, Written, slots-kept}
-use Rattle.slots.specs.Adding.{Element}
+use Rattle.slots.specs.Adding.{under, Element}
+use Rattle.slots.specs.Copies.{Beside}
 use Rattle.slots.specs.Gathering.{Row}
 use Rattle.slots.specs.Turns.{Got, Answers, answers-refused, answers-same, then-got, then-refused, adding, Going, Stepped, going-start, going-same, collect-next, collect-none}
-use Rattle.slots.specs.Parts.{part, part-table, Lent, slots-back}
+use Rattle.slots.specs.Parts.{part, part-length, part-table, Lent, lent, slots-back}
+use Rattle.slots.specs.Settling.{Sub, Settles, JoinSettles}
+use borrow.Rule.Slice.PartMut.{putMid}
 use Rattle.candidates.specs.Index.{Indexes}
 use Rattle.candidates.specs.Find.{Standing, from-on}
 use Rattle.admitted.specs.declared.Found.{Found as Sets}
@@ -40,13 +43,13 @@ use Rattle.queries.specs.declared.Query.{Query}
 use Rattle.queries.specs.declared.Queries.{Queries}
 use Rattle.queries.specs.Queries.{query-of, query-in, queries-of, queries-next, queries-none}
 use Rattle.finder.specs.declared.Finder.{Finder}
-use Rattle.finder.specs.Asking.{finder-of, Sound, Searching, Front, Asking, Tail, Begins, front-table, asking-table}
-use Rattle.finder.specs.Loops.{Stepping, stepping-start, stepping-same, stepping-end, stepping-on, stepping-refused}
+use Rattle.finder.specs.Asking.{finder-of, Sound, Searching, Front, Asking, Tail, Begins, Opens, front-table, asking-table, tail-asking}
+use Rattle.finder.specs.Loops.{Stepping, stepping-start, stepping-few, stepping-low, stepping-same, stepping-end, stepping-on, stepping-refused}
 use Rattle.finder.specs.Singles.{One, question-ones}
 use Rattle.finder.specs.Steps.{ask-below, candidates-left, question-over, question-deep, question-start}
 use Rattle.finder.specs.Tails.{sub-one, tail-none, tail-next, tail-last, Resting, Rested, Keeps, rest-turn, rest-end}
 use Rattle.finder.specs.Built.{NoneLeft}
-use Rattle.finder.specs.Members.{CandidateStep, ResultStep}
+use Rattle.finder.specs.Members.{CandidateStep, ResultStep, candidate-stops, candidate-none, candidate-sub, candidate-steps, result-sub, result-element, result-steps}
 
 -- The next candidate, or a number past every impl.
 pub record NextId (s ws : Words) (f : Sets) (from r : ℕ) : Type 0 where
@@ -82,21 +85,28 @@ module _ (L : ℕ) (a : rules.Finder) (basic : Bool) (q : ImplType) (d count : �
       stood : Got (within (ltb L) (before-candidates a basic (types-of ws) q) (count + 1)) c n us
       stood = b .at L .found c n e
 
-      pub begun-low : c ≤ 4000000000
-      begun-low = stood .low
-
-      pub begun-few : n ≤ 4
-      begun-few = stood .few
-
-      pub begun-row : Row us 1794 n
-      begun-row = record { results = stood .results; size = stood .size; slots = stood .stand }
-
       pub question-goes : (r : Asked) (out : Words) → Packed ws → Stepped L (candidates-left (d - 1) a basic (types-of us) q) n c us r out → Answers (within (ltb L) (question d a basic (types-of ws) q) count) r out
       question-goes r out p s =
           let t = front-table ws us (b .front .len) (b .front .at) p in
           answers-same _ (within (ltb L) (candidates-left (d - 1) a basic (types-of ws) q (stood .results)) c) r out
           (starts ∙ then-got (ltb L) (before-candidates a basic (types-of ws) q) (λ fs. candidates-left (d - 1) a basic (types-of ws) q fs) (count + 1) c (stood .results) (stood .is))
           (subst (λ (ts : Types). Answers (within (ltb L) (candidates-left (d - 1) a basic ts q (stood .results)) c) r out) (t .is) (s .at (stood .results) (stood .size) (stood .stand)))
+
+module _ (a : rules.Finder) (basic : Bool) (ws us : Words) (q : ImplType) (count : ℕ) (first : Asked) (b : Begins a basic ws q count first us) (c n : ℕ) (e : first ≡ Found c n) where
+  began : Got (within (ltb 0) (before-candidates a basic (types-of ws) q) count) c n us
+  began = b .at 0 .found c n e
+
+  pub begun-low : c ≤ 4000000000
+  begun-low = began .low
+
+  pub begun-few : n ≤ 4
+  begun-few = began .few
+
+  pub begun-row : Row us 1794 n
+  begun-row = record { results = began .results; size = began .size; slots = began .stand }
+
+pub begun-long : (a : rules.Finder) (basic : Bool) (ws us : Words) (p : ImplType) (count : ℕ) (r : Asked) → Begins a basic ws p count r us → length us ≡ length ws
+begun-long a basic ws us p count r b = b .front .len
 
 pub begun-asking : (a : rules.Finder) (basic : Bool) (ws us : Words) (q : Query) (p : ImplType) (count : ℕ) (r : Asked) → Asking ws q → Begins a basic ws p count r us → Asking us q
 begun-asking a basic ws us q p count r h b = asking-table ws us q h (front-table ws us (b .front .len) (b .front .at) (h .packed))
@@ -110,6 +120,30 @@ pub record Trying (s sets : Words) (f : Finder) (basic : ℕ) (q : Query) (d : �
   pub next : id < 384 → left ≡ id ∷ from-on (id + 1) (ids s (f .source) x)
   pub none : 384 ≤ id → left ≡ []
   pub going : Stepping (f .limit) (candidates-left d (finder-of s f) (eqb basic 1) (types-of ws₀) (query-of q)) (λ fs. collect (try-candidate (ask-below d (finder-of s f)) s (types-of ws₀) (query-of q)) left fs) n₀ c₀ ws₀ n c ws
+
+module _ (s sets : Words) (f : Finder) (basic : ℕ) (q : Query) (d : ℕ) (x : Sets) (n₀ c₀ : ℕ) (ws₀ ws : Words) (id n c : ℕ) (t : Trying s sets f basic q d x n₀ c₀ ws₀ ws id n c) where
+  pub trying-asking : Asking ws q
+  trying-asking = t .asking
+
+  pub trying-up : id < 384 → id < many s header·impls
+  trying-up = t .up
+
+  pub trying-long : length ws ≡ length ws₀
+  trying-long = t .front .len
+
+  pub trying-few : n ≤ 4
+  trying-few = stepping-few (f .limit) _ n₀ c₀ ws₀ _ n c ws (t .going)
+
+  pub trying-low : c ≤ 4000000000
+  trying-low = stepping-low (f .limit) _ n₀ c₀ ws₀ _ n c ws (t .going)
+
+-- The next lies behind it.
+pub trying-less : (s ws : Words) (x : Sets) (id next : ℕ) → id < 384 → NextId s ws x (id + 1) next → 384 - next < 384 - id
+trying-less s ws x id next h g = go (384 - next) refl
+  where
+    go : (k : ℕ) → 384 - next ≡ k → 384 - next < 384 - id
+    go zero e = omega arith
+    go (suc k) e = omega (arith, g .up (omega arith) .0)
 
 module _ (s sets : Words) (f : Finder) (basic : ℕ) (q : Query) (d : ℕ) (x : Sets) (n₀ c₀ : ℕ) (ws₀ : Words) (search : Searching s sets f) (sets-are : Finds s (f .source) (types-of ws₀) (query-of q) basic x) where
   -- Where candidates cannot be looked for,
@@ -215,6 +249,9 @@ module _ (L : ℕ) (f : Result → Run (List Result)) (m count : ℕ) (qs : Quer
 
   pub collecting-few : n ≤ 4
   collecting-few = now-at .going .few
+
+  pub collecting-long : length ws ≡ length ws₀
+  collecting-long = g .long
 
   pub collecting-low : c ≤ 4000000000
   collecting-low = now-at .going .low
@@ -338,7 +375,8 @@ module _ (L d : ℕ) (a : rules.Finder) (sound : Sound a) (ws us ys back : Words
         neat = k .0 .neat;
         inside = every-weaken (λ (p : ImplType). AllIn (length (types-of ws)) (p .1)) (λ (p : ImplType). AllIn (length (r .0)) (p .1)) (λ p. in-more (length (types-of ws)) (length (r .0)) (k .0 .grown) (p .1)) (drop (from + 1) (queries-of qs)) (inside .1);
       },
-      ready rs (o .1) (k .1))
+      ready rs (o .1) (k .1),
+    )
 
     stands : Slots back 10764 (g .results)
     stands = slots-back 8970 1794 us ys back (g .results) l (omega (arith, g .size, g .few, copied .len)) (g .stand)
@@ -354,3 +392,113 @@ module _ (L d : ℕ) (a : rules.Finder) (sound : Sound a) (ws us ys back : Words
 
     pub sub-goes : (r : Asked) (out : Words) → Collects L (sub-one (ask-below d a) (drop (from + 1) (queries-of qs))) m c back r out → Answers (within (ltb L) (find-subimpls (ask-below d a) (types-of ws) (drop from (queries-of qs))) count) r out
     sub-goes r out k = answers-same _ _ r out (runs ∙ then-got (ltb L) (question d a false (types-of ws) q) (λ rs. collect (sub-one (ask-below d a) (drop (from + 1) (queries-of qs))) rs []) count c (g .results) (g .is)) (k .at (g .results) (g .size) stands ones)
+
+-- What a candidate comes to once it is opened.
+pub searching-sound : (s sets : Words) (f : Finder) → Searching s sets f → Sound (finder-of s f)
+searching-sound s sets f h = h .sound
+
+pub searching-stands : (s sets : Words) (f : Finder) → Searching s sets f → Stands s (f .source) sets
+searching-stands s sets f h = h .stands
+
+pub searching-indexed : (s sets : Words) (f : Finder) → Searching s sets f → Indexes s sets
+searching-indexed s sets f h = h .stands .sets .indexes
+
+module _ (s ws us : Words) (q : ImplType) (i : ℕ) (qs : Queries) (o : Opens s ws q i qs us) where
+  pub opened-full : (L n cur : ℕ) (ask : Types → ImplType → Run (List Result)) → qs .n ≡ 5 → CandidateStep L (try-candidate ask s (types-of ws) q i) n cur ws (Refused 14 cur) us
+  opened-full L n cur ask e = candidate-stops L _ n cur 14 ws us (o .full e ask) (o .opened)
+
+  pub opened-unfit : (L n cur : ℕ) (ask : Types → ImplType → Run (List Result)) → qs .n ≡ 6 → n ≤ 4 → cur ≤ 4000000000 → CandidateStep L (try-candidate ask s (types-of ws) q i) n cur ws (Found cur n) us
+  opened-unfit L n cur ask e few low = candidate-none L _ n cur ws us (o .unfit e ask) (o .opened) few low
+
+  module _ (full : qs .n ≢ 5) (unfit : qs .n ≢ 6) where
+    pub opened-tail : Tail (part 8970 us) qs 0
+    opened-tail = o .tail full unfit
+
+    pub opened-few : qs .n ≤ 4
+    opened-few = opened-tail .few
+
+    pub opened-part : (d : ℕ) → 62790 * d + 71760 ≤ length ws → 62790 * d + 8970 + 17940 * (qs .n - 0 - 1) ≤ length (part 8970 us)
+    opened-part d h = omega (arith, part-length 8970 us, o .opened .len, opened-few)
+
+    module _ (L cur : ℕ) (ask : Types → ImplType → Run (List Result)) (ys : Words) (asked : Asked) (room : 17940 ≤ length ws) (w : Answers (within (ltb L) (find-subimpls ask (types-of (part 8970 us)) (drop 0 (queries-of qs))) cur) asked ys) (l : length ys ≡ length (part 8970 us)) where
+      back : Lent 8970 us ys (putMid 8970 (length us - 8970) us ys)
+      back = lent 8970 us ys (omega (arith, o .opened .len)) l
+
+      pub opened-long : length (putMid 8970 (length us - 8970) us ys) ≡ length ws
+      opened-long = back .long ∙ o .opened .len
+
+      pub opened-sub : Sub (putMid 8970 (length us - 8970) us ys) 10764 asked
+      opened-sub = candidate-sub L 0 cur i ask (queries-of qs) ws us ys _ us asked asked (omega arith) room (o .opened) w back
+
+      pub opened-steps : (n : ℕ) (r : Asked) (out : Words) → n ≤ 4 → Settles (under i) (putMid 8970 (length us - 8970) us ys) out n 10764 asked r → CandidateStep L (try-candidate ask s (types-of ws) q i) n cur ws r out
+      opened-steps n r out few t = candidate-steps L n cur i ask (queries-of qs) ws us ys _ out asked r few room (o .opened) w back _ (o .asks full unfit ask) t
+
+-- A result once its table is copied, and those that are left are asked of it.
+module _ (L cur k : ℕ) (ask : Types → ImplType → Run (List Result)) (ws us : Words) (qs : Queries) (from : ℕ) (e : ElementAt ws (10764 + 1794 * k) qs from) (below : k < 4) (room : 26910 ≤ length ws)
+    (c : Written ws us 17940 (types-of (drop (10764 + 1794 * k) ws), end)) (ys : Words) (asked : Asked) (w : Answers (within (ltb L) (find-subimpls ask (types-of (part 17940 us)) (drop from (queries-of qs))) cur) asked ys) (l : length ys ≡ length (part 17940 us)) where
+  returned : Lent 17940 us ys (putMid 17940 (length us - 17940) us ys)
+  returned = lent 17940 us ys (omega (arith, c .len)) l
+
+  pub rest-long : length (putMid 17940 (length us - 17940) us ys) ≡ length ws
+  rest-long = returned .long ∙ c .len
+
+  pub rest-element : Element (putMid 17940 (length us - 17940) us ys) (10764 + 1794 * k)
+  rest-element = result-element L 0 cur k ask (drop from (queries-of qs)) ws us ys _ us asked asked (omega arith) below room c w returned (element-of ws (10764 + 1794 * k) qs from e)
+
+  pub rest-sub : Sub (putMid 17940 (length us - 17940) us ys) 19734 asked
+  rest-sub = result-sub L 0 cur k ask (drop from (queries-of qs)) ws us ys _ us asked asked (omega arith) below room c w returned
+
+  pub rest-steps : (n : ℕ) (r : Asked) (out : Words) → n ≤ 4 → JoinSettles (putMid 17940 (length us - 17940) us ys) out n (10764 + 1794 * k) 19734 asked r → ResultStep L (sub-one ask (drop from (queries-of qs))) k n cur ws r out
+  rest-steps n r out few j = result-steps L n cur k ask (drop from (queries-of qs)) ws us ys _ out asked r few below room c w returned (element-of ws (10764 + 1794 * k) qs from e) j
+
+-- Slots that lie apart.
+pub beside-rest : (k : ℕ) → k < 4 → Beside (10764 + 1794 * k) 17940
+beside-rest k h = record { either = inl (omega arith) }
+
+pub beside-sub : Beside 0 8970
+beside-sub = record { either = inl (omega arith) }
+
+-- Room in the parts that are lent.
+pub rest-part : (ws us : Words) (a d l : ℕ) → 62790 * d + 8970 + 17940 * l ≤ length ws → 0 < l → Written ws us 17940 (types-of (drop a ws), end) → 62790 * d + 8970 + 17940 * (l - 1) ≤ length (part 17940 us)
+rest-part ws us a d l h p w = omega (arith, part-length 17940 us, w .len)
+
+pub first-part : (ws us : Words) (d l : ℕ) → 62790 * d + 8970 + 17940 * l ≤ length ws → 0 < l → Written ws us 8970 (types-of ws, end) → 62790 * d + 8970 ≤ length (part 8970 us)
+first-part ws us d l h p w = omega (arith, part-length 8970 us, w .len)
+
+pub sub-long : (ws us ys : Words) → Written ws us 8970 (types-of ws, end) → 17940 ≤ length ws → length ys ≡ length (part 8970 us) → length (putMid 8970 (length us - 8970) us ys) ≡ length ws
+sub-long ws us ys w h e = lent 8970 us ys (omega (arith, w .len)) e .long ∙ w .len
+
+-- The same of a sub-question that was read.
+pub tail-asked : (ws : Words) (qs : Queries) (from : ℕ) (q : Query) → Tail ws qs from → q ≡ query-in qs from → qs .n ≡ from + 1 → Asking ws q
+tail-asked ws qs from q t e h = subst (Asking ws) (sym e) (tail-asking ws qs from t (omega arith))
+
+pub sub-last-of : (L d : ℕ) (a : rules.Finder) (ws out : Words) (qs : Queries) (from count : ℕ) (q : Query) (r : Asked) → qs .n ≡ from + 1 → q ≡ query-in qs from → Answers (within (ltb L) (question d a (eqb 0 1) (types-of ws) (query-of q)) count) r out →
+    Answers (within (ltb L) (find-subimpls (ask-below d a) (types-of ws) (drop from (queries-of qs))) count) r out
+sub-last-of L d a ws out qs from count q r h e w = sub-last L d a ws out qs from count r h (subst (λ (p : Query). Answers (within (ltb L) (question d a false (types-of ws) (query-of p)) count) r out) e w)
+
+pub first-asked : (ws us : Words) (qs : Queries) (from : ℕ) (q : Query) → Tail ws qs from → q ≡ query-in qs from → from < qs .n → Written ws us 8970 (types-of ws, end) → Asking (part 8970 us) q
+first-asked ws us qs from q t e h w = subst (Asking (part 8970 us)) (sym e) (first-asking ws us qs from t h w)
+
+module _ (L d : ℕ) (s sets : Words) (f : Finder) (search : Searching s sets f) (ws us ys : Words) (qs : Queries) (from count : ℕ) (q : Query) (first : Asked) (t : Tail ws qs from) (e : q ≡ query-in qs from) (h : from < qs .n) (room : 17940 ≤ length ws)
+    (copied : Written ws us 8970 (types-of ws, end)) (w : Answers (within (ltb L) (question d (finder-of s f) (eqb 0 1) (types-of (part 8970 us)) (query-of q)) count) first ys) (k : length ys ≡ length (part 8970 us)) where
+  gone : Answers (within (ltb L) (question d (finder-of s f) false (types-of (part 8970 us)) (query-of (query-in qs from))) count) first ys
+  gone = subst (λ (p : Query). Answers (within (ltb L) (question d (finder-of s f) false (types-of (part 8970 us)) (query-of p)) count) first ys) e w
+
+  came-back : Lent 8970 us ys (putMid 8970 (length us - 8970) us ys)
+  came-back = lent 8970 us ys (omega (arith, copied .len)) k
+
+  pub asked-refused : (m c : ℕ) → first ≡ Refused m c → Answers (within (ltb L) (find-subimpls (ask-below d (finder-of s f)) (types-of ws) (drop from (queries-of qs))) count) (Refused m c) (putMid 8970 (length us - 8970) us ys)
+  asked-refused m c p = sub-refused L d (finder-of s f) (search .sound) ws us ys _ qs from count first t h room copied gone came-back m c _ p
+
+  module _ (c m : ℕ) (p : first ≡ Found c m) where
+    pub asked-low : c ≤ 4000000000
+    asked-low = sub-low L d (finder-of s f) (search .sound) ws us ys _ qs from count first t h room copied gone came-back c m p
+
+    pub asked-few : m ≤ 4
+    asked-few = sub-few L d (finder-of s f) (search .sound) ws us ys _ qs from count first t h room copied gone came-back c m p
+
+    pub asked-elements : Elements (putMid 8970 (length us - 8970) us ys) m qs (from + 1)
+    asked-elements = sub-elements L d (finder-of s f) (search .sound) ws us ys _ qs from count first t h room copied gone came-back c m p
+
+    pub asked-goes : (r : Asked) (out : Words) → Collects L (sub-one (ask-below d (finder-of s f)) (drop (from + 1) (queries-of qs))) m c (putMid 8970 (length us - 8970) us ys) r out → Answers (within (ltb L) (find-subimpls (ask-below d (finder-of s f)) (types-of ws) (drop from (queries-of qs))) count) r out
+    asked-goes r out x = sub-goes L d (finder-of s f) (search .sound) ws us ys _ qs from count first t h room copied gone came-back c m p r out x

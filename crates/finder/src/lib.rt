@@ -14,7 +14,7 @@ ghost use Rattle.slots.specs.Turns.{Answers, Stepped};
 ghost use Rattle.candidates.specs.Index.{Indexes};
 ghost use Rattle.admitted.specs.Found.{Stands, Finds};
 ghost use Rattle.queries.specs.Queries.{query-of, queries-of};
-ghost use Rattle.finder.specs.Asking.{finder-of, Sound, Searching, Scratch, Asking, Tail, Begins, Opens};
+ghost use Rattle.finder.specs.Asking.{finder-of, Sound, Searching, Asking, Tail, Begins, Opens};
 ghost use Rattle.finder.specs.Steps.{ask-below, candidates-left};
 ghost use Rattle.finder.specs.Tails.{sub-one};
 ghost use Rattle.finder.specs.Members.{CandidateStep, ResultStep};
@@ -98,18 +98,8 @@ fn add_autos(sheet: &[u32], ws: &mut [u32], q: Query, count: u32) -> Asked
 }
 
 // Built-in fork and drop, then the generics' impl parameters.
-fn before_candidates(
-    sheet: &[u32],
-    ws: &mut [u32],
-    places: &mut [u32],
-    map: &mut [u32],
-    f: Finder,
-    basic: u32,
-    q: Query,
-    count: u32,
-) -> Asked
+fn begin(sheet: &[u32], ws: &mut [u32], f: Finder, basic: u32, q: Query, count: u32) -> Asked
     requires { ⌜ Sound (finder-of (now sheet) f) ⌝ }
-    requires { ⌜ Scratch (now places) (now map) ⌝ }
     requires { ⌜ Asking (now ws) q ⌝ }
     requires { ⌜ 10764 ≤ length (now ws) ⌝ }
     requires { ⌜ basic < 2 ⌝ }
@@ -120,17 +110,8 @@ fn before_candidates(
 }
 
 // Opens a candidate behind slot 4: the table there is that of its sub-questions.
-fn open_candidate(
-    sheet: &[u32],
-    ws: &mut [u32],
-    places: &mut [u32],
-    map: &mut [u32],
-    f: Finder,
-    q: Query,
-    i: usize,
-) -> Queries
+fn open_one(sheet: &[u32], ws: &mut [u32], f: Finder, q: Query, i: usize) -> Queries
     requires { ⌜ Sound (finder-of (now sheet) f) ⌝ }
-    requires { ⌜ Scratch (now places) (now map) ⌝ }
     requires { ⌜ Asking (now ws) q ⌝ }
     requires { ⌜ 10764 ≤ length (now ws) ⌝ }
     requires { ⌜ i < many (now sheet) header·impls ⌝ }
@@ -185,8 +166,6 @@ fn question(
     sheet: &[u32],
     sets: &[u32],
     ws: &mut [u32],
-    places: &mut [u32],
-    map: &mut [u32],
     f: Finder,
     basic: u32,
     q: Query,
@@ -194,7 +173,6 @@ fn question(
     count: u32,
 ) -> Asked
     requires { ⌜ Searching (now sheet) (now sets) f ⌝ }
-    requires { ⌜ Scratch (now places) (now map) ⌝ }
     requires { ⌜ Asking (now ws) q ⌝ }
     requires { ⌜ 62790 * depth + 8970 ≤ length (now ws) ⌝ }
     requires { ⌜ basic < 2 ⌝ }
@@ -213,11 +191,11 @@ fn question(
             count: count + 1,
         };
     }
-    let first = before_candidates(sheet, ws, places, map, f, basic, q, count + 1);
+    let first = begin(sheet, ws, f, basic, q, count + 1);
     match first {
         Asked::Refused { number, count } => Asked::Refused { number, count },
         Asked::Found { count, n } => {
-            candidates(sheet, sets, ws, places, map, f, basic, q, depth - 1, n, count)
+            candidates(sheet, sets, ws, f, basic, q, depth - 1, n, count)
         }
     }
 }
@@ -227,8 +205,6 @@ fn candidates(
     sheet: &[u32],
     sets: &[u32],
     ws: &mut [u32],
-    places: &mut [u32],
-    map: &mut [u32],
     f: Finder,
     basic: u32,
     q: Query,
@@ -237,7 +213,6 @@ fn candidates(
     count: u32,
 ) -> Asked
     requires { ⌜ Searching (now sheet) (now sets) f ⌝ }
-    requires { ⌜ Scratch (now places) (now map) ⌝ }
     requires { ⌜ Asking (now ws) q ⌝ }
     requires { ⌜ 62790 * depth + 71760 ≤ length (now ws) ⌝ }
     requires { ⌜ basic < 2 ⌝ }
@@ -257,7 +232,7 @@ fn candidates(
     let mut cur = count;
     let mut id = next_id(sheet, sets, found, 0);
     while id < NONE {
-        let one = candidate(sheet, sets, ws, places, map, f, q, id, depth, stand, cur);
+        let one = candidate(sheet, sets, ws, f, q, id, depth, stand, cur);
         match one {
             Asked::Refused { number, count } => {
                 return Asked::Refused { number, count };
@@ -280,8 +255,6 @@ fn candidate(
     sheet: &[u32],
     sets: &[u32],
     ws: &mut [u32],
-    places: &mut [u32],
-    map: &mut [u32],
     f: Finder,
     q: Query,
     i: usize,
@@ -290,7 +263,6 @@ fn candidate(
     count: u32,
 ) -> Asked
     requires { ⌜ Searching (now sheet) (now sets) f ⌝ }
-    requires { ⌜ Scratch (now places) (now map) ⌝ }
     requires { ⌜ Asking (now ws) q ⌝ }
     requires { ⌜ i < many (now sheet) header·impls ⌝ }
     requires { ⌜ 62790 * depth + 71760 ≤ length (now ws) ⌝ }
@@ -298,14 +270,14 @@ fn candidate(
     requires { ⌜ n ≤ 4 ⌝ }
     ensures { λ r. ⌜ CandidateStep (f .limit) (try-candidate (ask-below depth (finder-of (now (sheet .entry)) f)) (now (sheet .entry)) (types-of (now (ws .entry))) (query-of q) i) n count (now (ws .entry)) r (now (ws .exit)) ⌝ }
 {
-    let qs = open_candidate(sheet, ws, places, map, f, q, i);
+    let qs = open_one(sheet, ws, f, q, i);
     if qs.n == FULL {
         return Asked::Refused { number: 14, count };
     }
     if qs.n == UNFIT {
         return Asked::Found { count, n };
     }
-    let asked = sub_questions(sheet, sets, &mut ws[SUB..], places, map, f, qs, 0, depth, count);
+    let asked = sub_questions(sheet, sets, &mut ws[SUB..], f, qs, 0, depth, count);
     slots::settle_wrapped(ws, asked, n, RESULTS, i as u32)
 }
 
@@ -314,8 +286,6 @@ fn sub_questions(
     sheet: &[u32],
     sets: &[u32],
     ws: &mut [u32],
-    places: &mut [u32],
-    map: &mut [u32],
     f: Finder,
     qs: Queries,
     from: usize,
@@ -323,7 +293,6 @@ fn sub_questions(
     count: u32,
 ) -> Asked
     requires { ⌜ Searching (now sheet) (now sets) f ⌝ }
-    requires { ⌜ Scratch (now places) (now map) ⌝ }
     requires { ⌜ Tail (now ws) qs from ⌝ }
     requires { ⌜ 62790 * depth + 8970 + 17940 * (qs .n - from - 1) ≤ length (now ws) ⌝ }
     requires { ⌜ count ≤ 4000000000 ⌝ }
@@ -334,15 +303,13 @@ fn sub_questions(
     }
     let q = queries::query_at(qs, from);
     if qs.n == from + 1 {
-        return question(sheet, sets, ws, places, map, f, 0, q, depth, count);
+        return question(sheet, sets, ws, f, 0, q, depth, count);
     }
     slots::copy_table_slot(ws, 0, SUB);
-    let first = question(sheet, sets, &mut ws[SUB..], places, map, f, 0, q, depth, count);
+    let first = question(sheet, sets, &mut ws[SUB..], f, 0, q, depth, count);
     match first {
         Asked::Refused { number, count } => Asked::Refused { number, count },
-        Asked::Found { count, n } => {
-            results(sheet, sets, ws, places, map, f, qs, from + 1, depth, n, count)
-        }
+        Asked::Found { count, n } => { results(sheet, sets, ws, f, qs, from + 1, depth, n, count) }
     }
 }
 
@@ -351,8 +318,6 @@ fn results(
     sheet: &[u32],
     sets: &[u32],
     ws: &mut [u32],
-    places: &mut [u32],
-    map: &mut [u32],
     f: Finder,
     qs: Queries,
     from: usize,
@@ -361,7 +326,6 @@ fn results(
     count: u32,
 ) -> Asked
     requires { ⌜ Searching (now sheet) (now sets) f ⌝ }
-    requires { ⌜ Scratch (now places) (now map) ⌝ }
     requires { ⌜ Elements (now ws) m qs from ⌝ }
     requires { ⌜ 62790 * depth + 8970 + 17940 * (qs .n - from) ≤ length (now ws) ⌝ }
     requires { ⌜ from < qs .n ⌝ }
@@ -373,7 +337,7 @@ fn results(
     let mut cur = count;
     let mut k = 0;
     while k < m {
-        let one = result(sheet, sets, ws, places, map, f, qs, from, depth, k, stand, cur);
+        let one = result(sheet, sets, ws, f, qs, from, depth, k, stand, cur);
         match one {
             Asked::Refused { number, count } => {
                 return Asked::Refused { number, count };
@@ -396,8 +360,6 @@ fn result(
     sheet: &[u32],
     sets: &[u32],
     ws: &mut [u32],
-    places: &mut [u32],
-    map: &mut [u32],
     f: Finder,
     qs: Queries,
     from: usize,
@@ -407,7 +369,6 @@ fn result(
     count: u32,
 ) -> Asked
     requires { ⌜ Searching (now sheet) (now sets) f ⌝ }
-    requires { ⌜ Scratch (now places) (now map) ⌝ }
     requires { ⌜ ElementAt (now ws) (10764 + 1794 * k) qs from ⌝ }
     requires { ⌜ 62790 * depth + 8970 + 17940 * (qs .n - from) ≤ length (now ws) ⌝ }
     requires { ⌜ from < qs .n ⌝ }
@@ -418,6 +379,6 @@ fn result(
 {
     let element = RESULTS + slots::SLOT * k;
     slots::copy_table_slot(ws, element, REST);
-    let asked = sub_questions(sheet, sets, &mut ws[REST..], places, map, f, qs, from, depth, count);
+    let asked = sub_questions(sheet, sets, &mut ws[REST..], f, qs, from, depth, count);
     slots::settle_joined(ws, asked, n, element, REST + slots::SLOT)
 }

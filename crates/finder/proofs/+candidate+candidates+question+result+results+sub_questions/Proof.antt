@@ -1,4 +1,14 @@
-use Prim.Native.Nat.{ℕ, _<_}
+use Rattle.finder.specs.Cycle.{Trying, tail-asked, Collecting, few-impls, question-limit, question-depth, question-refused, begun-low, begun-few, begun-row, question-goes, begun-asking, sets-refused, trying-start, trying-refused, trying-on, trying-end, collecting-start, collecting-few, collecting-low, collecting-element, collecting-on, collecting-refused, collecting-end, element-filled, element-tail, sub-none, sub-last-of, first-asked, asked-refused, asked-low, asked-few, asked-elements, asked-goes, searching-sound, searching-stands, searching-indexed, opened-full, opened-unfit, opened-tail, opened-few, opened-sub, opened-long, opened-part, opened-steps, rest-long, rest-element, rest-sub, rest-steps, beside-rest, beside-sub, trying-asking, trying-up, trying-long, trying-low, trying-few, trying-less, begun-long, collecting-long, rest-part, first-part, sub-long}
+use Rattle.finder.specs.Tails.{sub-one}
+use Rattle.finder.specs.Steps.{ask-below}
+use Rattle.finder.specs.Asking.{finder-of}
+use Rattle.slots.specs.Parts.{part-length}
+use Rattle.queries.specs.Queries.{queries-of}
+use lib.ListN.{length, drop}
+use mathlib.Core.Path.{_≡_}
+use borrow.Author.Needs.{needs}
+use native.Mathlib.Omega.{arith}
+use Prim.Native.Nat.{ℕ, _+_, _-_, _*_, _<_}
 use borrow.Fn.Kinds.{In}
 use borrow.Fn.PlainCycle.{Measures, is, falls, and}
 use Rattle.finder.proofs.candidate.Reads as candidate
@@ -19,11 +29,11 @@ use Rattle.finder.proofs.+candidate+candidates+question+result+results+
 use Rattle.finder.proofs.sub_questions.Reads as sub-questions
 use Rattle.finder.proofs.sub_questions.Kinds as sub-questions-kinds
 use Rattle.finder.proofs.+candidate+candidates+question+result+results+sub_questions.Lts-sub_questions as sub-questions-lts
-use Rattle.finder.proofs.before_candidates.Reads as before-candidates-reads
+use Rattle.finder.proofs.begin.Reads as begin-reads
 use Rattle.finder.proofs.find_candidates.Reads as find-candidates-reads
 use Rattle.finder.proofs.next_id.Reads as next-id-reads
 use Rattle.finder.proofs.none_left.Reads as none-left-reads
-use Rattle.finder.proofs.open_candidate.Reads as open-candidate-reads
+use Rattle.finder.proofs.open_one.Reads as open-one-reads
 use Rattle.queries.proofs.query_at.Reads as query-at-reads
 use Rattle.slots.proofs.copy_table_slot.Reads as copy-table-slot-reads
 use Rattle.slots.proofs.settle_joined.Reads as settle-joined-reads
@@ -35,821 +45,321 @@ use Rattle.finder.proofs.+candidate+candidates+question+result+results+
   close,
 }
 
-abbrev μ-candidate : Measures 5 candidate-kinds.ps ℕ
-μ-candidate κs a = ?
+abbrev μ-candidate : Measures 3 candidate-kinds.ps ℕ
+μ-candidate κs a = 20 * (a .1 .1 .1 .1 .1 .1 .0) + 16
 
-abbrev μ-candidates : Measures 5 candidates-kinds.ps ℕ
-μ-candidates κs a = ?
+abbrev μ-candidates : Measures 3 candidates-kinds.ps ℕ
+μ-candidates κs a = 20 * (a .1 .1 .1 .1 .1 .1 .0) + 18
 
-abbrev μ-question : Measures 5 question-kinds.ps ℕ
-μ-question κs a = ?
+abbrev μ-question : Measures 3 question-kinds.ps ℕ
+μ-question κs a = 20 * (a .1 .1 .1 .1 .1 .1 .0)
 
-abbrev μ-result : Measures 5 result-kinds.ps ℕ
-μ-result κs a = ?
+abbrev μ-result : Measures 3 result-kinds.ps ℕ
+μ-result κs a = 20 * (a .1 .1 .1 .1 .1 .1 .0) + 3 + 3 * (a .1 .1 .1 .1 .0 .n - a .1 .1 .1 .1 .1 .0)
 
-abbrev μ-results : Measures 5 results-kinds.ps ℕ
-μ-results κs a = ?
+abbrev μ-results : Measures 3 results-kinds.ps ℕ
+μ-results κs a = 20 * (a .1 .1 .1 .1 .1 .1 .0) + 4 + 3 * (a .1 .1 .1 .1 .0 .n - a .1 .1 .1 .1 .1 .0)
 
-abbrev μ-sub-questions : Measures 5 sub-questions-kinds.ps ℕ
-μ-sub-questions κs a = ?
+abbrev μ-sub-questions : Measures 3 sub-questions-kinds.ps ℕ
+μ-sub-questions κs a = 20 * (a .1 .1 .1 .1 .1 .1 .0) + 2 + 3 * (a .1 .1 .1 .1 .0 .n - a .1 .1 .1 .1 .1 .0)
 
-abbrev candidate-at : ℕ → In 5 candidate-kinds.ps
-candidate-at t = and 5 candidate-kinds.ps (is 5 candidate-kinds.ps μ-candidate t) candidate.Pre
+abbrev candidate-at : ℕ → In 3 candidate-kinds.ps
+candidate-at t = and 3 candidate-kinds.ps (is 3 candidate-kinds.ps μ-candidate t) candidate.Pre
 
-abbrev candidate-below : ℕ → In 5 candidate-kinds.ps
+abbrev candidate-below : ℕ → In 3 candidate-kinds.ps
 candidate-below t =
-    and 5 candidate-kinds.ps (falls 5 candidate-kinds.ps _<_ μ-candidate t) candidate.Pre
+    and 3 candidate-kinds.ps (falls 3 candidate-kinds.ps _<_ μ-candidate t) candidate.Pre
 
-abbrev candidates-at : ℕ → In 5 candidates-kinds.ps
+abbrev candidates-at : ℕ → In 3 candidates-kinds.ps
 candidates-at t =
-    and 5 candidates-kinds.ps (is 5 candidates-kinds.ps μ-candidates t) candidates.Pre
+    and 3 candidates-kinds.ps (is 3 candidates-kinds.ps μ-candidates t) candidates.Pre
 
-abbrev candidates-below : ℕ → In 5 candidates-kinds.ps
+abbrev candidates-below : ℕ → In 3 candidates-kinds.ps
 candidates-below t =
-    and 5 candidates-kinds.ps (falls 5 candidates-kinds.ps _<_ μ-candidates t) candidates.Pre
+    and 3 candidates-kinds.ps (falls 3 candidates-kinds.ps _<_ μ-candidates t) candidates.Pre
 
-abbrev question-at : ℕ → In 5 question-kinds.ps
-question-at t = and 5 question-kinds.ps (is 5 question-kinds.ps μ-question t) question.Pre
+abbrev question-at : ℕ → In 3 question-kinds.ps
+question-at t = and 3 question-kinds.ps (is 3 question-kinds.ps μ-question t) question.Pre
 
-abbrev question-below : ℕ → In 5 question-kinds.ps
+abbrev question-below : ℕ → In 3 question-kinds.ps
 question-below t =
-    and 5 question-kinds.ps (falls 5 question-kinds.ps _<_ μ-question t) question.Pre
+    and 3 question-kinds.ps (falls 3 question-kinds.ps _<_ μ-question t) question.Pre
 
-abbrev result-at : ℕ → In 5 result-kinds.ps
-result-at t = and 5 result-kinds.ps (is 5 result-kinds.ps μ-result t) result.Pre
+abbrev result-at : ℕ → In 3 result-kinds.ps
+result-at t = and 3 result-kinds.ps (is 3 result-kinds.ps μ-result t) result.Pre
 
-abbrev result-below : ℕ → In 5 result-kinds.ps
-result-below t = and 5 result-kinds.ps (falls 5 result-kinds.ps _<_ μ-result t) result.Pre
+abbrev result-below : ℕ → In 3 result-kinds.ps
+result-below t = and 3 result-kinds.ps (falls 3 result-kinds.ps _<_ μ-result t) result.Pre
 
-abbrev results-at : ℕ → In 5 results-kinds.ps
-results-at t = and 5 results-kinds.ps (is 5 results-kinds.ps μ-results t) results.Pre
+abbrev results-at : ℕ → In 3 results-kinds.ps
+results-at t = and 3 results-kinds.ps (is 3 results-kinds.ps μ-results t) results.Pre
 
-abbrev results-below : ℕ → In 5 results-kinds.ps
-results-below t = and 5 results-kinds.ps (falls 5 results-kinds.ps _<_ μ-results t) results.Pre
+abbrev results-below : ℕ → In 3 results-kinds.ps
+results-below t = and 3 results-kinds.ps (falls 3 results-kinds.ps _<_ μ-results t) results.Pre
 
-abbrev sub-questions-at : ℕ → In 5 sub-questions-kinds.ps
+abbrev sub-questions-at : ℕ → In 3 sub-questions-kinds.ps
 sub-questions-at t =
-    and 5 sub-questions-kinds.ps (is 5 sub-questions-kinds.ps μ-sub-questions t) sub-questions.Pre
+    and 3 sub-questions-kinds.ps (is 3 sub-questions-kinds.ps μ-sub-questions t) sub-questions.Pre
 
-abbrev sub-questions-below : ℕ → In 5 sub-questions-kinds.ps
+abbrev sub-questions-below : ℕ → In 3 sub-questions-kinds.ps
 sub-questions-below t =
     and
-    5
+    3
     sub-questions-kinds.ps
-    (falls 5 sub-questions-kinds.ps _<_ μ-sub-questions t)
+    (falls 3 sub-questions-kinds.ps _<_ μ-sub-questions t)
     sub-questions.Pre
 
--- src/lib.rt:301:9
-candidate-open-candidate-requires : (t : ℕ) → candidate-lts.Need-open-candidate-requires (
-  open-candidate-reads.Asked,
-  open-candidate-reads.Learnt,
-  sub-questions-below t,
-  sub-questions.Post,
-  settle-wrapped-reads.Asked,
-  settle-wrapped-reads.Learnt,
-) (candidate-at t) candidate.Post
-candidate-open-candidate-requires t c κs = ?
+abbrev candidate-calls : ℕ → candidate-lts.Claims
+candidate-calls t = (open-one-reads.Asked, open-one-reads.Learnt, sub-questions-below t, sub-questions.Post, settle-wrapped-reads.Asked, settle-wrapped-reads.Learnt)
 
--- src/lib.rt:303:9
-candidate-same-length : (t : ℕ) → candidate-lts.Need-same-length (
-  open-candidate-reads.Asked,
-  open-candidate-reads.Learnt,
-  sub-questions-below t,
-  sub-questions.Post,
-  settle-wrapped-reads.Asked,
-  settle-wrapped-reads.Learnt,
-) (candidate-at t) candidate.Post
-candidate-same-length t c = ?
+abbrev candidates-calls : ℕ → candidates-lts.Claims
+candidates-calls t = (find-candidates-reads.Asked, find-candidates-reads.Learnt, next-id-reads.Asked, next-id-reads.Learnt, candidate-below t, candidate.Post)
 
--- src/lib.rt:303:9
-candidate-same-length-2 : (t : ℕ) → candidate-lts.Need-same-length-2 (
-  open-candidate-reads.Asked,
-  open-candidate-reads.Learnt,
-  sub-questions-below t,
-  sub-questions.Post,
-  settle-wrapped-reads.Asked,
-  settle-wrapped-reads.Learnt,
-) (candidate-at t) candidate.Post
-candidate-same-length-2 t c = ?
+abbrev question-calls : ℕ → question-lts.Claims
+question-calls t = (begin-reads.Asked, begin-reads.Learnt, candidates-below t, candidates.Post)
 
--- src/lib.rt:303:9
-candidate-same-length-3 : (t : ℕ) → candidate-lts.Need-same-length-3 (
-  open-candidate-reads.Asked,
-  open-candidate-reads.Learnt,
-  sub-questions-below t,
-  sub-questions.Post,
-  settle-wrapped-reads.Asked,
-  settle-wrapped-reads.Learnt,
-) (candidate-at t) candidate.Post
-candidate-same-length-3 t c = ?
+abbrev result-calls : ℕ → result-lts.Claims
+result-calls t = (copy-table-slot-reads.Asked, copy-table-slot-reads.Learnt, sub-questions-below t, sub-questions.Post, settle-joined-reads.Asked, settle-joined-reads.Learnt)
 
--- src/lib.rt:303:9
-candidate-returns : (t : ℕ) → candidate-lts.Need-returns (
-  open-candidate-reads.Asked,
-  open-candidate-reads.Learnt,
-  sub-questions-below t,
-  sub-questions.Post,
-  settle-wrapped-reads.Asked,
-  settle-wrapped-reads.Learnt,
-) (candidate-at t) candidate.Post
-candidate-returns t c = ?
+abbrev results-calls : ℕ → results-lts.Claims
+results-calls t = (result-below t, result.Post)
 
--- src/lib.rt:306:9
-candidate-same-length-4 : (t : ℕ) → candidate-lts.Need-same-length-4 (
-  open-candidate-reads.Asked,
-  open-candidate-reads.Learnt,
-  sub-questions-below t,
-  sub-questions.Post,
-  settle-wrapped-reads.Asked,
-  settle-wrapped-reads.Learnt,
-) (candidate-at t) candidate.Post
-candidate-same-length-4 t c = ?
+abbrev sub-questions-calls : ℕ → sub-questions-lts.Claims
+sub-questions-calls t = (none-left-reads.Asked, none-left-reads.Learnt, query-at-reads.Asked, query-at-reads.Learnt, question-below t, question.Post, copy-table-slot-reads.Asked, copy-table-slot-reads.Learnt, results-below t, results.Post)
 
--- src/lib.rt:306:9
-candidate-same-length-5 : (t : ℕ) → candidate-lts.Need-same-length-5 (
-  open-candidate-reads.Asked,
-  open-candidate-reads.Learnt,
-  sub-questions-below t,
-  sub-questions.Post,
-  settle-wrapped-reads.Asked,
-  settle-wrapped-reads.Learnt,
-) (candidate-at t) candidate.Post
-candidate-same-length-5 t c = ?
+-- src/lib.rt:273:9
+candidate-open-one-requires : (t : ℕ) → candidate-lts.Need-open-one-requires (candidate-calls t) (candidate-at t) candidate.Post
+candidate-open-one-requires t c κs = (search (needs, searching-sound), (search needs, (omega arith, search needs)))
 
--- src/lib.rt:306:9
-candidate-same-length-6 : (t : ℕ) → candidate-lts.Need-same-length-6 (
-  open-candidate-reads.Asked,
-  open-candidate-reads.Learnt,
-  sub-questions-below t,
-  sub-questions.Post,
-  settle-wrapped-reads.Asked,
-  settle-wrapped-reads.Learnt,
-) (candidate-at t) candidate.Post
-candidate-same-length-6 t c = ?
+-- src/lib.rt:275:9
+candidate-same-length : (t : ℕ) → candidate-lts.Need-same-length (candidate-calls t) (candidate-at t) candidate.Post
+candidate-same-length t c = search needs
 
--- src/lib.rt:306:9
-candidate-returns-2 : (t : ℕ) → candidate-lts.Need-returns-2 (
-  open-candidate-reads.Asked,
-  open-candidate-reads.Learnt,
-  sub-questions-below t,
-  sub-questions.Post,
-  settle-wrapped-reads.Asked,
-  settle-wrapped-reads.Learnt,
-) (candidate-at t) candidate.Post
-candidate-returns-2 t c = ?
+-- src/lib.rt:275:9
+candidate-returns : (t : ℕ) → candidate-lts.Need-returns (candidate-calls t) (candidate-at t) candidate.Post
+candidate-returns t c = search (needs, opened-full)
 
--- src/lib.rt:308:44
-candidate-sub-sub-questions : (t : ℕ) → candidate-lts.Need-sub-sub-questions (
-  open-candidate-reads.Asked,
-  open-candidate-reads.Learnt,
-  sub-questions-below t,
-  sub-questions.Post,
-  settle-wrapped-reads.Asked,
-  settle-wrapped-reads.Learnt,
-) (candidate-at t) candidate.Post
-candidate-sub-sub-questions t c = ?
+-- src/lib.rt:278:9
+candidate-same-length-2 : (t : ℕ) → candidate-lts.Need-same-length-2 (candidate-calls t) (candidate-at t) candidate.Post
+candidate-same-length-2 t c = search needs
 
--- src/lib.rt:308:44
-candidate-part-sub-questions-start : (t : ℕ) → candidate-lts.Need-part-sub-questions-start (
-  open-candidate-reads.Asked,
-  open-candidate-reads.Learnt,
-  sub-questions-below t,
-  sub-questions.Post,
-  settle-wrapped-reads.Asked,
-  settle-wrapped-reads.Learnt,
-) (candidate-at t) candidate.Post
-candidate-part-sub-questions-start t c = ?
+-- src/lib.rt:278:9
+candidate-returns-2 : (t : ℕ) → candidate-lts.Need-returns-2 (candidate-calls t) (candidate-at t) candidate.Post
+candidate-returns-2 t c = search (needs, opened-unfit)
 
--- src/lib.rt:308:44
-candidate-part-sub-questions-end : (t : ℕ) → candidate-lts.Need-part-sub-questions-end (
-  open-candidate-reads.Asked,
-  open-candidate-reads.Learnt,
-  sub-questions-below t,
-  sub-questions.Post,
-  settle-wrapped-reads.Asked,
-  settle-wrapped-reads.Learnt,
-) (candidate-at t) candidate.Post
-candidate-part-sub-questions-end t c = ?
+-- src/lib.rt:280:44
+candidate-sub-sub-questions : (t : ℕ) → candidate-lts.Need-sub-sub-questions (candidate-calls t) (candidate-at t) candidate.Post
+candidate-sub-sub-questions t c = omega arith
 
--- src/lib.rt:308:9
-candidate-sub-questions-requires : (t : ℕ) → candidate-lts.Need-sub-questions-requires (
-  open-candidate-reads.Asked,
-  open-candidate-reads.Learnt,
-  sub-questions-below t,
-  sub-questions.Post,
-  settle-wrapped-reads.Asked,
-  settle-wrapped-reads.Learnt,
-) (candidate-at t) candidate.Post
-candidate-sub-questions-requires t c κs = ?
+-- src/lib.rt:280:44
+candidate-part-sub-questions-start : (t : ℕ) → candidate-lts.Need-part-sub-questions-start (candidate-calls t) (candidate-at t) candidate.Post
+candidate-part-sub-questions-start t c = omega arith
 
--- src/lib.rt:309:50
-candidate-cast-settle-wrapped : (t : ℕ) → candidate-lts.Need-cast-settle-wrapped (
-  open-candidate-reads.Asked,
-  open-candidate-reads.Learnt,
-  sub-questions-below t,
-  sub-questions.Post,
-  settle-wrapped-reads.Asked,
-  settle-wrapped-reads.Learnt,
-) (candidate-at t) candidate.Post
-candidate-cast-settle-wrapped t c = ?
+-- src/lib.rt:280:44
+candidate-part-sub-questions-end : (t : ℕ) → candidate-lts.Need-part-sub-questions-end (candidate-calls t) (candidate-at t) candidate.Post
+candidate-part-sub-questions-end t c = omega arith
 
--- src/lib.rt:309:5
-candidate-settle-wrapped-requires : (t : ℕ) → candidate-lts.Need-settle-wrapped-requires (
-  open-candidate-reads.Asked,
-  open-candidate-reads.Learnt,
-  sub-questions-below t,
-  sub-questions.Post,
-  settle-wrapped-reads.Asked,
-  settle-wrapped-reads.Learnt,
-) (candidate-at t) candidate.Post
-candidate-settle-wrapped-requires t c κs = ?
+-- src/lib.rt:280:9
+candidate-sub-questions-requires : (t : ℕ) → candidate-lts.Need-sub-questions-requires (candidate-calls t) (candidate-at t) candidate.Post
+candidate-sub-questions-requires t c κs = (omega (arith, opened-few _ _ _ _ _ _ (c .before .before .before .before .before .before .before .open-one .ensures) (c .before .before .before .if1 .left) (c .before .if2 .left)), (search needs, (search (needs, opened-tail, c .before .before .before .before .before .before .before .open-one .ensures, c .before .before .before .if1 .left, c .before .if2 .left), (search (needs, opened-part, c .before .before .before .before .before .before .before .open-one .ensures, c .before .before .before .if1 .left, c .before .if2 .left, c .before .before .before .before .before .before .before .before .before .before .before .before .pre), search needs))))
 
--- src/lib.rt:279:1
-candidate-same-length-7 : (t : ℕ) → candidate-lts.Need-same-length-7 (
-  open-candidate-reads.Asked,
-  open-candidate-reads.Learnt,
-  sub-questions-below t,
-  sub-questions.Post,
-  settle-wrapped-reads.Asked,
-  settle-wrapped-reads.Learnt,
-) (candidate-at t) candidate.Post
-candidate-same-length-7 t c = ?
+-- src/lib.rt:281:50
+candidate-cast-settle-wrapped : (t : ℕ) → candidate-lts.Need-cast-settle-wrapped (candidate-calls t) (candidate-at t) candidate.Post
+candidate-cast-settle-wrapped t c = omega (arith, few-impls _ _ _ (c .before .before .before .before .before .before .before .before .before .before .before .before .before .before .before .before .pre .1 .0), c .before .before .before .before .before .before .before .before .before .before .before .before .before .before .before .before .pre)
 
--- src/lib.rt:279:1
-candidate-same-length-8 : (t : ℕ) → candidate-lts.Need-same-length-8 (
-  open-candidate-reads.Asked,
-  open-candidate-reads.Learnt,
-  sub-questions-below t,
-  sub-questions.Post,
-  settle-wrapped-reads.Asked,
-  settle-wrapped-reads.Learnt,
-) (candidate-at t) candidate.Post
-candidate-same-length-8 t c = ?
+-- src/lib.rt:281:5
+candidate-settle-wrapped-requires : (t : ℕ) → candidate-lts.Need-settle-wrapped-requires (candidate-calls t) (candidate-at t) candidate.Post
+candidate-settle-wrapped-requires t c κs = (omega (arith, c .before .before .before .before .before .before .before .before .before .before .before .before .before .before .before .before .pre), (omega arith, (search (needs, opened-long, c .before .before .before .before .before .before .before .before .before .before .before .open-one .ensures, c .before .before .before .before .before .before .before .if1 .left, c .before .before .before .before .before .if2 .left, c .before .before .before .before .before .before .before .before .before .before .before .before .before .before .before .before .pre, c .before .before .before .sub-questions .ensures, c .before .before .before .sub-questions .kept .1 .1 .0), (opened-sub _ _ _ _ _ _ (c .before .before .before .before .before .before .before .before .before .before .before .open-one .ensures) (c .before .before .before .before .before .before .before .if1 .left) (c .before .before .before .before .before .if2 .left) _ _ _ _ _ (omega (arith, c .before .before .before .before .before .before .before .before .before .before .before .before .before .before .before .before .pre)) (c .before .before .before .sub-questions .ensures) (c .before .before .before .sub-questions .kept .1 .1 .0), omega (arith, few-impls _ _ _ (c .before .before .before .before .before .before .before .before .before .before .before .before .before .before .before .before .pre .1 .0), c .before .before .before .before .before .before .before .before .before .before .before .before .before .before .before .before .pre)))))
 
--- src/lib.rt:279:1
-candidate-same-length-9 : (t : ℕ) → candidate-lts.Need-same-length-9 (
-  open-candidate-reads.Asked,
-  open-candidate-reads.Learnt,
-  sub-questions-below t,
-  sub-questions.Post,
-  settle-wrapped-reads.Asked,
-  settle-wrapped-reads.Learnt,
-) (candidate-at t) candidate.Post
-candidate-same-length-9 t c = ?
+-- src/lib.rt:254:1
+candidate-same-length-3 : (t : ℕ) → candidate-lts.Need-same-length-3 (candidate-calls t) (candidate-at t) candidate.Post
+candidate-same-length-3 t c = search (needs, opened-long, c .before .before .before .before .before .before .before .before .before .before .before .before .before .before .open-one .ensures, c .before .before .before .before .before .before .before .before .before .before .if1 .left, c .before .before .before .before .before .before .before .before .if2 .left, c .before .before .before .before .before .before .before .before .before .before .before .before .before .before .before .before .before .before .before .pre, c .before .before .before .before .before .before .sub-questions .ensures, c .before .before .before .before .before .before .sub-questions .kept .1 .1 .0, c .before .before .settle-wrapped .kept)
 
--- src/lib.rt:279:1
-candidate-returns-3 : (t : ℕ) → candidate-lts.Need-returns-3 (
-  open-candidate-reads.Asked,
-  open-candidate-reads.Learnt,
-  sub-questions-below t,
-  sub-questions.Post,
-  settle-wrapped-reads.Asked,
-  settle-wrapped-reads.Learnt,
-) (candidate-at t) candidate.Post
-candidate-returns-3 t c = ?
+-- src/lib.rt:254:1
+candidate-returns-3 : (t : ℕ) → candidate-lts.Need-returns-3 (candidate-calls t) (candidate-at t) candidate.Post
+candidate-returns-3 t c = opened-steps _ _ _ _ _ _ (c .before .before .before .before .before .before .before .before .before .before .before .before .before .before .open-one .ensures) (c .before .before .before .before .before .before .before .before .before .before .if1 .left) (c .before .before .before .before .before .before .before .before .if2 .left) _ _ _ _ _ (omega (arith, c .before .before .before .before .before .before .before .before .before .before .before .before .before .before .before .before .before .before .before .pre)) (c .before .before .before .before .before .before .sub-questions .ensures) (c .before .before .before .before .before .before .sub-questions .kept .1 .1 .0) _ _ _ (omega (arith, c .before .before .before .before .before .before .before .before .before .before .before .before .before .before .before .before .before .before .before .pre)) (c .before .before .settle-wrapped .ensures)
 
 abbrev candidates-Inv-loop : candidates-lts.InvT-loop
-candidates-Inv-loop sheet sets ws₀ places₀ map₀ f basic q depth n count found stand₀ cur₀ id₀ ws places map stand cur id =
-    ?
+candidates-Inv-loop sheet sets ws₀ f basic q depth n count found stand₀ cur₀ id₀ ws stand cur id =
+    Trying sheet sets f basic q depth found n count ws₀ ws id stand cur
 
 abbrev candidates-μ-loop : candidates-lts.MeasureT-loop
-candidates-μ-loop sheet sets ws₀ places₀ map₀ f basic q depth n count found stand₀ cur₀ id₀ ws places map stand cur id =
-    ?
+candidates-μ-loop sheet sets ws₀ f basic q depth n count found stand₀ cur₀ id₀ ws stand cur id =
+    384 - id
 
--- src/lib.rt:249:9
-candidates-find-candidates-requires : (t : ℕ) → candidates-lts.Need-find-candidates-requires (
-  find-candidates-reads.Asked,
-  find-candidates-reads.Learnt,
-  next-id-reads.Asked,
-  next-id-reads.Learnt,
-  candidate-below t,
-  candidate.Post,
-) (candidates-at t) candidates.Post candidates-Inv-loop candidates-μ-loop
-candidates-find-candidates-requires t c κs = ?
+-- src/lib.rt:224:9
+candidates-find-candidates-requires : (t : ℕ) → candidates-lts.Need-find-candidates-requires (candidates-calls t) (candidates-at t) candidates.Post candidates-Inv-loop candidates-μ-loop
+candidates-find-candidates-requires t c κs = (search (needs, searching-stands), search needs)
 
--- src/lib.rt:251:9
-candidates-same-length : (t : ℕ) → candidates-lts.Need-same-length (
-  find-candidates-reads.Asked,
-  find-candidates-reads.Learnt,
-  next-id-reads.Asked,
-  next-id-reads.Learnt,
-  candidate-below t,
-  candidate.Post,
-) (candidates-at t) candidates.Post candidates-Inv-loop candidates-μ-loop
-candidates-same-length t c = ?
+-- src/lib.rt:226:9
+candidates-same-length : (t : ℕ) → candidates-lts.Need-same-length (candidates-calls t) (candidates-at t) candidates.Post candidates-Inv-loop candidates-μ-loop
+candidates-same-length t c = search needs
 
--- src/lib.rt:251:9
-candidates-returns : (t : ℕ) → candidates-lts.Need-returns (
-  find-candidates-reads.Asked,
-  find-candidates-reads.Learnt,
-  next-id-reads.Asked,
-  next-id-reads.Learnt,
-  candidate-below t,
-  candidate.Post,
-) (candidates-at t) candidates.Post candidates-Inv-loop candidates-μ-loop
-candidates-returns t c = ?
+-- src/lib.rt:226:9
+candidates-returns : (t : ℕ) → candidates-lts.Need-returns (candidates-calls t) (candidates-at t) candidates.Post candidates-Inv-loop candidates-μ-loop
+candidates-returns t c = search (needs, sets-refused)
 
--- src/lib.rt:258:9
-candidates-next-id-requires : (t : ℕ) → candidates-lts.Need-next-id-requires (
-  find-candidates-reads.Asked,
-  find-candidates-reads.Learnt,
-  next-id-reads.Asked,
-  next-id-reads.Learnt,
-  candidate-below t,
-  candidate.Post,
-) (candidates-at t) candidates.Post candidates-Inv-loop candidates-μ-loop
-candidates-next-id-requires t c κs = ?
+-- src/lib.rt:233:9
+candidates-next-id-requires : (t : ℕ) → candidates-lts.Need-next-id-requires (candidates-calls t) (candidates-at t) candidates.Post candidates-Inv-loop candidates-μ-loop
+candidates-next-id-requires t c κs = (search (needs, searching-indexed), (search (needs, few-impls), search needs))
 
--- src/lib.rt:259:5
-candidates-loop-holds : (t : ℕ) → candidates-lts.Need-loop-holds (
-  find-candidates-reads.Asked,
-  find-candidates-reads.Learnt,
-  next-id-reads.Asked,
-  next-id-reads.Learnt,
-  candidate-below t,
-  candidate.Post,
-) (candidates-at t) candidates.Post candidates-Inv-loop candidates-μ-loop
-candidates-loop-holds t c = ?
+-- src/lib.rt:234:5
+candidates-loop-holds : (t : ℕ) → candidates-lts.Need-loop-holds (candidates-calls t) (candidates-at t) candidates.Post candidates-Inv-loop candidates-μ-loop
+candidates-loop-holds t c = search (needs, trying-start, c .before .before .before .find-candidates .ensures, c .before .if1 .left, c .next-id .ensures, c .before .before .before .before .before .before .before .before .pre)
 
--- src/lib.rt:260:13
-candidates-candidate-requires : (t : ℕ) → candidates-lts.Need-candidate-requires (
-  find-candidates-reads.Asked,
-  find-candidates-reads.Learnt,
-  next-id-reads.Asked,
-  next-id-reads.Learnt,
-  candidate-below t,
-  candidate.Post,
-) (candidates-at t) candidates.Post candidates-Inv-loop candidates-μ-loop
-candidates-candidate-requires t c κs = ?
+-- src/lib.rt:235:13
+candidates-candidate-requires : (t : ℕ) → candidates-lts.Need-candidate-requires (candidates-calls t) (candidates-at t) candidates.Post candidates-Inv-loop candidates-μ-loop
+candidates-candidate-requires t c κs = (omega arith, (search needs, (search (needs, trying-asking, c .before .before .loop .inv), (search (needs, trying-up, c .before .before .loop .inv), (search (needs, trying-long, c .before .before .loop .inv, c .before .before .before .before .before .before .before .before .before .before .before .pre), (search (needs, trying-low, c .before .before .loop .inv), search (needs, trying-few, c .before .before .loop .inv)))))))
 
--- src/lib.rt:262:30
-candidates-enum-known-one : (t : ℕ) → candidates-lts.Need-enum-known-one (
-  find-candidates-reads.Asked,
-  find-candidates-reads.Learnt,
-  next-id-reads.Asked,
-  next-id-reads.Learnt,
-  candidate-below t,
-  candidate.Post,
-) (candidates-at t) candidates.Post candidates-Inv-loop candidates-μ-loop
-candidates-enum-known-one t c = ?
+-- src/lib.rt:237:30
+candidates-enum-known-one : (t : ℕ) → candidates-lts.Need-enum-known-one (candidates-calls t) (candidates-at t) candidates.Post candidates-Inv-loop candidates-μ-loop
+candidates-enum-known-one t c = search needs
 
--- src/lib.rt:263:17
-candidates-same-length-2 : (t : ℕ) → candidates-lts.Need-same-length-2 (
-  find-candidates-reads.Asked,
-  find-candidates-reads.Learnt,
-  next-id-reads.Asked,
-  next-id-reads.Learnt,
-  candidate-below t,
-  candidate.Post,
-) (candidates-at t) candidates.Post candidates-Inv-loop candidates-μ-loop
-candidates-same-length-2 t c = ?
+-- src/lib.rt:238:17
+candidates-same-length-2 : (t : ℕ) → candidates-lts.Need-same-length-2 (candidates-calls t) (candidates-at t) candidates.Post candidates-Inv-loop candidates-μ-loop
+candidates-same-length-2 t c = search needs
 
--- src/lib.rt:263:17
-candidates-same-length-3 : (t : ℕ) → candidates-lts.Need-same-length-3 (
-  find-candidates-reads.Asked,
-  find-candidates-reads.Learnt,
-  next-id-reads.Asked,
-  next-id-reads.Learnt,
-  candidate-below t,
-  candidate.Post,
-) (candidates-at t) candidates.Post candidates-Inv-loop candidates-μ-loop
-candidates-same-length-3 t c = ?
+-- src/lib.rt:238:17
+candidates-returns-2 : (t : ℕ) → candidates-lts.Need-returns-2 (candidates-calls t) (candidates-at t) candidates.Post candidates-Inv-loop candidates-μ-loop
+candidates-returns-2 t c = search (needs, trying-refused, c .before .before .before .before .before .before .before .before .before .before .before .before .find-candidates .ensures, c .before .before .before .before .before .before .before .before .loop .inv, c .before .before .before .before .before .candidate .ensures, c .before .before .before .before .before .before .before .before .before .before .before .before .before .before .before .before .before .pre)
 
--- src/lib.rt:263:17
-candidates-same-length-4 : (t : ℕ) → candidates-lts.Need-same-length-4 (
-  find-candidates-reads.Asked,
-  find-candidates-reads.Learnt,
-  next-id-reads.Asked,
-  next-id-reads.Learnt,
-  candidate-below t,
-  candidate.Post,
-) (candidates-at t) candidates.Post candidates-Inv-loop candidates-μ-loop
-candidates-same-length-4 t c = ?
+-- src/lib.rt:240:28
+candidates-enum-known-one-2 : (t : ℕ) → candidates-lts.Need-enum-known-one-2 (candidates-calls t) (candidates-at t) candidates.Post candidates-Inv-loop candidates-μ-loop
+candidates-enum-known-one-2 t c = search needs
 
--- src/lib.rt:263:17
-candidates-returns-2 : (t : ℕ) → candidates-lts.Need-returns-2 (
-  find-candidates-reads.Asked,
-  find-candidates-reads.Learnt,
-  next-id-reads.Asked,
-  next-id-reads.Learnt,
-  candidate-below t,
-  candidate.Post,
-) (candidates-at t) candidates.Post candidates-Inv-loop candidates-μ-loop
-candidates-returns-2 t c = ?
+-- src/lib.rt:245:42
+candidates-add-next-id : (t : ℕ) → candidates-lts.Need-add-next-id (candidates-calls t) (candidates-at t) candidates.Post candidates-Inv-loop candidates-μ-loop
+candidates-add-next-id t c = omega arith
 
--- src/lib.rt:265:28
-candidates-enum-known-one-2 : (t : ℕ) → candidates-lts.Need-enum-known-one-2 (
-  find-candidates-reads.Asked,
-  find-candidates-reads.Learnt,
-  next-id-reads.Asked,
-  next-id-reads.Learnt,
-  candidate-below t,
-  candidate.Post,
-) (candidates-at t) candidates.Post candidates-Inv-loop candidates-μ-loop
-candidates-enum-known-one-2 t c = ?
+-- src/lib.rt:245:9
+candidates-next-id-requires-2 : (t : ℕ) → candidates-lts.Need-next-id-requires-2 (candidates-calls t) (candidates-at t) candidates.Post candidates-Inv-loop candidates-μ-loop
+candidates-next-id-requires-2 t c κs = (search (needs, searching-indexed, c .before .before .before .before .before .before .before .before .before .before .before .before .before .before .before .before .before .pre), (search (needs, few-impls, c .before .before .before .before .before .before .before .before .before .before .before .before .before .before .before .before .before .pre), (omega (arith, c .before .before .before .before .before .before .before .before .before .before .before .before .find-candidates .ensures .few), omega (arith, c .before .before .before .before .before .before .before .before .before .before .before .before .find-candidates .ensures .flag, c .before .before .before .before .before .before .before .before .before .before .before .before .before .before .before .before .before .pre))))
 
--- src/lib.rt:270:42
-candidates-add-next-id : (t : ℕ) → candidates-lts.Need-add-next-id (
-  find-candidates-reads.Asked,
-  find-candidates-reads.Learnt,
-  next-id-reads.Asked,
-  next-id-reads.Learnt,
-  candidate-below t,
-  candidate.Post,
-) (candidates-at t) candidates.Post candidates-Inv-loop candidates-μ-loop
-candidates-add-next-id t c = ?
+-- src/lib.rt:234:5
+candidates-loop-less : (t : ℕ) → candidates-lts.Need-loop-less (candidates-calls t) (candidates-at t) candidates.Post candidates-Inv-loop candidates-μ-loop
+candidates-loop-less t c = search (needs, trying-less, c .next-id2 .ensures, c .before .before .before .before .before .before .before .before .loop-test .taken)
 
--- src/lib.rt:270:9
-candidates-next-id-requires-2 : (t : ℕ) → candidates-lts.Need-next-id-requires-2 (
-  find-candidates-reads.Asked,
-  find-candidates-reads.Learnt,
-  next-id-reads.Asked,
-  next-id-reads.Learnt,
-  candidate-below t,
-  candidate.Post,
-) (candidates-at t) candidates.Post candidates-Inv-loop candidates-μ-loop
-candidates-next-id-requires-2 t c κs = ?
+-- src/lib.rt:234:5
+candidates-loop-again : (t : ℕ) → candidates-lts.Need-loop-again (candidates-calls t) (candidates-at t) candidates.Post candidates-Inv-loop candidates-μ-loop
+candidates-loop-again t c = trying-on _ _ _ _ _ _ _ _ _ _ (c .before .before .before .before .before .before .before .before .before .before .before .before .before .before .before .before .before .before .pre .1 .0) (c .before .before .before .before .before .before .before .before .before .before .before .before .before .find-candidates .ensures) _ _ _ _ (c .before .before .before .before .before .before .before .before .before .loop .inv) (c .before .before .before .before .before .before .before .before .before .before .before .before .before .before .before .before .before .before .pre .1 .1 .0 .packed) (c .before .before .before .before .before .before .before .before .loop-test .taken) _ _ (c .before .before .before .before .before .before .candidate .ensures) _ _ _ (c .before .before .one2 .given .1) (c .next-id2 .ensures)
 
--- src/lib.rt:259:5
-candidates-loop-less : (t : ℕ) → candidates-lts.Need-loop-less (
-  find-candidates-reads.Asked,
-  find-candidates-reads.Learnt,
-  next-id-reads.Asked,
-  next-id-reads.Learnt,
-  candidate-below t,
-  candidate.Post,
-) (candidates-at t) candidates.Post candidates-Inv-loop candidates-μ-loop
-candidates-loop-less t c = ?
+-- src/lib.rt:204:1
+candidates-same-length-3 : (t : ℕ) → candidates-lts.Need-same-length-3 (candidates-calls t) (candidates-at t) candidates.Post candidates-Inv-loop candidates-μ-loop
+candidates-same-length-3 t c = search needs
 
--- src/lib.rt:259:5
-candidates-loop-again : (t : ℕ) → candidates-lts.Need-loop-again (
-  find-candidates-reads.Asked,
-  find-candidates-reads.Learnt,
-  next-id-reads.Asked,
-  next-id-reads.Learnt,
-  candidate-below t,
-  candidate.Post,
-) (candidates-at t) candidates.Post candidates-Inv-loop candidates-μ-loop
-candidates-loop-again t c = ?
+-- src/lib.rt:204:1
+candidates-returns-3 : (t : ℕ) → candidates-lts.Need-returns-3 (candidates-calls t) (candidates-at t) candidates.Post candidates-Inv-loop candidates-μ-loop
+candidates-returns-3 t c = search (needs, trying-end)
 
--- src/lib.rt:226:1
-candidates-same-length-5 : (t : ℕ) → candidates-lts.Need-same-length-5 (
-  find-candidates-reads.Asked,
-  find-candidates-reads.Learnt,
-  next-id-reads.Asked,
-  next-id-reads.Learnt,
-  candidate-below t,
-  candidate.Post,
-) (candidates-at t) candidates.Post candidates-Inv-loop candidates-μ-loop
-candidates-same-length-5 t c = ?
+-- src/lib.rt:185:20
+question-add-t15 : (t : ℕ) → question-lts.Need-add-t15 (question-calls t) (question-at t) question.Post
+question-add-t15 t c = omega arith
 
--- src/lib.rt:226:1
-candidates-same-length-6 : (t : ℕ) → candidates-lts.Need-same-length-6 (
-  find-candidates-reads.Asked,
-  find-candidates-reads.Learnt,
-  next-id-reads.Asked,
-  next-id-reads.Learnt,
-  candidate-below t,
-  candidate.Post,
-) (candidates-at t) candidates.Post candidates-Inv-loop candidates-μ-loop
-candidates-same-length-6 t c = ?
+-- src/lib.rt:183:9
+question-returns : (t : ℕ) → question-lts.Need-returns (question-calls t) (question-at t) question.Post
+question-returns t c = search (needs, question-limit)
 
--- src/lib.rt:226:1
-candidates-same-length-7 : (t : ℕ) → candidates-lts.Need-same-length-7 (
-  find-candidates-reads.Asked,
-  find-candidates-reads.Learnt,
-  next-id-reads.Asked,
-  next-id-reads.Learnt,
-  candidate-below t,
-  candidate.Post,
-) (candidates-at t) candidates.Post candidates-Inv-loop candidates-μ-loop
-candidates-same-length-7 t c = ?
+-- src/lib.rt:191:20
+question-add-t16 : (t : ℕ) → question-lts.Need-add-t16 (question-calls t) (question-at t) question.Post
+question-add-t16 t c = omega arith
 
--- src/lib.rt:226:1
-candidates-returns-3 : (t : ℕ) → candidates-lts.Need-returns-3 (
-  find-candidates-reads.Asked,
-  find-candidates-reads.Learnt,
-  next-id-reads.Asked,
-  next-id-reads.Learnt,
-  candidate-below t,
-  candidate.Post,
-) (candidates-at t) candidates.Post candidates-Inv-loop candidates-μ-loop
-candidates-returns-3 t c = ?
+-- src/lib.rt:189:9
+question-returns-2 : (t : ℕ) → question-lts.Need-returns-2 (question-calls t) (question-at t) question.Post
+question-returns-2 t c = search (needs, question-depth)
 
--- src/lib.rt:207:20
-question-add-t17 : (t : ℕ) → question-lts.Need-add-t17 (
-  before-candidates-reads.Asked,
-  before-candidates-reads.Learnt,
-  candidates-below t,
-  candidates.Post,
-) (question-at t) question.Post
-question-add-t17 t c = ?
+-- src/lib.rt:194:47
+question-add-begin : (t : ℕ) → question-lts.Need-add-begin (question-calls t) (question-at t) question.Post
+question-add-begin t c = omega arith
 
--- src/lib.rt:205:9
-question-returns : (t : ℕ) → question-lts.Need-returns (
-  before-candidates-reads.Asked,
-  before-candidates-reads.Learnt,
-  candidates-below t,
-  candidates.Post,
-) (question-at t) question.Post
-question-returns t c = ?
+-- src/lib.rt:194:9
+question-begin-requires : (t : ℕ) → question-lts.Need-begin-requires (question-calls t) (question-at t) question.Post
+question-begin-requires t c κs = (search (needs, searching-sound), (search needs, (omega arith, (search needs, omega arith))))
 
--- src/lib.rt:213:20
-question-add-t18 : (t : ℕ) → question-lts.Need-add-t18 (
-  before-candidates-reads.Asked,
-  before-candidates-reads.Learnt,
-  candidates-below t,
-  candidates.Post,
-) (question-at t) question.Post
-question-add-t18 t c = ?
+-- src/lib.rt:196:26
+question-enum-known-first : (t : ℕ) → question-lts.Need-enum-known-first (question-calls t) (question-at t) question.Post
+question-enum-known-first t c = search needs
 
--- src/lib.rt:211:9
-question-returns-2 : (t : ℕ) → question-lts.Need-returns-2 (
-  before-candidates-reads.Asked,
-  before-candidates-reads.Learnt,
-  candidates-below t,
-  candidates.Post,
-) (question-at t) question.Post
-question-returns-2 t c = ?
+-- src/lib.rt:197:24
+question-enum-known-first-2 : (t : ℕ) → question-lts.Need-enum-known-first-2 (question-calls t) (question-at t) question.Post
+question-enum-known-first-2 t c = search needs
 
--- src/lib.rt:216:72
-question-add-before-candidates : (t : ℕ) → question-lts.Need-add-before-candidates (
-  before-candidates-reads.Asked,
-  before-candidates-reads.Learnt,
-  candidates-below t,
-  candidates.Post,
-) (question-at t) question.Post
-question-add-before-candidates t c = ?
+-- src/lib.rt:198:54
+question-sub-candidates : (t : ℕ) → question-lts.Need-sub-candidates (question-calls t) (question-at t) question.Post
+question-sub-candidates t c = omega arith
 
--- src/lib.rt:216:9
-question-before-candidates-requires : (t : ℕ) → question-lts.Need-before-candidates-requires (
-  before-candidates-reads.Asked,
-  before-candidates-reads.Learnt,
-  candidates-below t,
-  candidates.Post,
-) (question-at t) question.Post
-question-before-candidates-requires t c κs = ?
+-- src/lib.rt:198:13
+question-candidates-requires : (t : ℕ) → question-lts.Need-candidates-requires (question-calls t) (question-at t) question.Post
+question-candidates-requires t c κs = (omega arith, (search needs, (search (needs, begun-asking), (search (needs, begun-long), (search needs, (search (needs, begun-low, c .before .before .before .before .before .before .begin .ensures), (search (needs, begun-row, c .before .before .before .before .before .before .begin .ensures), search (needs, begun-few, c .before .before .before .before .before .before .begin .ensures))))))))
 
--- src/lib.rt:218:26
-question-enum-known-first : (t : ℕ) → question-lts.Need-enum-known-first (
-  before-candidates-reads.Asked,
-  before-candidates-reads.Learnt,
-  candidates-below t,
-  candidates.Post,
-) (question-at t) question.Post
-question-enum-known-first t c = ?
+-- src/lib.rt:165:1
+question-same-length : (t : ℕ) → question-lts.Need-same-length (question-calls t) (question-at t) question.Post
+question-same-length t c = search needs
 
--- src/lib.rt:219:24
-question-enum-known-first-2 : (t : ℕ) → question-lts.Need-enum-known-first-2 (
-  before-candidates-reads.Asked,
-  before-candidates-reads.Learnt,
-  candidates-below t,
-  candidates.Post,
-) (question-at t) question.Post
-question-enum-known-first-2 t c = ?
+-- src/lib.rt:165:1
+question-returns-3 : (t : ℕ) → question-lts.Need-returns-3 (question-calls t) (question-at t) question.Post
+question-returns-3 t c = search (needs, question-refused)
 
--- src/lib.rt:220:67
-question-sub-candidates : (t : ℕ) → question-lts.Need-sub-candidates (
-  before-candidates-reads.Asked,
-  before-candidates-reads.Learnt,
-  candidates-below t,
-  candidates.Post,
-) (question-at t) question.Post
-question-sub-candidates t c = ?
+-- src/lib.rt:165:1
+question-same-length-2 : (t : ℕ) → question-lts.Need-same-length-2 (question-calls t) (question-at t) question.Post
+question-same-length-2 t c = search needs
 
--- src/lib.rt:220:13
-question-candidates-requires : (t : ℕ) → question-lts.Need-candidates-requires (
-  before-candidates-reads.Asked,
-  before-candidates-reads.Learnt,
-  candidates-below t,
-  candidates.Post,
-) (question-at t) question.Post
-question-candidates-requires t c κs = ?
+-- src/lib.rt:165:1
+question-returns-4 : (t : ℕ) → question-lts.Need-returns-4 (question-calls t) (question-at t) question.Post
+question-returns-4 t c = search (needs, question-goes)
 
--- src/lib.rt:184:1
-question-same-length : (t : ℕ) → question-lts.Need-same-length (
-  before-candidates-reads.Asked,
-  before-candidates-reads.Learnt,
-  candidates-below t,
-  candidates.Post,
-) (question-at t) question.Post
-question-same-length t c = ?
+-- src/lib.rt:380:29
+result-mul-element : (t : ℕ) → result-lts.Need-mul-element (result-calls t) (result-at t) result.Post
+result-mul-element t c = omega arith
 
--- src/lib.rt:184:1
-question-same-length-2 : (t : ℕ) → question-lts.Need-same-length-2 (
-  before-candidates-reads.Asked,
-  before-candidates-reads.Learnt,
-  candidates-below t,
-  candidates.Post,
-) (question-at t) question.Post
-question-same-length-2 t c = ?
+-- src/lib.rt:380:19
+result-add-element : (t : ℕ) → result-lts.Need-add-element (result-calls t) (result-at t) result.Post
+result-add-element t c = omega arith
 
--- src/lib.rt:184:1
-question-same-length-3 : (t : ℕ) → question-lts.Need-same-length-3 (
-  before-candidates-reads.Asked,
-  before-candidates-reads.Learnt,
-  candidates-below t,
-  candidates.Post,
-) (question-at t) question.Post
-question-same-length-3 t c = ?
+-- src/lib.rt:381:5
+result-copy-table-slot-requires : (t : ℕ) → result-lts.Need-copy-table-slot-requires (result-calls t) (result-at t) result.Post
+result-copy-table-slot-requires t c κs = (search (needs, element-filled), (omega arith, search (needs, beside-rest)))
 
--- src/lib.rt:184:1
-question-returns-3 : (t : ℕ) → question-lts.Need-returns-3 (
-  before-candidates-reads.Asked,
-  before-candidates-reads.Learnt,
-  candidates-below t,
-  candidates.Post,
-) (question-at t) question.Post
-question-returns-3 t c = ?
+-- src/lib.rt:382:44
+result-sub-sub-questions : (t : ℕ) → result-lts.Need-sub-sub-questions (result-calls t) (result-at t) result.Post
+result-sub-sub-questions t c = omega arith
 
--- src/lib.rt:184:1
-question-same-length-4 : (t : ℕ) → question-lts.Need-same-length-4 (
-  before-candidates-reads.Asked,
-  before-candidates-reads.Learnt,
-  candidates-below t,
-  candidates.Post,
-) (question-at t) question.Post
-question-same-length-4 t c = ?
+-- src/lib.rt:382:44
+result-part-sub-questions-start : (t : ℕ) → result-lts.Need-part-sub-questions-start (result-calls t) (result-at t) result.Post
+result-part-sub-questions-start t c = omega arith
 
--- src/lib.rt:184:1
-question-same-length-5 : (t : ℕ) → question-lts.Need-same-length-5 (
-  before-candidates-reads.Asked,
-  before-candidates-reads.Learnt,
-  candidates-below t,
-  candidates.Post,
-) (question-at t) question.Post
-question-same-length-5 t c = ?
+-- src/lib.rt:382:44
+result-part-sub-questions-end : (t : ℕ) → result-lts.Need-part-sub-questions-end (result-calls t) (result-at t) result.Post
+result-part-sub-questions-end t c = omega arith
 
--- src/lib.rt:184:1
-question-same-length-6 : (t : ℕ) → question-lts.Need-same-length-6 (
-  before-candidates-reads.Asked,
-  before-candidates-reads.Learnt,
-  candidates-below t,
-  candidates.Post,
-) (question-at t) question.Post
-question-same-length-6 t c = ?
+-- src/lib.rt:382:9
+result-sub-questions-requires : (t : ℕ) → result-lts.Need-sub-questions-requires (result-calls t) (result-at t) result.Post
+result-sub-questions-requires t c κs = (omega arith, (search needs, (search (needs, element-tail), (search (needs, rest-part), search needs))))
 
--- src/lib.rt:184:1
-question-returns-4 : (t : ℕ) → question-lts.Need-returns-4 (
-  before-candidates-reads.Asked,
-  before-candidates-reads.Learnt,
-  candidates-below t,
-  candidates.Post,
-) (question-at t) question.Post
-question-returns-4 t c = ?
+-- src/lib.rt:383:49
+result-add-settle-joined : (t : ℕ) → result-lts.Need-add-settle-joined (result-calls t) (result-at t) result.Post
+result-add-settle-joined t c = omega arith
 
--- src/lib.rt:419:29
-result-mul-element : (t : ℕ) → result-lts.Need-mul-element (
-  copy-table-slot-reads.Asked,
-  copy-table-slot-reads.Learnt,
-  sub-questions-below t,
-  sub-questions.Post,
-  settle-joined-reads.Asked,
-  settle-joined-reads.Learnt,
-) (result-at t) result.Post
-result-mul-element t c = ?
+-- src/lib.rt:383:5
+result-settle-joined-requires : (t : ℕ) → result-lts.Need-settle-joined-requires (result-calls t) (result-at t) result.Post
+result-settle-joined-requires t c κs = (omega (arith, c .before .before .before .before .before .before .before .before .before .before .before .before .pre), (omega arith, (omega arith, (search (needs, rest-long, c .before .before .before .before .before .before .before .before .before .before .before .before .pre, c .before .before .before .before .before .before .before .copy-table-slot .ensures, c .before .before .before .sub-questions .ensures, c .before .before .before .sub-questions .kept .1 .1 .0), (rest-element _ _ _ _ _ _ _ _ (c .before .before .before .before .before .before .before .before .before .before .before .before .pre .1 .1 .0) (omega (arith, c .before .before .before .before .before .before .before .before .before .before .before .before .pre)) (omega (arith, c .before .before .before .before .before .before .before .before .before .before .before .before .pre)) (c .before .before .before .before .before .before .before .copy-table-slot .ensures) _ _ (c .before .before .before .sub-questions .ensures) (c .before .before .before .sub-questions .kept .1 .1 .0), rest-sub _ _ _ _ _ _ _ _ (c .before .before .before .before .before .before .before .before .before .before .before .before .pre .1 .1 .0) (omega (arith, c .before .before .before .before .before .before .before .before .before .before .before .before .pre)) (omega (arith, c .before .before .before .before .before .before .before .before .before .before .before .before .pre)) (c .before .before .before .before .before .before .before .copy-table-slot .ensures) _ _ (c .before .before .before .sub-questions .ensures) (c .before .before .before .sub-questions .kept .1 .1 .0))))))
 
--- src/lib.rt:419:19
-result-add-element : (t : ℕ) → result-lts.Need-add-element (
-  copy-table-slot-reads.Asked,
-  copy-table-slot-reads.Learnt,
-  sub-questions-below t,
-  sub-questions.Post,
-  settle-joined-reads.Asked,
-  settle-joined-reads.Learnt,
-) (result-at t) result.Post
-result-add-element t c = ?
+-- src/lib.rt:359:1
+result-same-length : (t : ℕ) → result-lts.Need-same-length (result-calls t) (result-at t) result.Post
+result-same-length t c = search needs
 
--- src/lib.rt:420:5
-result-copy-table-slot-requires : (t : ℕ) → result-lts.Need-copy-table-slot-requires (
-  copy-table-slot-reads.Asked,
-  copy-table-slot-reads.Learnt,
-  sub-questions-below t,
-  sub-questions.Post,
-  settle-joined-reads.Asked,
-  settle-joined-reads.Learnt,
-) (result-at t) result.Post
-result-copy-table-slot-requires t c κs = ?
-
--- src/lib.rt:421:44
-result-sub-sub-questions : (t : ℕ) → result-lts.Need-sub-sub-questions (
-  copy-table-slot-reads.Asked,
-  copy-table-slot-reads.Learnt,
-  sub-questions-below t,
-  sub-questions.Post,
-  settle-joined-reads.Asked,
-  settle-joined-reads.Learnt,
-) (result-at t) result.Post
-result-sub-sub-questions t c = ?
-
--- src/lib.rt:421:44
-result-part-sub-questions-start : (t : ℕ) → result-lts.Need-part-sub-questions-start (
-  copy-table-slot-reads.Asked,
-  copy-table-slot-reads.Learnt,
-  sub-questions-below t,
-  sub-questions.Post,
-  settle-joined-reads.Asked,
-  settle-joined-reads.Learnt,
-) (result-at t) result.Post
-result-part-sub-questions-start t c = ?
-
--- src/lib.rt:421:44
-result-part-sub-questions-end : (t : ℕ) → result-lts.Need-part-sub-questions-end (
-  copy-table-slot-reads.Asked,
-  copy-table-slot-reads.Learnt,
-  sub-questions-below t,
-  sub-questions.Post,
-  settle-joined-reads.Asked,
-  settle-joined-reads.Learnt,
-) (result-at t) result.Post
-result-part-sub-questions-end t c = ?
-
--- src/lib.rt:421:9
-result-sub-questions-requires : (t : ℕ) → result-lts.Need-sub-questions-requires (
-  copy-table-slot-reads.Asked,
-  copy-table-slot-reads.Learnt,
-  sub-questions-below t,
-  sub-questions.Post,
-  settle-joined-reads.Asked,
-  settle-joined-reads.Learnt,
-) (result-at t) result.Post
-result-sub-questions-requires t c κs = ?
-
--- src/lib.rt:422:49
-result-add-settle-joined : (t : ℕ) → result-lts.Need-add-settle-joined (
-  copy-table-slot-reads.Asked,
-  copy-table-slot-reads.Learnt,
-  sub-questions-below t,
-  sub-questions.Post,
-  settle-joined-reads.Asked,
-  settle-joined-reads.Learnt,
-) (result-at t) result.Post
-result-add-settle-joined t c = ?
-
--- src/lib.rt:422:5
-result-settle-joined-requires : (t : ℕ) → result-lts.Need-settle-joined-requires (
-  copy-table-slot-reads.Asked,
-  copy-table-slot-reads.Learnt,
-  sub-questions-below t,
-  sub-questions.Post,
-  settle-joined-reads.Asked,
-  settle-joined-reads.Learnt,
-) (result-at t) result.Post
-result-settle-joined-requires t c κs = ?
-
--- src/lib.rt:395:1
-result-same-length : (t : ℕ) → result-lts.Need-same-length (
-  copy-table-slot-reads.Asked,
-  copy-table-slot-reads.Learnt,
-  sub-questions-below t,
-  sub-questions.Post,
-  settle-joined-reads.Asked,
-  settle-joined-reads.Learnt,
-) (result-at t) result.Post
-result-same-length t c = ?
-
--- src/lib.rt:395:1
-result-same-length-2 : (t : ℕ) → result-lts.Need-same-length-2 (
-  copy-table-slot-reads.Asked,
-  copy-table-slot-reads.Learnt,
-  sub-questions-below t,
-  sub-questions.Post,
-  settle-joined-reads.Asked,
-  settle-joined-reads.Learnt,
-) (result-at t) result.Post
-result-same-length-2 t c = ?
-
--- src/lib.rt:395:1
-result-same-length-3 : (t : ℕ) → result-lts.Need-same-length-3 (
-  copy-table-slot-reads.Asked,
-  copy-table-slot-reads.Learnt,
-  sub-questions-below t,
-  sub-questions.Post,
-  settle-joined-reads.Asked,
-  settle-joined-reads.Learnt,
-) (result-at t) result.Post
-result-same-length-3 t c = ?
-
--- src/lib.rt:395:1
-result-returns : (t : ℕ) → result-lts.Need-returns (
-  copy-table-slot-reads.Asked,
-  copy-table-slot-reads.Learnt,
-  sub-questions-below t,
-  sub-questions.Post,
-  settle-joined-reads.Asked,
-  settle-joined-reads.Learnt,
-) (result-at t) result.Post
-result-returns t c = ?
+-- src/lib.rt:359:1
+result-returns : (t : ℕ) → result-lts.Need-returns (result-calls t) (result-at t) result.Post
+result-returns t c = rest-steps _ _ _ _ _ _ _ _ (c .before .before .before .before .before .before .before .before .before .before .before .before .before .before .before .pre .1 .1 .0) (omega (arith, c .before .before .before .before .before .before .before .before .before .before .before .before .before .before .before .pre)) (omega (arith, c .before .before .before .before .before .before .before .before .before .before .before .before .before .before .before .pre)) (c .before .before .before .before .before .before .before .before .before .before .copy-table-slot .ensures) _ _ (c .before .before .before .before .before .before .sub-questions .ensures) (c .before .before .before .before .before .before .sub-questions .kept .1 .1 .0) _ _ _ (omega (arith, c .before .before .before .before .before .before .before .before .before .before .before .before .before .before .before .pre)) (c .before .before .settle-joined .ensures)
 
 abbrev results-Inv-loop : results-lts.InvT-loop
-results-Inv-loop sheet sets ws₀ places₀ map₀ f qs from depth m count stand₀ cur₀ k₀ ws places map stand cur k =
-    ?
+results-Inv-loop sheet sets ws₀ f qs from depth m count stand₀ cur₀ k₀ ws stand cur k =
+    Collecting (f .limit) (sub-one (ask-below depth (finder-of sheet f)) (drop from (queries-of qs))) m count qs from ws₀ ws k stand cur
 
 abbrev results-μ-loop : results-lts.MeasureT-loop
-results-μ-loop sheet sets ws₀ places₀ map₀ f qs from depth m count stand₀ cur₀ k₀ ws places map stand cur k =
-    ?
+results-μ-loop sheet sets ws₀ f qs from depth m count stand₀ cur₀ k₀ ws stand cur k =
+    m - k
 
--- src/lib.rt:375:5
+-- src/lib.rt:339:5
 results-loop-holds :
     (t : ℕ) →
     results-lts.Need-loop-holds
@@ -858,9 +368,9 @@ results-loop-holds :
     results.Post
     results-Inv-loop
     results-μ-loop
-results-loop-holds t c = ?
+results-loop-holds t c = search (needs, collecting-start)
 
--- src/lib.rt:376:13
+-- src/lib.rt:340:13
 results-result-requires :
     (t : ℕ) →
     results-lts.Need-result-requires
@@ -869,9 +379,9 @@ results-result-requires :
     results.Post
     results-Inv-loop
     results-μ-loop
-results-result-requires t c κs = ?
+results-result-requires t c κs = (omega arith, (search needs, (search (needs, collecting-element), (search (needs, collecting-long), (search needs, (omega arith, (search (needs, collecting-few), search (needs, collecting-low))))))))
 
--- src/lib.rt:378:30
+-- src/lib.rt:342:30
 results-enum-known-one :
     (t : ℕ) →
     results-lts.Need-enum-known-one
@@ -880,9 +390,9 @@ results-enum-known-one :
     results.Post
     results-Inv-loop
     results-μ-loop
-results-enum-known-one t c = ?
+results-enum-known-one t c = search needs
 
--- src/lib.rt:379:17
+-- src/lib.rt:343:17
 results-same-length :
     (t : ℕ) →
     results-lts.Need-same-length
@@ -891,31 +401,9 @@ results-same-length :
     results.Post
     results-Inv-loop
     results-μ-loop
-results-same-length t c = ?
+results-same-length t c = search needs
 
--- src/lib.rt:379:17
-results-same-length-2 :
-    (t : ℕ) →
-    results-lts.Need-same-length-2
-    (result-below t, result.Post)
-    (results-at t)
-    results.Post
-    results-Inv-loop
-    results-μ-loop
-results-same-length-2 t c = ?
-
--- src/lib.rt:379:17
-results-same-length-3 :
-    (t : ℕ) →
-    results-lts.Need-same-length-3
-    (result-below t, result.Post)
-    (results-at t)
-    results.Post
-    results-Inv-loop
-    results-μ-loop
-results-same-length-3 t c = ?
-
--- src/lib.rt:379:17
+-- src/lib.rt:343:17
 results-returns :
     (t : ℕ) →
     results-lts.Need-returns
@@ -924,16 +412,13 @@ results-returns :
     results.Post
     results-Inv-loop
     results-μ-loop
-results-returns t c = ?
+results-returns t c = search (needs, collecting-refused)
 
--- src/lib.rt:381:28
-results-enum-known-one-2 : (t : ℕ) → results-lts.Need-enum-known-one-2 (
-  result-below t,
-  result.Post,
-) (results-at t) results.Post results-Inv-loop results-μ-loop
-results-enum-known-one-2 t c = ?
+-- src/lib.rt:345:28
+results-enum-known-one-2 : (t : ℕ) → results-lts.Need-enum-known-one-2 (results-calls t) (results-at t) results.Post results-Inv-loop results-μ-loop
+results-enum-known-one-2 t c = search needs
 
--- src/lib.rt:386:9
+-- src/lib.rt:350:9
 results-add-k :
     (t : ℕ) →
     results-lts.Need-add-k
@@ -942,9 +427,9 @@ results-add-k :
     results.Post
     results-Inv-loop
     results-μ-loop
-results-add-k t c = ?
+results-add-k t c = omega arith
 
--- src/lib.rt:375:5
+-- src/lib.rt:339:5
 results-loop-less :
     (t : ℕ) →
     results-lts.Need-loop-less
@@ -953,9 +438,9 @@ results-loop-less :
     results.Post
     results-Inv-loop
     results-μ-loop
-results-loop-less t c = ?
+results-loop-less t c = search needs
 
--- src/lib.rt:375:5
+-- src/lib.rt:339:5
 results-loop-again :
     (t : ℕ) →
     results-lts.Need-loop-again
@@ -964,42 +449,20 @@ results-loop-again :
     results.Post
     results-Inv-loop
     results-μ-loop
-results-loop-again t c = ?
+results-loop-again t c = search (needs, collecting-on)
 
--- src/lib.rt:350:1
-results-same-length-4 :
+-- src/lib.rt:317:1
+results-same-length-2 :
     (t : ℕ) →
-    results-lts.Need-same-length-4
+    results-lts.Need-same-length-2
     (result-below t, result.Post)
     (results-at t)
     results.Post
     results-Inv-loop
     results-μ-loop
-results-same-length-4 t c = ?
+results-same-length-2 t c = search needs
 
--- src/lib.rt:350:1
-results-same-length-5 :
-    (t : ℕ) →
-    results-lts.Need-same-length-5
-    (result-below t, result.Post)
-    (results-at t)
-    results.Post
-    results-Inv-loop
-    results-μ-loop
-results-same-length-5 t c = ?
-
--- src/lib.rt:350:1
-results-same-length-6 :
-    (t : ℕ) →
-    results-lts.Need-same-length-6
-    (result-below t, result.Post)
-    (results-at t)
-    results.Post
-    results-Inv-loop
-    results-μ-loop
-results-same-length-6 t c = ?
-
--- src/lib.rt:350:1
+-- src/lib.rt:317:1
 results-returns-2 :
     (t : ℕ) →
     results-lts.Need-returns-2
@@ -1008,412 +471,91 @@ results-returns-2 :
     results.Post
     results-Inv-loop
     results-μ-loop
-results-returns-2 t c = ?
+results-returns-2 t c = search (needs, collecting-end)
 
--- src/lib.rt:333:9
-sub-questions-none-left-requires : (t : ℕ) → sub-questions-lts.Need-none-left-requires (
-  none-left-reads.Asked,
-  none-left-reads.Learnt,
-  query-at-reads.Asked,
-  query-at-reads.Learnt,
-  question-below t,
-  question.Post,
-  copy-table-slot-reads.Asked,
-  copy-table-slot-reads.Learnt,
-  results-below t,
-  results.Post,
-) (sub-questions-at t) sub-questions.Post
-sub-questions-none-left-requires t c κs = ?
+-- src/lib.rt:302:9
+sub-questions-none-left-requires : (t : ℕ) → sub-questions-lts.Need-none-left-requires (sub-questions-calls t) (sub-questions-at t) sub-questions.Post
+sub-questions-none-left-requires t c κs = (search needs, (omega arith, search needs))
 
--- src/lib.rt:333:9
-sub-questions-same-length : (t : ℕ) → sub-questions-lts.Need-same-length (
-  none-left-reads.Asked,
-  none-left-reads.Learnt,
-  query-at-reads.Asked,
-  query-at-reads.Learnt,
-  question-below t,
-  question.Post,
-  copy-table-slot-reads.Asked,
-  copy-table-slot-reads.Learnt,
-  results-below t,
-  results.Post,
-) (sub-questions-at t) sub-questions.Post
-sub-questions-same-length t c = ?
+-- src/lib.rt:302:9
+sub-questions-same-length : (t : ℕ) → sub-questions-lts.Need-same-length (sub-questions-calls t) (sub-questions-at t) sub-questions.Post
+sub-questions-same-length t c = search needs
 
--- src/lib.rt:333:9
-sub-questions-returns : (t : ℕ) → sub-questions-lts.Need-returns (
-  none-left-reads.Asked,
-  none-left-reads.Learnt,
-  query-at-reads.Asked,
-  query-at-reads.Learnt,
-  question-below t,
-  question.Post,
-  copy-table-slot-reads.Asked,
-  copy-table-slot-reads.Learnt,
-  results-below t,
-  results.Post,
-) (sub-questions-at t) sub-questions.Post
-sub-questions-returns t c = ?
+-- src/lib.rt:302:9
+sub-questions-returns : (t : ℕ) → sub-questions-lts.Need-returns (sub-questions-calls t) (sub-questions-at t) sub-questions.Post
+sub-questions-returns t c = search (needs, sub-none)
 
--- src/lib.rt:335:9
-sub-questions-query-at-requires : (t : ℕ) → sub-questions-lts.Need-query-at-requires (
-  none-left-reads.Asked,
-  none-left-reads.Learnt,
-  query-at-reads.Asked,
-  query-at-reads.Learnt,
-  question-below t,
-  question.Post,
-  copy-table-slot-reads.Asked,
-  copy-table-slot-reads.Learnt,
-  results-below t,
-  results.Post,
-) (sub-questions-at t) sub-questions.Post
-sub-questions-query-at-requires t c κs = ?
+-- src/lib.rt:304:9
+sub-questions-query-at-requires : (t : ℕ) → sub-questions-lts.Need-query-at-requires (sub-questions-calls t) (sub-questions-at t) sub-questions.Post
+sub-questions-query-at-requires t c κs = search needs
 
--- src/lib.rt:336:16
-sub-questions-add-if2 : (t : ℕ) → sub-questions-lts.Need-add-if2 (
-  none-left-reads.Asked,
-  none-left-reads.Learnt,
-  query-at-reads.Asked,
-  query-at-reads.Learnt,
-  question-below t,
-  question.Post,
-  copy-table-slot-reads.Asked,
-  copy-table-slot-reads.Learnt,
-  results-below t,
-  results.Post,
-) (sub-questions-at t) sub-questions.Post
-sub-questions-add-if2 t c = ?
+-- src/lib.rt:305:16
+sub-questions-add-if2 : (t : ℕ) → sub-questions-lts.Need-add-if2 (sub-questions-calls t) (sub-questions-at t) sub-questions.Post
+sub-questions-add-if2 t c = omega arith
 
--- src/lib.rt:337:9
-sub-questions-question-requires : (t : ℕ) → sub-questions-lts.Need-question-requires (
-  none-left-reads.Asked,
-  none-left-reads.Learnt,
-  query-at-reads.Asked,
-  query-at-reads.Learnt,
-  question-below t,
-  question.Post,
-  copy-table-slot-reads.Asked,
-  copy-table-slot-reads.Learnt,
-  results-below t,
-  results.Post,
-) (sub-questions-at t) sub-questions.Post
-sub-questions-question-requires t c κs = ?
+-- src/lib.rt:306:9
+sub-questions-question-requires : (t : ℕ) → sub-questions-lts.Need-question-requires (sub-questions-calls t) (sub-questions-at t) sub-questions.Post
+sub-questions-question-requires t c κs = (omega arith, (search needs, (search (needs, tail-asked, c .before .before .before .before .before .before .before .before .before .pre, c .before .before .before .query-at .ensures, c .before .if2 .taken), (omega arith, (omega arith, search needs)))))
 
--- src/lib.rt:337:9
-sub-questions-same-length-2 : (t : ℕ) → sub-questions-lts.Need-same-length-2 (
-  none-left-reads.Asked,
-  none-left-reads.Learnt,
-  query-at-reads.Asked,
-  query-at-reads.Learnt,
-  question-below t,
-  question.Post,
-  copy-table-slot-reads.Asked,
-  copy-table-slot-reads.Learnt,
-  results-below t,
-  results.Post,
-) (sub-questions-at t) sub-questions.Post
-sub-questions-same-length-2 t c = ?
+-- src/lib.rt:306:9
+sub-questions-same-length-2 : (t : ℕ) → sub-questions-lts.Need-same-length-2 (sub-questions-calls t) (sub-questions-at t) sub-questions.Post
+sub-questions-same-length-2 t c = search needs
 
--- src/lib.rt:337:9
-sub-questions-same-length-3 : (t : ℕ) → sub-questions-lts.Need-same-length-3 (
-  none-left-reads.Asked,
-  none-left-reads.Learnt,
-  query-at-reads.Asked,
-  query-at-reads.Learnt,
-  question-below t,
-  question.Post,
-  copy-table-slot-reads.Asked,
-  copy-table-slot-reads.Learnt,
-  results-below t,
-  results.Post,
-) (sub-questions-at t) sub-questions.Post
-sub-questions-same-length-3 t c = ?
+-- src/lib.rt:306:9
+sub-questions-returns-2 : (t : ℕ) → sub-questions-lts.Need-returns-2 (sub-questions-calls t) (sub-questions-at t) sub-questions.Post
+sub-questions-returns-2 t c = search (needs, sub-last-of, c .before .before .question .ensures, c .before .before .before .before .before .before .query-at .ensures, c .before .before .before .before .if2 .taken)
 
--- src/lib.rt:337:9
-sub-questions-same-length-4 : (t : ℕ) → sub-questions-lts.Need-same-length-4 (
-  none-left-reads.Asked,
-  none-left-reads.Learnt,
-  query-at-reads.Asked,
-  query-at-reads.Learnt,
-  question-below t,
-  question.Post,
-  copy-table-slot-reads.Asked,
-  copy-table-slot-reads.Learnt,
-  results-below t,
-  results.Post,
-) (sub-questions-at t) sub-questions.Post
-sub-questions-same-length-4 t c = ?
+-- src/lib.rt:308:5
+sub-questions-copy-table-slot-requires : (t : ℕ) → sub-questions-lts.Need-copy-table-slot-requires (sub-questions-calls t) (sub-questions-at t) sub-questions.Post
+sub-questions-copy-table-slot-requires t c κs = (search needs, (omega arith, search (needs, beside-sub)))
 
--- src/lib.rt:337:9
-sub-questions-returns-2 : (t : ℕ) → sub-questions-lts.Need-returns-2 (
-  none-left-reads.Asked,
-  none-left-reads.Learnt,
-  query-at-reads.Asked,
-  query-at-reads.Learnt,
-  question-below t,
-  question.Post,
-  copy-table-slot-reads.Asked,
-  copy-table-slot-reads.Learnt,
-  results-below t,
-  results.Post,
-) (sub-questions-at t) sub-questions.Post
-sub-questions-returns-2 t c = ?
+-- src/lib.rt:309:39
+sub-questions-sub-question : (t : ℕ) → sub-questions-lts.Need-sub-question (sub-questions-calls t) (sub-questions-at t) sub-questions.Post
+sub-questions-sub-question t c = omega arith
 
--- src/lib.rt:339:5
-sub-questions-copy-table-slot-requires : (t : ℕ) → sub-questions-lts.Need-copy-table-slot-requires (
-  none-left-reads.Asked,
-  none-left-reads.Learnt,
-  query-at-reads.Asked,
-  query-at-reads.Learnt,
-  question-below t,
-  question.Post,
-  copy-table-slot-reads.Asked,
-  copy-table-slot-reads.Learnt,
-  results-below t,
-  results.Post,
-) (sub-questions-at t) sub-questions.Post
-sub-questions-copy-table-slot-requires t c κs = ?
+-- src/lib.rt:309:39
+sub-questions-part-question-start : (t : ℕ) → sub-questions-lts.Need-part-question-start (sub-questions-calls t) (sub-questions-at t) sub-questions.Post
+sub-questions-part-question-start t c = omega arith
 
--- src/lib.rt:340:39
-sub-questions-sub-question : (t : ℕ) → sub-questions-lts.Need-sub-question (
-  none-left-reads.Asked,
-  none-left-reads.Learnt,
-  query-at-reads.Asked,
-  query-at-reads.Learnt,
-  question-below t,
-  question.Post,
-  copy-table-slot-reads.Asked,
-  copy-table-slot-reads.Learnt,
-  results-below t,
-  results.Post,
-) (sub-questions-at t) sub-questions.Post
-sub-questions-sub-question t c = ?
+-- src/lib.rt:309:39
+sub-questions-part-question-end : (t : ℕ) → sub-questions-lts.Need-part-question-end (sub-questions-calls t) (sub-questions-at t) sub-questions.Post
+sub-questions-part-question-end t c = omega arith
 
--- src/lib.rt:340:39
-sub-questions-part-question-start : (t : ℕ) → sub-questions-lts.Need-part-question-start (
-  none-left-reads.Asked,
-  none-left-reads.Learnt,
-  query-at-reads.Asked,
-  query-at-reads.Learnt,
-  question-below t,
-  question.Post,
-  copy-table-slot-reads.Asked,
-  copy-table-slot-reads.Learnt,
-  results-below t,
-  results.Post,
-) (sub-questions-at t) sub-questions.Post
-sub-questions-part-question-start t c = ?
+-- src/lib.rt:309:9
+sub-questions-question-requires-2 : (t : ℕ) → sub-questions-lts.Need-question-requires-2 (sub-questions-calls t) (sub-questions-at t) sub-questions.Post
+sub-questions-question-requires-2 t c κs = (omega arith, (search needs, (search (needs, first-asked, c .before .before .before .before .before .before .before .before .before .before .before .before .before .pre, c .before .before .before .before .before .before .before .query-at .ensures, c .before .before .before .before .before .before .before .before .if1 .left, c .before .before .before .copy-table-slot .ensures), (search (needs, first-part), (omega arith, search needs)))))
 
--- src/lib.rt:340:39
-sub-questions-part-question-end : (t : ℕ) → sub-questions-lts.Need-part-question-end (
-  none-left-reads.Asked,
-  none-left-reads.Learnt,
-  query-at-reads.Asked,
-  query-at-reads.Learnt,
-  question-below t,
-  question.Post,
-  copy-table-slot-reads.Asked,
-  copy-table-slot-reads.Learnt,
-  results-below t,
-  results.Post,
-) (sub-questions-at t) sub-questions.Post
-sub-questions-part-question-end t c = ?
+-- src/lib.rt:311:26
+sub-questions-enum-known-first : (t : ℕ) → sub-questions-lts.Need-enum-known-first (sub-questions-calls t) (sub-questions-at t) sub-questions.Post
+sub-questions-enum-known-first t c = search needs
 
--- src/lib.rt:340:9
-sub-questions-question-requires-2 : (t : ℕ) → sub-questions-lts.Need-question-requires-2 (
-  none-left-reads.Asked,
-  none-left-reads.Learnt,
-  query-at-reads.Asked,
-  query-at-reads.Learnt,
-  question-below t,
-  question.Post,
-  copy-table-slot-reads.Asked,
-  copy-table-slot-reads.Learnt,
-  results-below t,
-  results.Post,
-) (sub-questions-at t) sub-questions.Post
-sub-questions-question-requires-2 t c κs = ?
+-- src/lib.rt:312:24
+sub-questions-enum-known-first-2 : (t : ℕ) → sub-questions-lts.Need-enum-known-first-2 (sub-questions-calls t) (sub-questions-at t) sub-questions.Post
+sub-questions-enum-known-first-2 t c = search needs
 
--- src/lib.rt:342:26
-sub-questions-enum-known-first : (t : ℕ) → sub-questions-lts.Need-enum-known-first (
-  none-left-reads.Asked,
-  none-left-reads.Learnt,
-  query-at-reads.Asked,
-  query-at-reads.Learnt,
-  question-below t,
-  question.Post,
-  copy-table-slot-reads.Asked,
-  copy-table-slot-reads.Learnt,
-  results-below t,
-  results.Post,
-) (sub-questions-at t) sub-questions.Post
-sub-questions-enum-known-first t c = ?
+-- src/lib.rt:312:72
+sub-questions-add-results : (t : ℕ) → sub-questions-lts.Need-add-results (sub-questions-calls t) (sub-questions-at t) sub-questions.Post
+sub-questions-add-results t c = omega arith
 
--- src/lib.rt:343:24
-sub-questions-enum-known-first-2 : (t : ℕ) → sub-questions-lts.Need-enum-known-first-2 (
-  none-left-reads.Asked,
-  none-left-reads.Learnt,
-  query-at-reads.Asked,
-  query-at-reads.Learnt,
-  question-below t,
-  question.Post,
-  copy-table-slot-reads.Asked,
-  copy-table-slot-reads.Learnt,
-  results-below t,
-  results.Post,
-) (sub-questions-at t) sub-questions.Post
-sub-questions-enum-known-first-2 t c = ?
+-- src/lib.rt:312:40
+sub-questions-results-requires : (t : ℕ) → sub-questions-lts.Need-results-requires (sub-questions-calls t) (sub-questions-at t) sub-questions.Post
+sub-questions-results-requires t c κs = (omega arith, (search (needs, c .before .before .before .before .before .before .before .before .before .before .before .before .before .before .before .before .before .before .before .before .pre), (asked-elements _ _ _ _ _ (c .before .before .before .before .before .before .before .before .before .before .before .before .before .before .before .before .before .before .before .before .pre .1 .0) _ _ _ _ _ _ _ _ (c .before .before .before .before .before .before .before .before .before .before .before .before .before .before .before .before .before .before .before .before .pre .1 .1 .0) (c .before .before .before .before .before .before .before .before .before .before .before .before .before .before .query-at .ensures) (omega (arith, c .before .before .before .before .before .before .before .before .before .before .before .before .before .before .before .if1 .left)) (omega (arith, c .before .before .before .before .before .before .before .before .before .before .before .before .before .before .before .before .before .before .before .before .pre, c .before .before .before .before .before .before .before .before .before .before .before .before .before .before .before .if1 .left, c .before .before .before .before .before .before .before .before .before .before .before .before .if2 .left)) (c .before .before .before .before .before .before .before .before .before .before .copy-table-slot .ensures) (c .before .before .before .before .before .before .question2 .ensures) (c .before .before .before .before .before .before .question2 .kept .1 .1 .0) _ _ (c .before .before .first2 .given .1), (search (needs, sub-long, c .before .before .before .before .before .before .before .before .before .before .before .before .before .before .before .before .before .before .before .before .pre, c .before .before .before .before .before .before .before .before .before .before .before .before .before .before .before .if1 .left, c .before .before .before .before .before .before .before .before .before .before .before .before .if2 .left, c .before .before .before .before .before .before .before .before .before .before .copy-table-slot .ensures, c .before .before .before .before .before .before .question2 .kept .1 .1 .0), (omega arith, (asked-few _ _ _ _ _ (c .before .before .before .before .before .before .before .before .before .before .before .before .before .before .before .before .before .before .before .before .pre .1 .0) _ _ _ _ _ _ _ _ (c .before .before .before .before .before .before .before .before .before .before .before .before .before .before .before .before .before .before .before .before .pre .1 .1 .0) (c .before .before .before .before .before .before .before .before .before .before .before .before .before .before .query-at .ensures) (omega (arith, c .before .before .before .before .before .before .before .before .before .before .before .before .before .before .before .if1 .left)) (omega (arith, c .before .before .before .before .before .before .before .before .before .before .before .before .before .before .before .before .before .before .before .before .pre, c .before .before .before .before .before .before .before .before .before .before .before .before .before .before .before .if1 .left, c .before .before .before .before .before .before .before .before .before .before .before .before .if2 .left)) (c .before .before .before .before .before .before .before .before .before .before .copy-table-slot .ensures) (c .before .before .before .before .before .before .question2 .ensures) (c .before .before .before .before .before .before .question2 .kept .1 .1 .0) _ _ (c .before .before .first2 .given .1), asked-low _ _ _ _ _ (c .before .before .before .before .before .before .before .before .before .before .before .before .before .before .before .before .before .before .before .before .pre .1 .0) _ _ _ _ _ _ _ _ (c .before .before .before .before .before .before .before .before .before .before .before .before .before .before .before .before .before .before .before .before .pre .1 .1 .0) (c .before .before .before .before .before .before .before .before .before .before .before .before .before .before .query-at .ensures) (omega (arith, c .before .before .before .before .before .before .before .before .before .before .before .before .before .before .before .if1 .left)) (omega (arith, c .before .before .before .before .before .before .before .before .before .before .before .before .before .before .before .before .before .before .before .before .pre, c .before .before .before .before .before .before .before .before .before .before .before .before .before .before .before .if1 .left, c .before .before .before .before .before .before .before .before .before .before .before .before .if2 .left)) (c .before .before .before .before .before .before .before .before .before .before .copy-table-slot .ensures) (c .before .before .before .before .before .before .question2 .ensures) (c .before .before .before .before .before .before .question2 .kept .1 .1 .0) _ _ (c .before .before .first2 .given .1)))))))
 
--- src/lib.rt:344:58
-sub-questions-add-results : (t : ℕ) → sub-questions-lts.Need-add-results (
-  none-left-reads.Asked,
-  none-left-reads.Learnt,
-  query-at-reads.Asked,
-  query-at-reads.Learnt,
-  question-below t,
-  question.Post,
-  copy-table-slot-reads.Asked,
-  copy-table-slot-reads.Learnt,
-  results-below t,
-  results.Post,
-) (sub-questions-at t) sub-questions.Post
-sub-questions-add-results t c = ?
+-- src/lib.rt:285:1
+sub-questions-same-length-3 : (t : ℕ) → sub-questions-lts.Need-same-length-3 (sub-questions-calls t) (sub-questions-at t) sub-questions.Post
+sub-questions-same-length-3 t c = search needs
 
--- src/lib.rt:344:13
-sub-questions-results-requires : (t : ℕ) → sub-questions-lts.Need-results-requires (
-  none-left-reads.Asked,
-  none-left-reads.Learnt,
-  query-at-reads.Asked,
-  query-at-reads.Learnt,
-  question-below t,
-  question.Post,
-  copy-table-slot-reads.Asked,
-  copy-table-slot-reads.Learnt,
-  results-below t,
-  results.Post,
-) (sub-questions-at t) sub-questions.Post
-sub-questions-results-requires t c κs = ?
+-- src/lib.rt:285:1
+sub-questions-returns-3 : (t : ℕ) → sub-questions-lts.Need-returns-3 (sub-questions-calls t) (sub-questions-at t) sub-questions.Post
+sub-questions-returns-3 t c = asked-refused _ _ _ _ _ (c .before .before .before .before .before .before .before .before .before .before .before .before .before .before .before .before .before .before .before .pre .1 .0) _ _ _ _ _ _ _ _ (c .before .before .before .before .before .before .before .before .before .before .before .before .before .before .before .before .before .before .before .pre .1 .1 .0) (c .before .before .before .before .before .before .before .before .before .before .before .before .before .query-at .ensures) (omega (arith, c .before .before .before .before .before .before .before .before .before .before .before .before .before .before .if1 .left)) (omega (arith, c .before .before .before .before .before .before .before .before .before .before .before .before .before .before .before .before .before .before .before .pre, c .before .before .before .before .before .before .before .before .before .before .before .before .before .before .if1 .left, c .before .before .before .before .before .before .before .before .before .before .before .if2 .left)) (c .before .before .before .before .before .before .before .before .before .copy-table-slot .ensures) (c .before .before .before .before .before .question2 .ensures) (c .before .before .before .before .before .question2 .kept .1 .1 .0) _ _ (c .before .first .given .1)
 
--- src/lib.rt:313:1
-sub-questions-same-length-5 : (t : ℕ) → sub-questions-lts.Need-same-length-5 (
-  none-left-reads.Asked,
-  none-left-reads.Learnt,
-  query-at-reads.Asked,
-  query-at-reads.Learnt,
-  question-below t,
-  question.Post,
-  copy-table-slot-reads.Asked,
-  copy-table-slot-reads.Learnt,
-  results-below t,
-  results.Post,
-) (sub-questions-at t) sub-questions.Post
-sub-questions-same-length-5 t c = ?
+-- src/lib.rt:285:1
+sub-questions-same-length-4 : (t : ℕ) → sub-questions-lts.Need-same-length-4 (sub-questions-calls t) (sub-questions-at t) sub-questions.Post
+sub-questions-same-length-4 t c = search needs
 
--- src/lib.rt:313:1
-sub-questions-same-length-6 : (t : ℕ) → sub-questions-lts.Need-same-length-6 (
-  none-left-reads.Asked,
-  none-left-reads.Learnt,
-  query-at-reads.Asked,
-  query-at-reads.Learnt,
-  question-below t,
-  question.Post,
-  copy-table-slot-reads.Asked,
-  copy-table-slot-reads.Learnt,
-  results-below t,
-  results.Post,
-) (sub-questions-at t) sub-questions.Post
-sub-questions-same-length-6 t c = ?
-
--- src/lib.rt:313:1
-sub-questions-same-length-7 : (t : ℕ) → sub-questions-lts.Need-same-length-7 (
-  none-left-reads.Asked,
-  none-left-reads.Learnt,
-  query-at-reads.Asked,
-  query-at-reads.Learnt,
-  question-below t,
-  question.Post,
-  copy-table-slot-reads.Asked,
-  copy-table-slot-reads.Learnt,
-  results-below t,
-  results.Post,
-) (sub-questions-at t) sub-questions.Post
-sub-questions-same-length-7 t c = ?
-
--- src/lib.rt:313:1
-sub-questions-returns-3 : (t : ℕ) → sub-questions-lts.Need-returns-3 (
-  none-left-reads.Asked,
-  none-left-reads.Learnt,
-  query-at-reads.Asked,
-  query-at-reads.Learnt,
-  question-below t,
-  question.Post,
-  copy-table-slot-reads.Asked,
-  copy-table-slot-reads.Learnt,
-  results-below t,
-  results.Post,
-) (sub-questions-at t) sub-questions.Post
-sub-questions-returns-3 t c = ?
-
--- src/lib.rt:313:1
-sub-questions-same-length-8 : (t : ℕ) → sub-questions-lts.Need-same-length-8 (
-  none-left-reads.Asked,
-  none-left-reads.Learnt,
-  query-at-reads.Asked,
-  query-at-reads.Learnt,
-  question-below t,
-  question.Post,
-  copy-table-slot-reads.Asked,
-  copy-table-slot-reads.Learnt,
-  results-below t,
-  results.Post,
-) (sub-questions-at t) sub-questions.Post
-sub-questions-same-length-8 t c = ?
-
--- src/lib.rt:313:1
-sub-questions-same-length-9 : (t : ℕ) → sub-questions-lts.Need-same-length-9 (
-  none-left-reads.Asked,
-  none-left-reads.Learnt,
-  query-at-reads.Asked,
-  query-at-reads.Learnt,
-  question-below t,
-  question.Post,
-  copy-table-slot-reads.Asked,
-  copy-table-slot-reads.Learnt,
-  results-below t,
-  results.Post,
-) (sub-questions-at t) sub-questions.Post
-sub-questions-same-length-9 t c = ?
-
--- src/lib.rt:313:1
-sub-questions-same-length-10 : (t : ℕ) → sub-questions-lts.Need-same-length-10 (
-  none-left-reads.Asked,
-  none-left-reads.Learnt,
-  query-at-reads.Asked,
-  query-at-reads.Learnt,
-  question-below t,
-  question.Post,
-  copy-table-slot-reads.Asked,
-  copy-table-slot-reads.Learnt,
-  results-below t,
-  results.Post,
-) (sub-questions-at t) sub-questions.Post
-sub-questions-same-length-10 t c = ?
-
--- src/lib.rt:313:1
-sub-questions-returns-4 : (t : ℕ) → sub-questions-lts.Need-returns-4 (
-  none-left-reads.Asked,
-  none-left-reads.Learnt,
-  query-at-reads.Asked,
-  query-at-reads.Learnt,
-  question-below t,
-  question.Post,
-  copy-table-slot-reads.Asked,
-  copy-table-slot-reads.Learnt,
-  results-below t,
-  results.Post,
-) (sub-questions-at t) sub-questions.Post
-sub-questions-returns-4 t c = ?
+-- src/lib.rt:285:1
+sub-questions-returns-4 : (t : ℕ) → sub-questions-lts.Need-returns-4 (sub-questions-calls t) (sub-questions-at t) sub-questions.Post
+sub-questions-returns-4 t c = asked-goes _ _ _ _ _ (c .before .before .before .before .before .before .before .before .before .before .before .before .before .before .before .before .before .before .before .before .before .before .before .pre .1 .0) _ _ _ _ _ _ _ _ (c .before .before .before .before .before .before .before .before .before .before .before .before .before .before .before .before .before .before .before .before .before .before .before .pre .1 .1 .0) (c .before .before .before .before .before .before .before .before .before .before .before .before .before .before .before .before .before .query-at .ensures) (omega (arith, c .before .before .before .before .before .before .before .before .before .before .before .before .before .before .before .before .before .before .if1 .left)) (omega (arith, c .before .before .before .before .before .before .before .before .before .before .before .before .before .before .before .before .before .before .before .before .before .before .before .pre, c .before .before .before .before .before .before .before .before .before .before .before .before .before .before .before .before .before .before .if1 .left, c .before .before .before .before .before .before .before .before .before .before .before .before .before .before .before .if2 .left)) (c .before .before .before .before .before .before .before .before .before .before .before .before .before .copy-table-slot .ensures) (c .before .before .before .before .before .before .before .before .before .question2 .ensures) (c .before .before .before .before .before .before .before .before .before .question2 .kept .1 .1 .0) _ _ (c .before .before .before .before .before .first2 .given .1) _ _ (c .before .before .results .ensures)
 
 pub +candidate+candidates+question+result+results+sub-questions-spec : {M : Type 1} → statement M
 +candidate+candidates+question+result+results+sub-questions-spec =
@@ -1424,24 +566,12 @@ pub +candidate+candidates+question+result+results+sub-questions-spec : {M : Type
     μ-result
     μ-results
     μ-sub-questions
-    (λ t. candidate-lts.spec (
-      open-candidate-reads.Asked,
-      open-candidate-reads.Learnt,
-      sub-questions-below t,
-      sub-questions.Post,
-      settle-wrapped-reads.Asked,
-      settle-wrapped-reads.Learnt,
-    )
-    (candidate-at t)
+    (λ t. candidate-lts.spec (candidate-calls t) (candidate-at t)
     candidate.Post
-    (candidate-open-candidate-requires t)
+    (candidate-open-one-requires t)
     (candidate-same-length t)
-    (candidate-same-length-2 t)
-    (candidate-same-length-3 t)
     (candidate-returns t)
-    (candidate-same-length-4 t)
-    (candidate-same-length-5 t)
-    (candidate-same-length-6 t)
+    (candidate-same-length-2 t)
     (candidate-returns-2 t)
     (candidate-sub-sub-questions t)
     (candidate-part-sub-questions-start t)
@@ -1449,19 +579,9 @@ pub +candidate+candidates+question+result+results+sub-questions-spec : {M : Type
     (candidate-sub-questions-requires t)
     (candidate-cast-settle-wrapped t)
     (candidate-settle-wrapped-requires t)
-    (candidate-same-length-7 t)
-    (candidate-same-length-8 t)
-    (candidate-same-length-9 t)
+    (candidate-same-length-3 t)
     (candidate-returns-3 t))
-    (λ t. candidates-lts.spec (
-      find-candidates-reads.Asked,
-      find-candidates-reads.Learnt,
-      next-id-reads.Asked,
-      next-id-reads.Learnt,
-      candidate-below t,
-      candidate.Post,
-    )
-    (candidates-at t)
+    (λ t. candidates-lts.spec (candidates-calls t) (candidates-at t)
     candidates.Post
     candidates-Inv-loop
     candidates-μ-loop
@@ -1473,53 +593,31 @@ pub +candidate+candidates+question+result+results+sub-questions-spec : {M : Type
     (candidates-candidate-requires t)
     (candidates-enum-known-one t)
     (candidates-same-length-2 t)
-    (candidates-same-length-3 t)
-    (candidates-same-length-4 t)
     (candidates-returns-2 t)
     (candidates-enum-known-one-2 t)
     (candidates-add-next-id t)
     (candidates-next-id-requires-2 t)
     (candidates-loop-less t)
     (candidates-loop-again t)
-    (candidates-same-length-5 t)
-    (candidates-same-length-6 t)
-    (candidates-same-length-7 t)
+    (candidates-same-length-3 t)
     (candidates-returns-3 t))
-    (λ t. question-lts.spec (
-      before-candidates-reads.Asked,
-      before-candidates-reads.Learnt,
-      candidates-below t,
-      candidates.Post,
-    )
-    (question-at t)
+    (λ t. question-lts.spec (question-calls t) (question-at t)
     question.Post
-    (question-add-t17 t)
+    (question-add-t15 t)
     (question-returns t)
-    (question-add-t18 t)
+    (question-add-t16 t)
     (question-returns-2 t)
-    (question-add-before-candidates t)
-    (question-before-candidates-requires t)
+    (question-add-begin t)
+    (question-begin-requires t)
     (question-enum-known-first t)
     (question-enum-known-first-2 t)
     (question-sub-candidates t)
     (question-candidates-requires t)
     (question-same-length t)
-    (question-same-length-2 t)
-    (question-same-length-3 t)
     (question-returns-3 t)
-    (question-same-length-4 t)
-    (question-same-length-5 t)
-    (question-same-length-6 t)
+    (question-same-length-2 t)
     (question-returns-4 t))
-    (λ t. result-lts.spec (
-      copy-table-slot-reads.Asked,
-      copy-table-slot-reads.Learnt,
-      sub-questions-below t,
-      sub-questions.Post,
-      settle-joined-reads.Asked,
-      settle-joined-reads.Learnt,
-    )
-    (result-at t)
+    (λ t. result-lts.spec (result-calls t) (result-at t)
     result.Post
     (result-mul-element t)
     (result-add-element t)
@@ -1531,8 +629,6 @@ pub +candidate+candidates+question+result+results+sub-questions-spec : {M : Type
     (result-add-settle-joined t)
     (result-settle-joined-requires t)
     (result-same-length t)
-    (result-same-length-2 t)
-    (result-same-length-3 t)
     (result-returns t))
     (λ t. results-lts.spec
     (result-below t, result.Post)
@@ -1544,30 +640,14 @@ pub +candidate+candidates+question+result+results+sub-questions-spec : {M : Type
     (results-result-requires t)
     (results-enum-known-one t)
     (results-same-length t)
-    (results-same-length-2 t)
-    (results-same-length-3 t)
     (results-returns t)
     (results-enum-known-one-2 t)
     (results-add-k t)
     (results-loop-less t)
     (results-loop-again t)
-    (results-same-length-4 t)
-    (results-same-length-5 t)
-    (results-same-length-6 t)
+    (results-same-length-2 t)
     (results-returns-2 t))
-    λ t. sub-questions-lts.spec (
-      none-left-reads.Asked,
-      none-left-reads.Learnt,
-      query-at-reads.Asked,
-      query-at-reads.Learnt,
-      question-below t,
-      question.Post,
-      copy-table-slot-reads.Asked,
-      copy-table-slot-reads.Learnt,
-      results-below t,
-      results.Post,
-    )
-    (sub-questions-at t)
+    λ t. sub-questions-lts.spec (sub-questions-calls t) (sub-questions-at t)
     sub-questions.Post
     (sub-questions-none-left-requires t)
     (sub-questions-same-length t)
@@ -1576,8 +656,6 @@ pub +candidate+candidates+question+result+results+sub-questions-spec : {M : Type
     (sub-questions-add-if2 t)
     (sub-questions-question-requires t)
     (sub-questions-same-length-2 t)
-    (sub-questions-same-length-3 t)
-    (sub-questions-same-length-4 t)
     (sub-questions-returns-2 t)
     (sub-questions-copy-table-slot-requires t)
     (sub-questions-sub-question t)
@@ -1588,11 +666,7 @@ pub +candidate+candidates+question+result+results+sub-questions-spec : {M : Type
     (sub-questions-enum-known-first-2 t)
     (sub-questions-add-results t)
     (sub-questions-results-requires t)
-    (sub-questions-same-length-5 t)
-    (sub-questions-same-length-6 t)
-    (sub-questions-same-length-7 t)
+    (sub-questions-same-length-3 t)
     (sub-questions-returns-3 t)
-    (sub-questions-same-length-8 t)
-    (sub-questions-same-length-9 t)
-    (sub-questions-same-length-10 t)
+    (sub-questions-same-length-4 t)
     (sub-questions-returns-4 t)
