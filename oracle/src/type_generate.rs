@@ -1,6 +1,8 @@
 //! Generates cases of the type table: tables built at random, types met with changed copies of themselves, classes joined in
 //! many orders, types moved to and fro, and tables at the limit of their nodes.
 
+use std::collections::HashMap;
+
 use crate::{
   draft,
   layout::Style,
@@ -23,12 +25,13 @@ pub fn case(seed: u64, index: u64) -> TypeCase {
   let mut rng = Rng::new(seed ^ index.wrapping_mul(0x1000_0000_01b3));
   let sheet = sheet(&mut rng);
   let words = sheet.words(Style::random(&mut rng), &mut rng);
-  let mut maker = Maker { rng, sheet, run: Run::new(words) };
+  let mut maker = Maker { rng, sheet, run: Run::new(words), kinds: Default::default() };
   match index % 100 {
-    0..40 => maker.mixed(),
-    40..65 => maker.copies(),
-    65..78 => maker.classes(),
-    78..97 => maker.moves(),
+    0..34 => maker.mixed(),
+    34..54 => maker.copies(),
+    54..68 => maker.rows(),
+    68..80 => maker.classes(),
+    80..97 => maker.moves(),
     97 => maker.full(),
     98 => maker.overfull(),
     _ => maker.shared(),
@@ -58,6 +61,8 @@ struct Maker {
   rng: Rng,
   sheet: draft::Sheet,
   run: Run,
+  /// The types of each kind that steps have added to each table.
+  kinds: [HashMap<u32, Vec<u32>>; 2],
 }
 
 impl Maker {
@@ -86,7 +91,9 @@ impl Maker {
 
   fn add(&mut self, table: u32, kind: u32, id: u32, children: Vec<u32>) -> u32 {
     let inverted = u32::from(self.rng.chance(15));
-    2 * self.run.make(table, Step::Known { kind, inverted, id, children })[0]
+    let ty = 2 * self.run.make(table, Step::Known { kind, inverted, id, children })[0];
+    self.kinds[table as usize].entry(kind).or_default().push(ty);
+    ty
   }
 
   /// A kind with an id, whatever its children.
@@ -147,9 +154,22 @@ impl Maker {
     };
   }
 
+  /// Two types, often of one kind.
+  fn pair(&mut self, table: u32) -> (u32, u32) {
+    let (kind, _) = self.kind_and_id();
+    let alike = self.kinds[table as usize].get(&kind).cloned().unwrap_or_default();
+    let count = 2 * self.run.node_count(table);
+    if alike.len() > 1 && self.rng.chance(50) {
+      let (a, b) = (self.rng.pick(&alike), self.rng.pick(&alike));
+      if a < count && b < count {
+        return (a, b ^ u32::from(self.rng.chance(25)));
+      }
+    }
+    (self.any(table), if self.rng.chance(50) { self.any(table) } else { self.recent(table) })
+  }
+
   fn unify(&mut self, table: u32) {
-    let (a, b) =
-      (self.any(table), if self.rng.chance(50) { self.any(table) } else { self.recent(table) });
+    let (a, b) = self.pair(table);
     self.run.make(table, Step::Unify { a, b });
   }
 
@@ -278,6 +298,48 @@ impl Maker {
     }
   }
 
+  /// Types of many children, of which some meet and others do not.
+  fn rows(&mut self) {
+    for _ in 0..self.rng.range(1, 3) {
+      let kind =
+        self.rng.pick(&[kind::TUPLE, kind::STRUCT, kind::ENUM, kind::UNION, kind::CLOSURE]);
+      let count = self.rng.range(2, 6);
+      let mut rows = [Vec::new(), Vec::new()];
+      for _ in 0..count {
+        let pair = self.meeting();
+        rows[0].push(pair.0);
+        rows[1].push(pair.1);
+      }
+      if self.rng.chance(15) {
+        rows[0].remove(0);
+      }
+      let [xs, ys] = rows;
+      let id = u32::from(kind != kind::TUPLE);
+      let (a, b) = (self.add(0, kind, id, xs), self.add(0, kind, id, ys));
+      let b = b ^ u32::from(self.rng.chance(25));
+      self.run.make(0, Step::Unify { a, b });
+      self.ask(0);
+      if self.rng.chance(50) {
+        self.run.make(0, Step::Nodes);
+      }
+    }
+  }
+
+  /// Two types: they meet, one is Error, or they do not.
+  fn meeting(&mut self) -> (u32, u32) {
+    let (kind, id) =
+      self.rng.pick(&[(kind::NEVER, 0), (kind::KEY, 1), (kind::DEFAULT, 0), (kind::STRUCT, 1)]);
+    let known = self.add(0, kind, id, vec![]);
+    let other = match self.rng.weighted(&[50, 20, 10, 20]) {
+      0 => self.unknown(0),
+      1 => self.add(0, kind, id, vec![]),
+      2 => self.add(0, kind::ERROR, 0, vec![]),
+      _ => self.add(0, kind::FN, id, vec![]),
+    };
+    let side = u32::from(self.rng.chance(15));
+    if self.rng.chance(50) { (known, other ^ side) } else { (other ^ side, known) }
+  }
+
   /// Unknowns joined to classes of all sizes, ties among them, and a known type or two.
   fn classes(&mut self) {
     for _ in 0..self.rng.range(4, 12) {
@@ -286,11 +348,26 @@ impl Maker {
     for _ in 0..self.rng.range(0, 3) {
       self.grow(0);
     }
-    for _ in 0..self.rng.range(6, 18) {
+    if self.rng.chance(60) {
+      self.tournament();
+    }
+    for _ in 0..self.rng.range(4, 14) {
       self.unify(0);
       if self.rng.chance(15) {
         self.ask(0);
       }
+    }
+  }
+
+  /// Classes of one size, joined two by two.
+  fn tournament(&mut self) {
+    let mut row: Vec<u32> = (0..self.rng.range(4, 8)).map(|_| self.unknown(0)).collect();
+    while row.len() > 1 {
+      for pair in row.chunks(2).filter(|pair| pair.len() == 2) {
+        let [a, b] = [pair[0], pair[1]].map(|ty| ty ^ u32::from(self.rng.chance(30)));
+        self.run.make(0, Step::Unify { a, b });
+      }
+      row = row.into_iter().step_by(2).collect();
     }
   }
 

@@ -1,9 +1,9 @@
 -- A known type pushed to a table whose nodes its children are: the table stays neat.
-use Prim.Native.Nat.{ℕ, zero, suc, _+_, _≤_, _<_}
+use Prim.Native.Nat.{ℕ, suc, _+_, _≤_, _<_}
 use mathlib.Core.Path.{_≡_, refl, sym, _∙_, ap, subst}
 use mathlib.Core.Bool.{Bool, true, false}
 use mathlib.Core.List.{List, [], _∷_, _++_}
-use mathlib.Core.Logic.{_⊎_, inl, inr, ⊎-elim}
+use mathlib.Core.Logic.{_⊎_, ⊎-elim}
 use native.Mathlib.Nat.{eq-or-lt-of-le, lt-irrefl}
 use native.Mathlib.Omega.{arith}
 use lib.Dec.{eqb}
@@ -11,10 +11,9 @@ use lib.ListN.{length, getD, length-append, List·getD-append}
 use lib.Seq.{getD-at}
 use borrow.Author.Tests.{eq-eqb, ne-eqb}
 use Rattle.rules.specs.Types.{Ty, TypeState, unknown, known, TypeNode, Types, new-node, node-at, state-at}
-use Rattle.rules.specs.Solutions.{rep, AllIn, ChildrenIn, WellFormed, Readable}
+use Rattle.rules.specs.Solutions.{rep, ChildrenIn, WellFormed, Readable}
 use Rattle.rules.specs.RootRank.{rank, child-in}
 use Rattle.rules.specs.Readings.{Ranked, readable-ranked, readable-most, ranked-readable}
-use Rattle.rules.specs.FreshKeeps.{Proper}
 use Rattle.rules.specs.Neat.{Neat, in-more}
 use Rattle.rules.specs.Slim.{Slim, SlimState}
 use Rattle.rules.specs.Yields.{every-append}
@@ -62,9 +61,6 @@ module _ (ts : Types) (st : TypeState) where
     pushed-formed : WellFormed us
     pushed-formed n h = ⊎-elim at-last before (either n h)
       where
-        Formed : ℕ → Type 0
-        Formed n = (rep us n < length us) × (rep us (rep us n) ≡ rep us n) × ChildrenIn (length us) (state-at us (rep us n))
-
         at-last : n ≡ length ts → (rep us n < length us) × (rep us (rep us n) ≡ rep us n) × ChildrenIn (length us) (state-at us (rep us n))
         at-last e =
             let root : rep us n ≡ length ts = ap (rep us) e ∙ last-root in

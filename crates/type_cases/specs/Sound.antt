@@ -3,8 +3,8 @@ use Prim.Native.Nat.{ℕ, zero, suc, _/_, _≤_, _<_}
 use mathlib.Core.Path.{_≡_, refl, sym, _∙_, ap, subst}
 use mathlib.Core.Bool.{Bool, true, false}
 use mathlib.Core.List.{List, [], _∷_, _++_, map}
-use mathlib.Core.Option.{Option, none, some, Option·none-ne-some, Option·some-injective}
-use mathlib.Core.Logic.{_⊎_, inl, inr, ⊎-elim}
+use mathlib.Core.Option.{Option·none-ne-some, Option·some-injective}
+use mathlib.Core.Logic.{_⊎_, ⊎-elim}
 use native.Mathlib.Nat.{not-suc-le-zero, le-of-suc-le-suc}
 use native.Mathlib.Omega.{arith}
 use lib.Dec.{eqb}
@@ -12,11 +12,11 @@ use lib.ListN.{length, getD, take}
 use Rattle.rules.specs.Lists.{Words}
 use Rattle.rules.specs.Layout.{kind·param}
 use Rattle.rules.specs.Sheet.{at}
-use Rattle.rules.specs.Types.{Ty, TypeState, unknown, known, Types, new-node, invert-if, unify, unify-impl-type}
+use Rattle.rules.specs.Types.{Ty, unknown, known, new-node, invert-if, unify, unify-impl-type}
 use Rattle.rules.specs.Solutions.{AllIn}
 use Rattle.rules.specs.Pigeonholes.{lt-or}
 use Rattle.rules.specs.Readings.{ranked-readable, readable-ranked}
-use Rattle.rules.specs.Transfer.{type-of-word, param-for, import-types, export-types}
+use Rattle.rules.specs.Transfer.{type-of-word, param-for}
 use Rattle.rules.specs.Slim.{Slim}
 use Rattle.rules.specs.Neat.{Neat, Low, low-none, unify-neat, unify-query-neat}
 use Rattle.table.specs.Packing.{types-of, Packed, Pushes, Becomes, TypeWords, Good}
@@ -26,8 +26,7 @@ use Rattle.unify.specs.Results.{Unifies}
 use Rattle.unify.specs.Lists.{Nodes}
 use Rattle.transfer.specs.Source.{source}
 use Rattle.transfer.specs.Moving.{params-of}
-use Rattle.transfer.specs.Imports.{types-in, Inside, Imports}
-use Rattle.transfer.specs.Callers.{imports-brought, exports-brought, export-fits}
+use Rattle.transfer.specs.Imports.{Inside}
 use Rattle.type_cases.specs.Pushed.{pushed-neat}
 
 pub record Sound (ws : Words) : Type 0 where
@@ -79,9 +78,6 @@ module _ (ws xs : Words) (c : ℕ) (e : c ≡ length (types-of ws)) (b : Below c
       past (x ∷ xs) (suc j) l = past xs j (le-of-suc-le-suc l)
 
 -- Pushes.
-either : (n m : ℕ) → (n < m) ⊎ (m ≤ n)
-either n m = lt-or n m
-
 module _ (ws us : Words) (r : ℕ) (g : Sound ws) where
   pub sound-unknown : Pushes ws us unknown r → Sound us
   sound-unknown p = record {

@@ -1,5 +1,5 @@
 -- Laws of the steps, as their tests and calls ask for them.
-use Prim.Native.Nat.{ℕ, suc, _+_, _/_, _≤_, _<_}
+use Prim.Native.Nat.{ℕ, _+_, _/_, _≤_, _<_}
 use mathlib.Core.Path.{_≡_, refl, sym, _∙_, ap, subst}
 use mathlib.Core.Bool.{Bool, true, false, not, true≢false}
 use mathlib.Core.List.{List, map}
@@ -10,7 +10,7 @@ use lib.ListN.{length, take}
 use lib.Seq.{length-take-le}
 use Rattle.rules.specs.Lists.{Words}
 use Rattle.rules.specs.Sheet.{at}
-use Rattle.rules.specs.Types.{known, unify, unify-impl-type}
+use Rattle.rules.specs.Types.{known, unify-impl-type}
 use Rattle.rules.specs.Transfer.{type-of-word, import-types, export-types}
 use Rattle.words.specs.Buffers.{copied, copied-length}
 use Rattle.table.specs.Packing.{types-of, Pushes, TypeWords}
