@@ -36,6 +36,9 @@ pub mod rust;
 pub mod sheet;
 pub mod stored;
 pub mod tally;
+pub mod type_cases;
+pub mod type_generate;
+pub mod type_run;
 pub mod worker;
 pub mod world;
 

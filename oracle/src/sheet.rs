@@ -257,9 +257,19 @@ impl Setting {
   }
 
   fn read_node(&mut self, words: &[u32], record: [u32; 5]) -> NodeState {
-    let [_, kind, inverted, word, children] = record;
+    let [_, kind, inverted, id, children] = record;
+    self.node_state(kind, inverted, id, read_types(words, children))
+  }
+
+  /// A node of a kind that check 8 or 12 lets pass.
+  pub fn node_state(
+    &mut self,
+    kind: u32,
+    inverted: u32,
+    word: u32,
+    mut types: Vec<Type>,
+  ) -> NodeState {
     let id = word as usize;
-    let mut types = read_types(words, children);
     let kind = match kind {
       kind::UNKNOWN => return None,
       kind::PARAM => TypeKind::Param(id, Ident::default()),

@@ -12,6 +12,9 @@ use crate::{
   generate,
   model::MOST_NODES,
   tally::{Tally, outcome},
+  type_cases::{self, TypeCase},
+  type_generate,
+  type_run::Run,
   worker::Worker,
 };
 
@@ -50,6 +53,8 @@ const FLEX_QUOTA: [(&str, usize, usize); 10] = [
 ];
 const LIST_QUOTA: [(&str, usize, usize); 1] = [("list", 110, MOST_LIST_WORDS)];
 const DAMAGED: u64 = 13 * 24;
+/// How many cases of the type table there are.
+const TYPE_CASES: u64 = 400;
 
 struct Stored {
   case: Case,
@@ -123,6 +128,15 @@ pub fn make(directory: &Path, options: &Options) -> io::Result<()> {
     fs::write(directory.join(block.name).with_extension("bin"), to_bytes(&block.stored))?;
     println!("{:>8} {}", block.stored.len(), block.name);
   }
+  make_types(directory)
+}
+
+/// The cases of the type table.
+fn make_types(directory: &Path) -> io::Result<()> {
+  let cases: Vec<TypeCase> = (0..TYPE_CASES).map(|n| type_generate::case(SEED, n)).collect();
+  fs::write(directory.join("types.txt"), type_cases::to_text(&cases))?;
+  fs::write(directory.join("types.bin"), type_cases::to_bytes(&cases))?;
+  println!("{:>8} types", cases.len());
   Ok(())
 }
 
@@ -306,7 +320,26 @@ pub fn check(directory: &Path, options: &Options) -> Result<Tally, String> {
   for name in ["damaged", "impl", "flex", "list"] {
     check_stored(name, &mut oracle, &read(directory, name)?, &mut tally)?;
   }
+  check_types(directory, &mut tally)?;
   Ok(tally)
+}
+
+/// The stored cases of the type table are what the Rust gives for their steps, and their lines say the same.
+fn check_types(directory: &Path, tally: &mut Tally) -> Result<(), String> {
+  let open = |name: &str| fs::read(directory.join(name)).map_err(|e| format!("{name}: {e}"));
+  let stored = type_cases::from_bytes(&open("types.bin")?).ok_or("types.bin holds other words")?;
+  if type_cases::to_text(&stored).as_bytes() != open("types.txt")? {
+    return Err("types: types.bin does not hold what types.txt holds".into());
+  }
+  for (n, case) in stored.iter().enumerate() {
+    check_list(&case.sheet).map_err(|refusal| format!("types, case {n}: {}", refusal.why))?;
+    let now = Run::again(case);
+    if now != *case {
+      return Err(format!("types, case {n}:\n{case}is stored, and this is said now:\n{now}"));
+    }
+    tally.add("types");
+  }
+  Ok(())
 }
 
 /// Reads a block's lines, and sees that its words are the same.

@@ -19,13 +19,15 @@ impl Tally {
   }
 }
 
-/// The outcome of an answer line: `ok`, a refusal with two digits, `list`, or another first word.
+/// The outcome of an answer line: `ok`, a refusal with two digits, `list`, or another first word; `types` stands alone.
 pub fn outcome(answer: &str) -> String {
   let mut words = answer.split_ascii_whitespace();
   match (words.next(), words.next()) {
     (Some("no"), Some(number)) => format!("no {number:0>2}"),
     (Some("ok"), Some(_)) => "ok".into(),
-    (Some(word @ ("assert" | "timeout" | "crash" | "differ" | "error")), _) => word.into(),
+    (Some(word @ ("assert" | "timeout" | "crash" | "differ" | "error" | "types")), _) => {
+      word.into()
+    }
     (Some(number), None) if number.parse::<u32>().is_ok() => format!("list {number:0>2}"),
     _ => "list".into(),
   }

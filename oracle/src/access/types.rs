@@ -19,13 +19,38 @@ impl Types {
   pub fn of_nodes(nodes: impl IntoIterator<Item = NodeState>) -> Types {
     let mut types = Types::default();
     for node in nodes {
-      let state = match node {
-        Some((inverted, kind)) => Known(Inverted(inverted), kind),
-        None => Unknown(Span::NONE),
-      };
-      types.types.push(Root { state, size: 1 });
+      types.push_node(node);
     }
     types
+  }
+
+  /// Adds a node, joined to none, and gives its number.
+  pub fn push_node(&mut self, node: NodeState) -> usize {
+    let state = match node {
+      Some((inverted, kind)) => Known(Inverted(inverted), kind),
+      None => Unknown(Span::NONE),
+    };
+    self.types.push(Root { state, size: 1 }).0
+  }
+
+  /// Whether one type occurs in another, whatever of their classes they are.
+  pub fn occurs_in(&self, var: Type, ty: Type) -> bool {
+    self.occurs(self.find(var), self.find(ty))
+  }
+
+  /// The type of its root that a node is.
+  pub fn root_of(&self, node: usize) -> Type {
+    self.find(TypeIdx(node).into())
+  }
+
+  /// The size of a root's class, and what is known of it; nothing for a node that is joined to another.
+  pub fn root_state(&self, node: usize) -> Option<(usize, Option<(bool, &TypeKind)>)> {
+    match &self.types[TypeIdx(node)] {
+      Root { state, size } => {
+        Some((*size, state.kind().map(|(inverted, kind)| (inverted.0, kind))))
+      }
+      Child(_) => None,
+    }
   }
 
   pub fn node_count(&self) -> usize {

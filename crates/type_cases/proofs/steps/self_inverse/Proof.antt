@@ -1,0 +1,39 @@
+-- `self_inverse`: the type is a node.
+use Rattle.type_cases.specs.Steps.{node-there, marks-room}
+use Rattle.type_cases.specs.Sound.{sound-good}
+use borrow.Author.Needs.{needs}
+use Rattle.type_cases.proofs.steps.self_inverse.Statement.{statement}
+use Rattle.type_cases.proofs.steps.self_inverse.Tie as tie
+
+word-requires : tie.Need-word-requires
+word-requires c κs = search needs
+
+count-requires : tie.Need-count-requires
+count-requires c κs = search needs
+
+returns : tie.Need-returns
+returns c = search needs
+
+self-inverse-requires : tie.Need-self-inverse-requires
+self-inverse-requires c κs = (search (needs, sound-good), (search (needs, node-there), search (needs, marks-room)))
+
+word-requires-2 : tie.Need-word-requires-2
+word-requires-2 c κs = search needs
+
+same-length : tie.Need-same-length
+same-length c = search needs
+
+returns-2 : tie.Need-returns-2
+returns-2 c = search needs
+
+pub self-inverse-spec : {M : Type 1} → statement M
+self-inverse-spec =
+    tie.close
+    (tie.spec
+    word-requires
+    count-requires
+    returns
+    self-inverse-requires
+    word-requires-2
+    same-length
+    returns-2)
