@@ -21,7 +21,7 @@ use Rattle.rules.specs.Components.{reaches-on, edge-to, reaches-node, reach-pat
 use Rattle.rules.specs.AdmissionLaws.{visible-iff, open-node, admission}
 use Rattle.words.specs.Buffers.{cleared}
 use Rattle.candidates.specs.Bits.{bit, on}
-use Rattle.candidates.specs.Spread.{leads, has, Walk, stay, step, walk-on, Comes, Grown, Spread, spread-has, Rows}
+use Rattle.candidates.specs.Spread.{leads, has, Walk, stay, step, walk-on, walk-same, Comes, Grown, Spread, spread-back, spread-has, Rows, Kin, Kindred, kin-selves, kin-open}
 use Rattle.candidates.specs.Index.{Indexes, IndexedAll, indexes-keep, indexes-same}
 use Rattle.candidates.specs.Source.{Sourced, seen, seen-is, cleared-at}
 use Rattle.candidates.specs.Links.{LinkingAll, Built, to, lets, seen-same, bit-zero}
@@ -101,6 +101,58 @@ connected-binds s n ws us e l c = record {
   clear = λ p h k. connected-same s n ws us (l .few) c p (inr h) ∙ l .clear p (omega arith) k;
 }
 
+or-iff : (a b : Bool) → T (a || b) ↔ (T a ⊎ T b)
+or-iff true b = (λ t. inl tt, λ h. tt)
+or-iff false b = (λ t. inr t, λ h. ⊎-elim (λ t. absurd t) (λ t. t) h)
+
+-- Every node begins with itself in the rows of reach,
+pub begun : (s : Words) (n : ℕ) (w₀ w₁ w₂ : Words) → LinkingAll n s w₀ → Built s (3 * n) w₀ w₁ → Selves (3 * n) w₁ w₂ → (x j : ℕ) → x < 3 * n → j < 384 → on w₂ (9344 + 12 * x) j ≡ eqb j x
+unfolding on
+begun s n w₀ w₁ w₂ l b c x j hx hj =
+    c .selves x j hx hj
+    ∙ ap (λ a. a || eqb j x) (ap (λ w. bit w (j % 32)) (b .others (9344 + 12 * x + j / 32) (inr (omega arith)) ∙ l .clear (9344 + 12 * x + j / 32) (omega arith) (omega (arith, l .few))) ∙ bit-zero (j % 32))
+
+pub kin-begun : (s : Words) (n : ℕ) (w₀ w₁ w₂ : Words) → LinkingAll n s w₀ → Built s (3 * n) w₀ w₁ → Selves (3 * n) w₁ w₂ → Kin (3 * n) 128 w₂
+kin-begun s n w₀ w₁ w₂ l b c = kin-selves (3 * n) w₂ (omega (arith, l .few)) (begun s n w₀ w₁ w₂ l b c)
+
+-- and in the end the edges between nodes that reach each other are open.
+module _ (n : ℕ) (w₀ w₁ w₂ : Words) (few : n ≤ 384) (k : Kin n 128 w₀) (own : (x j : ℕ) → x < n → j < 384 → on w₀ (9344 + 12 * x) j ≡ eqb j x) (p : Spread n 128 w₀ w₁) (i : InnerAll n n w₁ w₂) where
+  reach-walk : (x y : ℕ) → x < n → y < n → T (on w₁ (9344 + 12 * x) y) → T (on w₁ (9344 + 12 * y) x) → Walk (leads 128 w₀) n x y
+  reach-walk x y hx hy t u = walk-same 128 w₀ w₁ few (p .grown .same) hx (k .at w₁ (p .grown) x y hx hy t u)
+
+  self-reached : (x : ℕ) → x < n → T (has 128 w₁ x x)
+  unfolding has
+  self-reached x hx = p .grown .keeps x x hx (omega arith) (subst T (sym (own x x hx (omega arith))) (eqb-refl x))
+
+  open-step : (x y : ℕ) → x < n → y < n → T (leads 128 w₀ x y) → T (has 128 w₁ y x) → T (leads 4736 w₂ x y)
+  unfolding leads has on
+  open-step x y hx hy t u =
+      subst T (sym (i .done x y hx hy)) (or-iff (on w₁ (4736 + 12 * x) y) (on w₁ (128 + 12 * x) y && on w₁ (9344 + 12 * y) x) .1 (inr (and-iff (on w₁ (128 + 12 * x) y) (on w₁ (9344 + 12 * y) x) .1 (
+        subst T (sym (ap (λ w. bit w (y % 32)) (p .grown .same (128 + 12 * x + y / 32) (inl (omega arith))))) t,
+        u,
+      ))))
+
+  open-walk : {x z : ℕ} → x < n → Walk (leads 128 w₀) n x z → Walk (leads 128 w₀) n z x → Walk (leads 4736 w₂) n x z
+  open-walk hx stay v = stay
+  open-walk hx (step {x} {y} t hy q) v =
+      step (open-step x y hx hy t (spread-back n 128 w₀ w₁ few p x (omega arith) hy (walk-on q v) (self-reached x hx))) hy (open-walk hy q (walk-on v (step t hy stay)))
+
+  kindred : Kindred n w₂
+  unfolding on
+  kindred = record {
+    at = λ x z hx hz t u.
+        let a = subst T (ap (λ w. bit w (z % 32)) (i .others (9344 + 12 * x + z / 32) (inr (omega arith)))) t in
+        let b = subst T (ap (λ w. bit w (x % 32)) (i .others (9344 + 12 * z + x / 32) (inr (omega arith)))) u in
+        open-walk hx (reach-walk x z hx hz a b) (reach-walk z x hz hx b a);
+  }
+
+pub connected-kin : (s : Words) (n : ℕ) (ws us : Words) → LinkingAll n s ws → Connected s n ws us → Kindred (3 * n) us
+connected-kin s n ws us l c =
+    kindred (3 * n) (c .started) (c .reached) us (omega (arith, l .few)) (kin-begun s n ws (c .linked) (c .started) l (c .built) (c .selves)) (begun s n ws (c .linked) (c .started) l (c .built) (c .selves)) (c .spread) (c .inner)
+
+pub kin-bound : (s : Words) (n : ℕ) (ws us : Words) → BindingAll n s ws → Kindred (3 * n) ws → Bound s n ws us → Kin (3 * n) 4736 us
+kin-bound s n ws us l k b = kin-open (3 * n) ws us (omega (arith, l .few)) (b .others) k
+
 -- An edge leads from x to y; one whose vis a test lets in.
 to-edge : (s : Words) (x y : ℕ) → T (to (edges s x) y) ↔ ((v : ℕ) × EdgeFrom s x v y)
 unfolding to
@@ -124,10 +176,6 @@ lets-edge s sees x y = (there, λ r. a .1 ((r .0, y), r .1, and-iff (eqb y y) (s
         let r = a .0 t in
         let b = and-iff (eqb (r .0 .1) y) (sees (r .0 .0)) .0 (r .2) in
         (r .0 .0, subst (λ z. In (r .0 .0, z) (edges s x)) (eqb→eq (r .0 .1) y (b .0)) (r .1), b .1)
-
-or-iff : (a b : Bool) → T (a || b) ↔ (T a ⊎ T b)
-or-iff true b = (λ t. inl tt, λ h. tt)
-or-iff false b = (λ t. inr t, λ h. ⊎-elim (λ t. absurd t) (λ t. t) h)
 
 path-on : {s : Words} {src x y z : ℕ} → OpenPath s src x y → OpenPath s src y z → OpenPath s src x z
 path-on p stays = p

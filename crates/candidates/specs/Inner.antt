@@ -13,7 +13,7 @@ use Rattle.rules.specs.Lists.{Words}
 use Rattle.rules.specs.Sheet.{at}
 use Rattle.candidates.specs.Bits.{bit, on, with-bit}
 use Rattle.candidates.specs.Links.{set-other, set-row, set-elsewhere}
-use Rattle.candidates.specs.Spread.{Empty}
+use Rattle.candidates.specs.Spread.{NextOn}
 
 or-false : (b : Bool) → b ≡ (b || false)
 or-false true = refl
@@ -117,12 +117,9 @@ step-leave x y us r hx hy t e g = record {
       (λ p o. refl);
 }
 
-pub inner-more : (x y : ℕ) (ws us vs : Words) → Inner x y ws us → InnerStep x y us vs → Inner x (y + 1) ws vs
-inner-more x y ws us vs i s = s .more ws i
-
 -- No edge from y on, below w.
-pub inner-skip : (x y w : ℕ) (ws us : Words) → x < 384 → Empty us (128 + 12 * x) y w → Inner x y ws us → Inner x w ws us
-inner-skip x y w ws us hx o i = record {
+pub inner-skip : (x y n w : ℕ) (ws us : Words) → x < 384 → NextOn us (128 + 12 * x) y n w → Inner x y ws us → Inner x w ws us
+inner-skip x y n w ws us hx o i = record {
   done = λ z h k. go z h k (y - z) refl;
   rest = λ z h k. i .rest z (omega (arith, o .up)) k;
   others = i .others;
@@ -134,13 +131,27 @@ inner-skip x y w ws us hx o i = record {
         i .rest z (omega arith) k ∙ or-false (on ws (4736 + 12 * x) z)
         ∙ ap (λ a. on ws (4736 + 12 * x) z || (a && on ws (9344 + 12 * z) x)) (sym (sym (links-stay x y ws us hx i z k) ∙ o .none z (omega arith) h))
 
+-- x is at node y, to which an edge leads, or past the last.
+pub record Opening (n x y : ℕ) (ws us : Words) : Type 0 where
+  pub inner : Inner x y ws us
+  pub next : y < n → on us (128 + 12 * x) y ≡ true
+
+pub opening-start : (n x y : ℕ) (ws : Words) → n ≤ 384 → x < n → NextOn ws (128 + 12 * x) 0 n y → Opening n x y ws ws
+opening-start n x y ws l hx o = record { inner = inner-skip x 0 n y ws ws (omega arith) o (inner-none x ws); next = o .here }
+
+pub opening-next : (n x y w : ℕ) (ws us vs : Words) → n ≤ 384 → x < n → Opening n x y ws us → InnerStep x y us vs → NextOn vs (128 + 12 * x) (y + 1) n w → Opening n x w ws vs
+opening-next n x y w ws us vs l hx i s o = record { inner = inner-skip x (y + 1) n w ws vs (omega arith) o (s .more ws (i .inner)); next = o .here }
+
+pub opening-leads : (n x y : ℕ) (ws us : Words) → Opening n x y ws us → y < n → on us (128 + 12 * x) y ≡ true
+opening-leads n x y ws us i h = i .next h
+
 -- The edges of x to nodes below n.
 pub record InnerRow (n x : ℕ) (ws us : Words) : Type 0 where
   pub done : (z : ℕ) → z < n → on us (4736 + 12 * x) z ≡ (on ws (4736 + 12 * x) z || (on ws (128 + 12 * x) z && on ws (9344 + 12 * z) x))
   pub others : (p : ℕ) → (p < 4736 + 12 * x) ⊎ (4736 + 12 * x + 12 ≤ p) → at us p ≡ at ws p
 
-pub inner-done : (x y n : ℕ) (ws us : Words) → n ≤ 384 → n ≤ y → Inner x y ws us → InnerRow n x ws us
-inner-done x y n ws us l h i = record { done = λ z k. i .done z (omega arith) (omega arith); others = i .others }
+pub inner-done : (x y n : ℕ) (ws us : Words) → n ≤ 384 → n ≤ y → Opening n x y ws us → InnerRow n x ws us
+inner-done x y n ws us l h i = record { done = λ z k. i .inner .done z (omega arith) (omega arith); others = i .inner .others }
 
 -- The edges of the nodes below x.
 pub record InnerAll (n x : ℕ) (ws us : Words) : Type 0 where

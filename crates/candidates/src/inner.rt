@@ -6,9 +6,9 @@ ghost use Prim.Native.Nat.{_+_, _*_, _≤_, _<_};
 ghost use lib.ListN.{length};
 ghost use Rattle.candidates.specs.Bits.{on};
 ghost use Rattle.candidates.specs.Inner.{Selves, InnerStep, InnerRow, InnerAll};
+use crate::rows::next_on;
 use crate::rows::on;
 use crate::rows::set_bit;
-use crate::rows::skip;
 
 const LINKS: usize = 128;
 
@@ -43,14 +43,10 @@ fn inner_row(ws: &mut [u32], n: usize, x: usize)
     requires { ⌜ (n ≤ 384) × (x < n) × (18560 ≤ length (now ws)) ⌝ }
     ensures { λ _. ⌜ InnerRow n x (now (ws .entry)) (now (ws .exit)) ⌝ }
 {
-    let mut y = 0;
+    let mut y = next_on(ws, LINKS + 12 * x, 0, n);
     while y < n {
-        if on(ws, LINKS + 12 * x, y) {
-            inner_edge(ws, x, y);
-            y += 1;
-        } else {
-            y = skip(ws, LINKS + 12 * x, y, n);
-        }
+        inner_edge(ws, x, y);
+        y = next_on(ws, LINKS + 12 * x, y + 1, n);
     }
 }
 

@@ -1,12 +1,13 @@
 // Which impls the sets of candidates admit for a source: nodes and edges, components, what a set admits (`finder/candidates.rs`).
 // `build` fills the part of the workspace that belongs to a source (34,948 words); `find::next_candidate` and `find::next_admitted` read it.
 ghost use mathlib.Core.Path.{_≡_};
-ghost use Prim.Native.Nat.{_≤_, _<_};
+ghost use Prim.Native.Nat.{_*_, _≤_, _<_};
 ghost use lib.ListN.{length};
 ghost use Rattle.rules.specs.Layout.{header·definitions};
 ghost use Rattle.rules.specs.Sheet.{many};
 ghost use Rattle.rules.specs.CheckLaws.{Checked};
 ghost use Rattle.candidates.specs.Links.{LinkingAll};
+ghost use Rattle.candidates.specs.Spread.{Kindred};
 ghost use Rattle.candidates.specs.Sets.{BindingAll};
 ghost use Rattle.candidates.specs.Build.{Prepared, Connected, Filled, Candidates};
 
@@ -14,6 +15,7 @@ pub mod find;
 pub mod index;
 mod inner;
 mod links;
+mod order;
 mod rows;
 mod sets;
 mod source;
@@ -41,7 +43,7 @@ fn connect(s: &[u32], ws: &mut [u32], n: usize)
 
 // What the nodes of n definitions bind, and what they get to along the edges that the source may take.
 fn fill(s: &[u32], ws: &mut [u32], n: usize)
-    requires { ⌜ BindingAll n (now s) (now ws) ⌝ }
+    requires { ⌜ BindingAll n (now s) (now ws) × Kindred (3 * n) (now ws) ⌝ }
     ensures { λ _. ⌜ Filled (now (s .entry)) n (now (ws .entry)) (now (ws .exit)) ⌝ }
 {
     sets::bind_all(s, ws, n);

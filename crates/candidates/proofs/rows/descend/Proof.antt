@@ -3,24 +3,24 @@ use borrow.Author.Needs.{needs}
 use Prim.Native.Nat.{_-_, _≤_}
 use mathlib.Core.Path.{_≡_}
 use lib.ListN.{length}
-use Rattle.candidates.specs.Spread.{Visited, visited-none, visited-more, visited-at}
+use Rattle.candidates.specs.Spread.{Settling, settling-none, settling-room, settling-more}
 use Rattle.candidates.proofs.rows.descend.Statement.{statement}
 use Rattle.candidates.proofs.rows.descend.Tie as tie
 
 abbrev Inv-loop : tie.InvT-loop
-Inv-loop ws₀ n m seen₀ x₀ ws seen x = (length ws ≡ length ws₀) × (384 ≡ length seen) × Visited n m ws₀ ws
+Inv-loop ws₀ n m t₀ x₀ ws t x = (length ws ≡ length ws₀) × (1540 ≡ length t) × Settling n m ws₀ ws
 
 abbrev μ-loop : tie.MeasureT-loop
-μ-loop ws₀ n m seen₀ x₀ ws seen x = n - x
+μ-loop ws₀ n m t₀ x₀ ws t x = n - x
 
 loop-holds : tie.Need-loop-holds Inv-loop μ-loop
-loop-holds c = search (needs, visited-none)
+loop-holds c = (search needs, search needs, search (needs, settling-none))
 
 slice-aggregate-visit : tie.Need-slice-aggregate-visit Inv-loop μ-loop
 slice-aggregate-visit c = search needs
 
 visit-requires : tie.Need-visit-requires Inv-loop μ-loop
-visit-requires c κs = (search (needs, visited-at), search needs)
+visit-requires c κs = (search (needs, settling-room), search needs)
 
 add-x : tie.Need-add-x Inv-loop μ-loop
 add-x c = search needs
@@ -29,7 +29,7 @@ loop-less : tie.Need-loop-less Inv-loop μ-loop
 loop-less c = search needs
 
 loop-again : tie.Need-loop-again Inv-loop μ-loop
-loop-again c = (search needs, search needs, search (needs, visited-more))
+loop-again c = (search needs, search needs, search (needs, settling-more))
 
 same-length : tie.Need-same-length Inv-loop μ-loop
 same-length c = search needs

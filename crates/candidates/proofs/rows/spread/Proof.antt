@@ -4,7 +4,7 @@ use Prim.Native.Nat.{_+_}
 use mathlib.Core.Path.{_≡_}
 use lib.ListN.{length}
 use Rattle.candidates.specs.Bits.{slack}
-use Rattle.candidates.specs.Spread.{Rows, Going, due, going-start, going-on, going-done, going-less, rows-same, visited-rows}
+use Rattle.candidates.specs.Spread.{Rows, Going, due, going-start, going-on, going-done, going-less, going-kin, rows-same, visited-rows}
 use Rattle.candidates.proofs.rows.spread.Statement.{statement}
 use Rattle.candidates.proofs.rows.spread.Tie as tie
 
@@ -18,7 +18,7 @@ loop-holds : tie.Need-loop-holds Inv-loop μ-loop
 loop-holds c = search (needs, going-start)
 
 descend-requires : tie.Need-descend-requires Inv-loop μ-loop
-descend-requires c κs = search needs
+descend-requires c κs = (search needs, search (needs, going-kin))
 
 pass-requires : tie.Need-pass-requires Inv-loop μ-loop
 pass-requires c κs = search (needs, visited-rows)
