@@ -13,6 +13,7 @@ use Rattle.rules.specs.Lists.{Words}
 use Rattle.rules.specs.Limits.{limit·question, limit·nodes}
 use Rattle.rules.specs.Layout.{node·length, node·children, question·table, question·args, question·type, question·length}
 use Rattle.rules.specs.Sheet.{at, chain, chain-of}
+use Rattle.rules.specs.Types.{ImplType}
 use Rattle.rules.specs.Transfer.{type-of-word, cell-types, table}
 use Rattle.rules.specs.Solutions.{AllIn}
 use Rattle.rules.specs.Search.{Finder}
@@ -24,7 +25,10 @@ use Rattle.rules.specs.ChainLaws.{Keeps, at-end, at-record, chain-rule}
 use Rattle.rules.specs.CheckedTables.{table-length, impl-ready, flex-ready}
 use Rattle.rules.specs.Neat.{in-checked, question-neat}
 use Rattle.rules.specs.Calls.{question-types, impl-query}
+use Rattle.queries.specs.declared.Query.{Query}
+use Rattle.queries.specs.Queries.{query-of}
 use Rattle.loading.specs.Nodes.{Fitting}
+use Rattle.loading.specs.Exports.{Asks}
 
 -- Records of five words, each past the one before it, fit into a slice a fifth as often as it has words.
 module _ (s : Words) (heads : ℕ → Bool) where
@@ -33,13 +37,17 @@ module _ (s : Words) (heads : ℕ → Bool) where
   walk-zero zero = refl
   walk-zero (suc k) = refl
 
+  walk-more : (k i : ℕ) → 0 < i → length (chain-of (suc k) s i) ≡ suc (length (chain-of k s (at s i)))
+  unfolding chain-of
+  walk-more k zero h = absurd (not-suc-le-zero h)
+  walk-more k (suc i) h = refl
+
   walk-few : {i : ℕ} → Keeps s 5 heads i → (k : ℕ) → 0 < i → i + 5 * length (chain-of k s i) ≤ length s
   unfolding chain-of
   walk-few at-end k h = absurd (not-suc-le-zero h)
   walk-few (at-record h l n t r) zero p = omega arith
-  walk-few (at-record {zero} h l n t r) (suc k) p = absurd (not-suc-le-zero p)
-  walk-few (at-record {suc i} h l (inl e) t r) (suc k) p = omega (arith, ap (λ j. length (chain-of k s j)) e, walk-zero k)
-  walk-few (at-record {suc i} h l (inr m) t r) (suc k) p = omega (arith, walk-few r k (omega arith))
+  walk-few (at-record {i} h l (inl e) t r) (suc k) p = omega (arith, walk-more k i h, ap (λ j. length (chain-of k s j)) e, walk-zero k)
+  walk-few (at-record {i} h l (inr m) t r) (suc k) p = omega (arith, walk-more k i h, walk-few r k (omega arith))
 
   chain-few : (i : ℕ) → Keeps s 5 heads i → 5 * length (chain s i) ≤ length s
   unfolding chain
@@ -79,6 +87,9 @@ module _ (a : Finder) (basic : ℕ) (q : Words) (passed : refusal (impl-checks a
   pub impl-inside : AllIn (length (question-types q)) ((impl-query q) .1)
   unfolding impl-checks of-sheet of-ids of-impl-question impl-question-values args-ok question-types impl-query
   impl-inside = in-checked _ _ (subst (λ k. T (in-table k (cell-types q (at q question·args)))) (sym (table-length q (at q question·table))) (part _ (part _ (not-not (impl-question-values (a .sheet) (a .generics) q) (unrefused (impl-checks a basic q) passed 6)) 1) 2))
+
+  pub impl-asks : (r : Query) → r .n ≤ 4 → query-of r ≡ impl-query q → Asks (question-types q) r
+  impl-asks r h e = record { neat = impl-fitting .neat; few = h; inside = subst (λ (i : ImplType). AllIn (length (question-types q)) (i .1)) (sym e) impl-inside }
 
 module _ (a : Finder) (q : Words) (passed : refusal (flex-checks a q) ≡ none) (short : length q ≤ limit·question) where
   -- A flex call: its table,

@@ -1,4 +1,4 @@
-// A question before its search: its table packed into words, node by node.
+// A question before its search: its table packed into words, node by node, and what is asked in a table of its own.
 ghost use Prim.Native.Nat.{_≤_, _<_};
 ghost use mathlib.Core.List.{[], _∷_, _++_};
 ghost use lib.ListN.{length};
@@ -9,7 +9,10 @@ ghost use Rattle.rules.specs.Transfer.{node-state};
 ghost use Rattle.rules.specs.Calls.{question-types};
 ghost use Rattle.table.specs.Packing.{types-of, Packed, Becomes};
 ghost use Rattle.loading.specs.Nodes.{Cells, NodeFits, Kind, Fitting};
+ghost use Rattle.queries.specs.Queries.{query-of};
+ghost use Rattle.loading.specs.Exports.{Asks, Exports};
 use chart::layout;
+use queries::Query;
 
 // Reads the type words of the cells from a head, and says how many there are.
 fn read_cells(q: &[u32], head: usize, cs: &mut [u32]) -> usize
@@ -35,7 +38,11 @@ fn load_known(q: &[u32], p: usize, kind: u32, dst: &mut [u32])
     ensures { λ _. ⌜ Becomes (now (dst .exit)) (types-of (now (dst .entry)) ++ (new-node (length (types-of (now (dst .entry)))) (node-state (now (q .entry)) p) ∷ [])) ⌝ }
 {
     let mut cs = [0u32; 8];
-    let m = read_cells(q, words::wide(words::offset(q, p, layout::NODE_CHILDREN)), &mut cs);
+    let m = read_cells(
+        q,
+        words::wide(words::offset(q, p, layout::NODE_CHILDREN)),
+        &mut cs,
+    );
     let inverted = words::offset(q, p, layout::NODE_INVERTED) == 1;
     let id = words::offset(q, p, layout::NODE_ID);
     table::new_known(dst, inverted, kind, id, &cs[..m]);
@@ -69,5 +76,22 @@ pub fn load_table(q: &[u32], dst: &mut [u32])
     while j < n {
         load_node(q, words::place(q, head, j), dst);
         j += 1;
+    }
+}
+
+// `export` of a query: its types in a table of their own.
+pub fn export_question(table: &[u32], query: Query, dst: &mut [u32], map: &mut [u32]) -> Query
+    requires { ⌜ Asks (types-of (now table)) query ⌝ }
+    requires { ⌜ 1537 ≤ length (now dst) ⌝ }
+    requires { ⌜ 256 ≤ length (now map) ⌝ }
+    ensures { λ r. ⌜ Exports (types-of (now (table .entry))) (query-of query) (now (dst .exit)) r ⌝ }
+{
+    let mut args = [query.args[0], query.args[1], query.args[2], query.args[3]];
+    let n = query.n;
+    transfer::export_types(true, table, &table[..0], dst, map, &mut args, n);
+    Query {
+        tr: query.tr,
+        n,
+        args,
     }
 }
