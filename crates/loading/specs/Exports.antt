@@ -8,12 +8,14 @@ use lib.ListN.{length, getD, take}
 use lib.Seq.{ext-getD}
 use Rattle.rules.specs.Lists.{Words}
 use Rattle.rules.specs.Sheet.{at}
-use Rattle.rules.specs.Types.{Ty, Types, ImplType}
+use Rattle.rules.specs.Types.{Ty, Types, ImplType, invert-if}
 use Rattle.rules.specs.Solutions.{AllIn}
-use Rattle.rules.specs.Transfer.{type-of-word, export-types, export-impl-type, import-types, import-impl-type}
+use Rattle.rules.specs.Calls.{impl-query}
+use Rattle.rules.specs.Answer.{word-of-type}
+use Rattle.rules.specs.Transfer.{type-of-word, cell-types, export-types, export-impl-type, import-types, import-impl-type}
 use Rattle.rules.specs.Neat.{Neat, Brought}
 use Rattle.table.specs.Packing.{types-of, Packed}
-use Rattle.table.specs.Nodes.{types-few}
+use Rattle.table.specs.Nodes.{types-few, type-word}
 use Rattle.transfer.specs.Source.{source}
 use Rattle.transfer.specs.Imports.{types-in, Inside, Imports}
 use Rattle.transfer.specs.Callers.{inside-from, exports-brought, export-fits}
@@ -25,6 +27,25 @@ pub record Asks (ts : Types) (q : Query) : Type 0 where
   pub neat : Neat ts
   pub few : q .n ≤ 4
   pub inside : AllIn (length ts) ((query-of q) .1)
+
+-- A query of the code that is one of the rules.
+pub record Reads (i : ImplType) (q : Query) : Type 0 where
+  pub is : query-of q ≡ i
+  pub few : q .n ≤ 4
+
+-- The query of the impl call, from its trait? and its cells.
+pub reads-cells : (q : Words) (tr h : ℕ) (r : Query) → tr ≡ at q 1 → h ≡ at q 2 → query-of r ≡ (tr, cell-types q h) → r .n ≤ 4 → Reads (impl-query q) r
+unfolding impl-query
+reads-cells q tr h r et eh e l = record { is = e ∙ ap₂ {C = ImplType} (λ (x y : ℕ). (x, cell-types q y)) et eh; few = l }
+
+pub cells-of : (q : Words) (h : ℕ) → length ((impl-query q) .1) ≤ 4 → h ≡ at q 2 → length (cell-types q h) ≤ 4
+unfolding impl-query
+cells-of q h l e = subst (λ x. length (cell-types q x) ≤ 4) (sym e) l
+
+-- One of a type.
+pub reads-type : (tr t u : ℕ) (b : Bool) → u ≡ word-of-type (invert-if b (type-of-word t)) → Reads (tr, invert-if b (type-of-word t) ∷ []) (record { tr = tr; n = 1; args = u ∷ 0 ∷ 0 ∷ 0 ∷ [] })
+unfolding query-of
+reads-type tr t u b e = record { is = ap {B = ImplType} (λ (x : Ty). (tr, x ∷ [])) (ap type-of-word e ∙ type-word (invert-if b (type-of-word t))); few = omega arith }
 
 -- A query of a table, exported: the rule's query, and its table.
 pub record Exports (ts : Types) (q : ImplType) (us : Words) (r : Query) : Type 0 where

@@ -4,13 +4,13 @@ ghost use mathlib.Core.List.{[], _∷_, _++_};
 ghost use lib.ListN.{length};
 ghost use Rattle.rules.specs.Limits.{limit·nodes};
 ghost use Rattle.rules.specs.Sheet.{chain};
-ghost use Rattle.rules.specs.Types.{new-node};
-ghost use Rattle.rules.specs.Transfer.{node-state};
-ghost use Rattle.rules.specs.Calls.{question-types};
+ghost use Rattle.rules.specs.Types.{new-node, invert-if};
+ghost use Rattle.rules.specs.Transfer.{type-of-word, node-state};
+ghost use Rattle.rules.specs.Calls.{question-types, impl-query};
 ghost use Rattle.table.specs.Packing.{types-of, Packed, Becomes};
 ghost use Rattle.loading.specs.Nodes.{Cells, NodeFits, Kind, Fitting};
 ghost use Rattle.queries.specs.Queries.{query-of};
-ghost use Rattle.loading.specs.Exports.{Asks, Exports};
+ghost use Rattle.loading.specs.Exports.{Reads, Asks, Exports};
 use chart::layout;
 use queries::Query;
 
@@ -77,6 +77,26 @@ pub fn load_table(q: &[u32], dst: &mut [u32])
         load_node(q, words::place(q, head, j), dst);
         j += 1;
     }
+}
+
+// The impl call's query.
+pub fn read_question(q: &[u32]) -> Query
+    requires { ⌜ length ((impl-query (now q)) .1) ≤ 4 ⌝ }
+    ensures { λ r. ⌜ Reads (impl-query (now (q .entry))) r ⌝ }
+{
+    let tr = words::word(q, layout::QUESTION_TRAIT);
+    let head = words::next(q, layout::QUESTION_ARGS);
+    queries::read_query(q, tr, head)
+}
+
+// A query of one type, inverted or not.
+pub fn type_question(tr: u32, inverted: bool, t: u32) -> Query
+    requires { ⌜ t < 512 ⌝ }
+    ensures { λ r. ⌜ Reads (tr, invert-if inverted (type-of-word t) ∷ []) r ⌝ }
+{
+    let u = table::invert_if(inverted, t);
+    let args = [u, 0, 0, 0];
+    Query { tr, n: 1, args }
 }
 
 // `export` of a query: its types in a table of their own.
