@@ -1,3 +1,4 @@
 pub mod Rows
 pub mod Last
 pub mod Impl
+pub mod Flex

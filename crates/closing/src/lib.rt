@@ -8,19 +8,22 @@ ghost use lib.ListN.{length, drop, take};
 ghost use Rattle.rules.specs.Limits.{limit·answer, limit·tree-nodes};
 ghost use Rattle.rules.specs.Sheet.{at};
 ghost use Rattle.rules.specs.Types.{unify-impl-type as impl-type-unified};
+ghost use Rattle.rules.specs.Solutions.{AllIn};
 ghost use Rattle.rules.specs.Neat.{Neat};
 ghost use Rattle.rules.specs.Transfer.{type-of-word, import-types};
 ghost use Rattle.table.specs.Packing.{types-of, Packed, Good};
 ghost use Rattle.transfer.specs.Imports.{types-in, Inside, Imports};
 ghost use Rattle.trees.specs.Forests.{trees·length};
 ghost use Rattle.slots.specs.Copies.{Filled};
-ghost use Rattle.unify.specs.Results.{Leaves};
+ghost use Rattle.unify.specs.Results.{result-of, Leaves};
 ghost use Rattle.unify.specs.Lists.{Nodes};
 ghost use Rattle.queries.specs.Queries.{query-of};
 ghost use Rattle.loading.specs.Exports.{Asks};
 ghost use Rattle.closing.specs.Rows.{Row, Exported, Writes};
 ghost use Rattle.closing.specs.Impl.{WritesImpl, ClosesImpl};
+ghost use Rattle.closing.specs.Flex.{when, failed, Offers, FilledIf, Brings, JoinsFirst, TreesOf, WritesFlex};
 use queries::Query;
+use unify::UnifyResult;
 
 // The words of a slice from a place on.
 fn tail(s: &[u32], a: usize) -> &[u32]
@@ -247,4 +250,125 @@ pub fn close_impl(
         return 0;
     }
     14
+}
+
+// The last import of the exported type t from the first result of a flex question, if there is one (`has`): 0 where there is no room, else 1 and a type word.
+fn import_type(
+    has: bool,
+    found: &[u32],
+    a: usize,
+    table: &mut [u32],
+    map: &mut [u32],
+    t: u32,
+) -> u32
+    requires { ⌜ Offers has (now found) a t ⌝ }
+    requires { ⌜ Packed (now table) ⌝ }
+    requires { ⌜ 256 ≤ length (now map) ⌝ }
+    ensures { λ q. ⌜ Brings has (now (found .entry)) a t (types-of (now (table .entry))) (now (table .exit)) q ⌝ }
+{
+    if has {
+        let mut ts = [t];
+        let ok = import_result(found, a, table, map, &mut ts, 1);
+        if ok {
+            let u = ts[0];
+            return u + 1;
+        }
+        return 0;
+    }
+    1
+}
+
+// Whether two types failed to join.
+fn is_failure(v: UnifyResult) -> bool
+    ensures { λ r. ⌜ r ≡ failed (result-of v) ⌝ }
+{
+    match v {
+        UnifyResult::Success => false,
+        UnifyResult::Failure => true,
+        UnifyResult::Indeterminate => false,
+    }
+}
+
+// Joins types x and y, each of which may be absent, where both are there; true where that failed.
+fn join_types(
+    sheet: &[u32],
+    table: &mut [u32],
+    map: &mut [u32],
+    f: bool,
+    x: u32,
+    d: bool,
+    y: u32,
+) -> bool
+    requires { ⌜ Packed (now table) ⌝ }
+    requires { ⌜ Neat (types-of (now table)) ⌝ }
+    requires { ⌜ AllIn (length (types-of (now table))) (when f (type-of-word x)) ⌝ }
+    requires { ⌜ AllIn (length (types-of (now table))) (when d (type-of-word y)) ⌝ }
+    requires { ⌜ 256 ≤ length (now map) ⌝ }
+    ensures { λ r. ⌜ JoinsFirst (now (sheet .entry)) (types-of (now (table .entry))) (when f (type-of-word x)) (when d (type-of-word y)) (now (table .exit)) r ⌝ }
+{
+    if f {
+        if d {
+            let v = unify::unify(sheet, table, map, x, y);
+            return is_failure(v);
+        }
+    }
+    false
+}
+
+// Copies the trees of the first result of a flex question, if there is one.
+fn copy_trees(has: bool, found: &[u32], a: usize, to: &mut [u32])
+    requires { ⌜ FilledIf has (now found) a ⌝ }
+    requires { ⌜ 257 ≤ length (now to) ⌝ }
+    ensures { λ _. ⌜ TreesOf has (now (found .entry)) a (now (to .exit)) ⌝ }
+{
+    if has {
+        let at = a + slots::TREES;
+        trees::copy(found, at, to, 0);
+        return;
+    }
+    trees::clear(to, 0)
+}
+
+// Writes the answer of a flex call: the trees of its fork and drop results, where there are such.
+fn write_flex(
+    f: bool,
+    fork: &[u32],
+    a: usize,
+    d: bool,
+    drop: &[u32],
+    b: usize,
+    inverted: bool,
+    own: bool,
+    table: &[u32],
+    n: usize,
+    out: &mut [u32],
+    map: &mut [u32],
+    answer: &mut [u32],
+)
+    requires { ⌜ FilledIf f (now fork) a ⌝ }
+    requires { ⌜ FilledIf d (now drop) b ⌝ }
+    requires { ⌜ Neat (types-of (now table)) ⌝ }
+    requires { ⌜ n ≤ length (types-of (now table)) ⌝ }
+    requires { ⌜ 1537 ≤ length (now out) ⌝ }
+    requires { ⌜ 256 ≤ length (now map) ⌝ }
+    requires { ⌜ limit·answer ≤ length (now answer) ⌝ }
+    ensures { λ _. ⌜ WritesFlex f (now (fork .entry)) a d (now (drop .entry)) b inverted own (types-of (now (table .entry))) n (now (answer .entry)) (now (answer .exit)) ⌝ }
+{
+    let mut forks = [0u32; 257];
+    copy_trees(f, fork, a, &mut forks);
+    let mut drops = [0u32; 257];
+    copy_trees(d, drop, b, &mut drops);
+    write_closing(
+        &forks,
+        0,
+        &drops,
+        0,
+        inverted,
+        own,
+        table,
+        n,
+        out,
+        map,
+        answer,
+    )
 }
