@@ -2,3 +2,4 @@ pub mod Rows
 pub mod Last
 pub mod Impl
 pub mod Flex
+pub mod FlexEnd

@@ -2,6 +2,7 @@
 // A result stands in a slot of a lent slice, a table and its trees; the caller's types in a table of their own.
 ghost use mathlib.Core.Path.{_≡_};
 ghost use Prim.Native.Nat.{_+_, _≤_};
+ghost use mathlib.Core.Bool.{_||_};
 ghost use mathlib.Core.List.{map as map-list};
 ghost use mathlib.Core.Option.{none};
 ghost use lib.ListN.{length, drop, take};
@@ -22,6 +23,7 @@ ghost use Rattle.loading.specs.Exports.{Asks};
 ghost use Rattle.closing.specs.Rows.{Row, Exported, Writes};
 ghost use Rattle.closing.specs.Impl.{WritesImpl, ClosesImpl};
 ghost use Rattle.closing.specs.Flex.{when, failed, Offers, FilledIf, Brings, JoinsFirst, TreesOf, WritesFlex};
+ghost use Rattle.closing.specs.FlexEnd.{picked, closing-join, Joining, ClosesJoined, Caller, ClosesFound};
 use queries::Query;
 use unify::UnifyResult;
 
@@ -363,6 +365,179 @@ fn write_flex(
         0,
         &drops,
         0,
+        inverted,
+        own,
+        table,
+        n,
+        out,
+        map,
+        answer,
+    )
+}
+
+fn either(f: bool, d: bool) -> bool
+    ensures { λ r. ⌜ r ≡ (f || d) ⌝ }
+{
+    if f { true } else { d }
+}
+
+fn pick(f: bool, x: u32, y: u32) -> u32
+    ensures { λ r. ⌜ r ≡ picked f x y ⌝ }
+{
+    if f { x } else { y }
+}
+
+// The closing join: the type as asked, and then fork's, or drop's alone. Then the answer is written.
+fn finish_flex(
+    sheet: &[u32],
+    t: u32,
+    f: bool,
+    x: u32,
+    fork: &[u32],
+    a: usize,
+    d: bool,
+    y: u32,
+    drop: &[u32],
+    b: usize,
+    inverted: bool,
+    own: bool,
+    table: &mut [u32],
+    n: usize,
+    out: &mut [u32],
+    map: &mut [u32],
+    answer: &mut [u32],
+)
+    requires { ⌜ FilledIf f (now fork) a ⌝ }
+    requires { ⌜ FilledIf d (now drop) b ⌝ }
+    requires { ⌜ Joining (now table) t f x d y n ⌝ }
+    requires { ⌜ 1537 ≤ length (now out) ⌝ }
+    requires { ⌜ 256 ≤ length (now map) ⌝ }
+    requires { ⌜ limit·answer ≤ length (now answer) ⌝ }
+    ensures { λ _. ⌜ WritesFlex f (now (fork .entry)) a d (now (drop .entry)) b inverted own (closing-join (now (sheet .entry)) (types-of (now (table .entry))) t f x d y) n (now (answer .entry)) (now (answer .exit)) ⌝ }
+{
+    let some = either(f, d);
+    let z = pick(f, x, y);
+    join_types(sheet, table, map, true, t, some, z);
+    write_flex(
+        f,
+        fork,
+        a,
+        d,
+        drop,
+        b,
+        inverted,
+        own,
+        table,
+        n,
+        out,
+        map,
+        answer,
+    )
+}
+
+// Joins fork's type with drop's, 26 where that fails, and goes on to the closing join and the answer.
+fn close_joined(
+    sheet: &[u32],
+    t: u32,
+    f: bool,
+    x: u32,
+    fork: &[u32],
+    a: usize,
+    d: bool,
+    y: u32,
+    drop: &[u32],
+    b: usize,
+    inverted: bool,
+    own: bool,
+    table: &mut [u32],
+    n: usize,
+    out: &mut [u32],
+    map: &mut [u32],
+    answer: &mut [u32],
+) -> u32
+    requires { ⌜ FilledIf f (now fork) a ⌝ }
+    requires { ⌜ FilledIf d (now drop) b ⌝ }
+    requires { ⌜ Joining (now table) t f x d y n ⌝ }
+    requires { ⌜ 1537 ≤ length (now out) ⌝ }
+    requires { ⌜ 256 ≤ length (now map) ⌝ }
+    requires { ⌜ limit·answer ≤ length (now answer) ⌝ }
+    ensures { λ r. ⌜ ClosesJoined (now (sheet .entry)) (types-of (now (table .entry))) t f x (now (fork .entry)) a d y (now (drop .entry)) b inverted own n (now (answer .entry)) (now (answer .exit)) r ⌝ }
+{
+    let fails = join_types(sheet, table, map, f, x, d, y);
+    if fails {
+        return 26;
+    }
+    finish_flex(
+        sheet,
+        t,
+        f,
+        x,
+        fork,
+        a,
+        d,
+        y,
+        drop,
+        b,
+        inverted,
+        own,
+        table,
+        n,
+        out,
+        map,
+        answer,
+    );
+    0
+}
+
+// The last import of fork's result and then drop's, where there are such: 14 where there is no room; then the joins and the answer.
+// t is the type as asked, over the caller's types, and e what was exported of it.
+fn close_found(
+    sheet: &[u32],
+    t: u32,
+    e: u32,
+    f: bool,
+    fork: &[u32],
+    a: usize,
+    d: bool,
+    drop: &[u32],
+    b: usize,
+    inverted: bool,
+    own: bool,
+    table: &mut [u32],
+    out: &mut [u32],
+    map: &mut [u32],
+    answer: &mut [u32],
+) -> u32
+    requires { ⌜ Offers f (now fork) a e ⌝ }
+    requires { ⌜ Offers d (now drop) b e ⌝ }
+    requires { ⌜ Caller (now table) t ⌝ }
+    requires { ⌜ 1537 ≤ length (now out) ⌝ }
+    requires { ⌜ 256 ≤ length (now map) ⌝ }
+    requires { ⌜ limit·answer ≤ length (now answer) ⌝ }
+    ensures { λ r. ⌜ ClosesFound (now (sheet .entry)) (types-of (now (table .entry))) t e f (now (fork .entry)) a d (now (drop .entry)) b inverted own (now (answer .entry)) (now (answer .exit)) r ⌝ }
+{
+    let n = words::wide(table::count(table));
+    let x = import_type(f, fork, a, table, map, e);
+    if x == 0 {
+        return 14;
+    }
+    let y = import_type(d, drop, b, table, map, e);
+    if y == 0 {
+        return 14;
+    }
+    let p = x - 1;
+    let q = y - 1;
+    close_joined(
+        sheet,
+        t,
+        f,
+        p,
+        fork,
+        a,
+        d,
+        q,
+        drop,
+        b,
         inverted,
         own,
         table,
