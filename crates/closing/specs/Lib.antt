@@ -1,0 +1,5 @@
+pub mod Rows
+pub mod Last
+pub mod Impl
+pub mod Flex
+pub mod FlexEnd

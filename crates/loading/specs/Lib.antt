@@ -1,0 +1,4 @@
+pub mod Nodes
+pub mod Tables
+pub mod Exports
+pub mod Checked
