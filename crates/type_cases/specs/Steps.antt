@@ -63,8 +63,8 @@ module _ (ws xs : Words) (c : ℕ) (q : Bool) (e : c ≡ length (types-of ws)) (
   pub tested-words : TypeWords xs
   tested-words = below-words ws xs c e (t .holds (passed q p))
 
-pub known-pushed : (ws us cs : Words) (r c k d : ℕ) (i q : Bool) → Sound ws → c ≡ length (types-of ws) → Tested c cs q → not q ≡ false → length cs ≤ 8 → Pushes ws us (known i k d (map type-of-word cs)) r → Sound us
-known-pushed ws us cs r c k d i q g e t p few u = sound-known ws us r g cs c k d i e (t .holds (passed q p)) few u
+pub known-pushed : (ws us cs : Words) (r c k d : ℕ) (i q : Bool) → Sound ws → c ≡ length (types-of ws) → Tested c cs q → not q ≡ false → length cs ≤ 8 → d < 4096 → Pushes ws us (known i k d (map type-of-word cs)) r → Sound us
+known-pushed ws us cs r c k d i q g e t p few low u = sound-known ws us r g cs c k d i e (t .holds (passed q p)) few low u
 
 -- `both_below`.
 pub both-not : (ws xs ys : Words) → BothTested ws xs ys false

@@ -33,6 +33,9 @@ const NODES: u32 = 9;
 // The most types in a row.
 const ROW: usize = 8;
 
+// Ids of a sheet are below this.
+const IDS: u32 = 4096;
+
 // The smaller of two lengths.
 pub fn at_most(n: usize, most: usize) -> usize
     ensures { λ r. ⌜ r ≤ most ⌝ }
@@ -107,6 +110,10 @@ fn known(o: &[u32], ws: &mut [u32]) -> bool
     if kind == 0 {
         return false;
     }
+    let id = words::word(o, 4);
+    if IDS <= id {
+        return false;
+    }
     let m = row(o, 5);
     let cs = words::record(o, 6, m);
     if ROW < cs.len() {
@@ -117,7 +124,7 @@ fn known(o: &[u32], ws: &mut [u32]) -> bool
         return false;
     }
     let inverted = words::word(o, 3) == 1;
-    let n = table::new_known(ws, inverted, kind, words::word(o, 4), cs);
+    let n = table::new_known(ws, inverted, kind, id, cs);
     n == words::word(o, 6 + m)
 }
 
