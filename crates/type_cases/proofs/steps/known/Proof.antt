@@ -7,6 +7,7 @@ use Rattle.type_cases.proofs.steps.known.Lts as lts
 use Rattle.table.proofs.count.Reads as count-reads
 use Rattle.table.proofs.new_known.Reads as new-known-reads
 use Rattle.type_cases.proofs.steps.below.Reads as below-reads
+use Rattle.type_cases.proofs.steps.id_fits.Reads as id-fits-reads
 use Rattle.type_cases.proofs.steps.row.Reads as row-reads
 use Rattle.words.proofs.record.Reads as record-reads
 use Rattle.words.proofs.word.Reads as word-reads
@@ -19,6 +20,9 @@ returns c = search needs
 
 word-requires-2 : tie.Need-word-requires-2
 word-requires-2 c κs = search needs
+
+id-fits-requires : tie.Need-id-fits-requires
+id-fits-requires c κs = search needs
 
 returns-2 : tie.Need-returns-2
 returns-2 c = search needs
@@ -69,6 +73,7 @@ known-spec =
     word-requires
     returns
     word-requires-2
+    id-fits-requires
     returns-2
     row-requires
     record-requires
