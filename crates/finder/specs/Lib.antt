@@ -2,5 +2,4 @@ pub mod Singles
 pub mod Tails
 pub mod Steps
 pub mod Built
-pub mod Fresh
 pub mod Members

@@ -5,7 +5,6 @@ ghost use lib.ListN.{length, drop};
 ghost use Rattle.table.specs.Packing.{types-of, Packed};
 ghost use Rattle.slots.specs.Copies.{Beside};
 ghost use Rattle.queries.specs.Queries.{query-of};
-ghost use Rattle.finder.specs.Fresh.{Freshens};
 ghost use Rattle.finder.specs.Built.{NoneLeft, LeafStep, SmallIds, Autos};
 use auto::Auto;
 use queries::Query;
@@ -57,19 +56,4 @@ fn add_autos(sheet: &[u32], ws: &mut [u32], q: Query, count: u32) -> Asked
         Auto::Nothing => Asked::Found { count, n: 0 },
         Auto::Leaf { kind, id } => leaf_step(ws, 0, 0, kind, id, count),
     }
-}
-
-// Pushes n fresh unknowns to a table. False where there is no room.
-fn fresh(ws: &mut [u32], n: usize) -> bool
-    requires { ⌜ Packed (now ws) ⌝ }
-    ensures { λ r. ⌜ Freshens (now (ws .entry)) (now (ws .exit)) n r ⌝ }
-{
-    let mut i = 0;
-    while i < n {
-        if table::new_var(ws) == table::NODES {
-            return false;
-        }
-        i += 1;
-    }
-    true
 }

@@ -2,10 +2,10 @@
 use Prim.Native.Nat.{_-_}
 use mathlib.Core.Path.{_≡_}
 use lib.ListN.{length}
-use Rattle.finder.specs.Fresh.{Freshening, fresh-none, fresh-more, fresh-full, fresh-done}
+use Rattle.opening.specs.Fresh.{Freshening, fresh-none, fresh-more, fresh-full, fresh-done}
 use borrow.Author.Needs.{needs}
-use Rattle.finder.proofs.fresh.Statement.{statement}
-use Rattle.finder.proofs.fresh.Tie as tie
+use Rattle.opening.proofs.fresh.Statement.{statement}
+use Rattle.opening.proofs.fresh.Tie as tie
 
 abbrev Inv-loop : tie.InvT-loop
 Inv-loop ws₀ n i₀ ws i = Freshening ws₀ ws n i × (length ws ≡ length ws₀)
