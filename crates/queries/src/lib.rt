@@ -1,7 +1,11 @@
 // Questions in the code's words: one with its type words, and the sub-questions of a candidate.
 ghost use mathlib.Core.Path.{_≡_};
-ghost use Prim.Native.Nat.{_<_};
-ghost use Rattle.queries.specs.Queries.{query-in};
+ghost use Prim.Native.Nat.{_<_, _≤_};
+ghost use lib.ListN.{length};
+ghost use Rattle.rules.specs.Transfer.{cell-types};
+ghost use Rattle.queries.specs.Queries.{query-of, query-in};
+
+const CELL_TYPE: usize = 1;
 
 // `ImplType`: a trait? and the first n of four type words.
 pub struct Query {
@@ -34,4 +38,23 @@ pub fn query_at(qs: Queries, k: usize) -> Query
         n: qs.counts[k],
         args,
     }
+}
+
+// The question with a trait? and the type words in the cells of the chain from a head, of which there are at most four.
+pub fn read_query(s: &[u32], tr: u32, head: usize) -> Query
+    requires { ⌜ length (cell-types (now s) head) ≤ 4 ⌝ }
+    ensures { λ r. ⌜ query-of r ≡ (tr, cell-types (now (s .entry)) head) ⌝ }
+    ensures { λ r. ⌜ r .n ≤ 4 ⌝ }
+{
+    let n = words::chain_length(s, head);
+    let b = words::next(s, head);
+    let c = words::next(s, b);
+    let d = words::next(s, c);
+    let args = [
+        words::offset(s, head, CELL_TYPE),
+        words::offset(s, b, CELL_TYPE),
+        words::offset(s, c, CELL_TYPE),
+        words::offset(s, d, CELL_TYPE),
+    ];
+    Query { tr, n, args }
 }
