@@ -9,6 +9,7 @@ use native.Mathlib.Nat.{zero-add}
 use lib.ListN.{length, take, drop}
 use lib.Seq.{length-take-le}
 use Rattle.rules.specs.Lists.{Words}
+use Rattle.rules.specs.Limits.{limit·nodes}
 use Rattle.rules.specs.Sheet.{at, chain, chain-of}
 use Rattle.rules.specs.Types.{Ty, Types}
 use Rattle.rules.specs.Solutions.{AllIn}
@@ -33,13 +34,22 @@ pub chain-short : (s : Words) (h : ℕ) → length (chain s h) ≤ length s
 unfolding chain
 chain-short s h = chain-few (length s) s h
 
-pub chain-room : (s ws : Words) (h : ℕ) → length s ≤ length ws → 0 + length (chain s h) ≤ length ws
-chain-room s ws h l = omega (arith, chain-short s h)
+-- Slices lent for an import: room for the places of a chain of s, and for a mapping or marks of a table.
+pub record Lent (s places map : Words) : Type 0 where
+  pub places-long : length s ≤ length places
+  pub map-long : length s ≤ length map
+  pub marks-long : limit·nodes ≤ length map
+
+pub chain-room : (s places map : Words) (h : ℕ) → Lent s places map → 0 + length (chain s h) ≤ length places
+chain-room s places map h l = omega (arith, chain-short s h, l .places-long)
+
+pub marks-room : (s places map ms : Words) → Lent s places map → length ms ≡ length map → 256 ≤ length ms
+marks-room s places map ms l e = omega (arith, l .marks-long)
 
 -- us has the places of the chain from a head first, n of them.
-module _ (s : Words) (h : ℕ) (ws us : Words) (n : ℕ) (x : Indexed s h ws us 0 n) (long : length us ≡ length ws) (room : length s ≤ length ws) where
+module _ (s : Words) (h : ℕ) (ws us : Words) (n : ℕ) (x : Indexed s h ws us 0 n) (ms : Words) (long : length us ≡ length ws) (room : Lent s ws ms) where
   pub places-few : n ≤ length us
-  places-few = omega (arith, x .count, chain-short s h)
+  places-few = omega (arith, x .count, chain-short s h, room .places-long)
 
   pub places-length : n ≡ length (take n us)
   places-length = sym (length-take-le n us places-few)
@@ -53,8 +63,8 @@ module _ (s : Words) (h : ℕ) (ws us : Words) (n : ℕ) (x : Indexed s h ws us 
   pub source-neat : Neat (table s h) → Neat (source false s (take n us))
   source-neat k = subst Neat (sym there) k
 
-  pub source-room : (ms : Words) → length s ≤ length ms → length (source false s (take n us)) ≤ length ms
-  source-room ms l = omega (arith, ap (λ (ts : Types). length ts) there, table-length s h, chain-short s h)
+  pub source-room : length (source false s (take n us)) ≤ length ms
+  source-room = omega (arith, ap (λ (ts : Types). length ts) there, table-length s h, chain-short s h, room .map-long)
 
   pub source-inside : (m : ℕ) (ts : Words) → AllIn (length (table s h)) (types-in m ts) → Inside (source false s (take n us)) (take m ts)
   source-inside m ts a = inside-from (source false s (take n us)) m ts (subst (λ (x : Types). AllIn (length x) (types-in m ts)) (sym there) a)

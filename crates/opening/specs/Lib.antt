@@ -1,2 +1,3 @@
 pub mod Fresh
 pub mod Bringing
+pub mod Meeting

@@ -1,18 +1,25 @@
 // What a question does with one candidate impl before its sub-questions, and with one impl parameter: fresh unknowns, imports from the sheet, and the join
 // with the question. It is work on one lent type table; `places` and `map` are lent for the time of a call.
 ghost use mathlib.Core.Path.{_≡_};
+ghost use mathlib.Core.List.{map as map-list};
 ghost use Prim.Native.Nat.{_<_, _≤_};
 ghost use lib.ListN.{length};
 ghost use Rattle.rules.specs.Layout.{header·generics};
 ghost use Rattle.rules.specs.Sheet.{field, many};
 ghost use Rattle.rules.specs.Solutions.{AllIn};
-ghost use Rattle.rules.specs.Transfer.{table as table-of, import-types, import-impl-type};
+ghost use Rattle.rules.specs.Types.{unify-impl-type};
+ghost use Rattle.rules.specs.Transfer.{type-of-word, table as table-of, import-types, import-impl-type};
 ghost use Rattle.rules.specs.Neat.{Neat, Brought};
-ghost use Rattle.table.specs.Packing.{types-of, Packed, TypeWords};
+ghost use Rattle.table.specs.Packing.{types-of, Packed, Good, TypeWords};
 ghost use Rattle.transfer.specs.Moving.{params-of};
 ghost use Rattle.transfer.specs.Imports.{types-in, Imports};
 ghost use Rattle.queries.specs.Queries.{query-of};
+ghost use Rattle.unify.specs.Lists.{Nodes};
 ghost use Rattle.opening.specs.Fresh.{Freshens};
+ghost use Rattle.opening.specs.Bringing.{Lent};
+ghost use Rattle.opening.specs.Meeting.{imported, Joins, Meets};
+use queries::Query;
+use unify::UnifyResult;
 
 // What an import and the join with the question come to: the table would pass its limit, they do not unify, or they do.
 pub enum Signed {
@@ -58,8 +65,7 @@ fn bring(
     m: usize,
 ) -> bool
     requires { ⌜ Neat (table-of (now sheet) head) ⌝ }
-    requires { ⌜ length (now sheet) ≤ length (now places) ⌝ }
-    requires { ⌜ length (now sheet) ≤ length (now map) ⌝ }
+    requires { ⌜ Lent (now sheet) (now places) (now map) ⌝ }
     requires { ⌜ TypeWords (now ps) ⌝ }
     requires { ⌜ Packed (now dst) ⌝ }
     requires { ⌜ m ≤ length (now ts) ⌝ }
@@ -68,4 +74,97 @@ fn bring(
 {
     let n = chart::index_chain(sheet, head, places, 0);
     transfer::import_types(false, sheet, &places[..n], dst, map, with, ps, ts, m)
+}
+
+// The join of a trait? and its arguments with the question: whether it succeeds.
+fn joins(sheet: &[u32], dst: &mut [u32], marks: &mut [u32], tr: u32, xs: &[u32], q: Query) -> bool
+    requires { ⌜ Good (now dst) ⌝ }
+    requires { ⌜ Nodes (types-of (now dst)) (now xs) ⌝ }
+    requires { ⌜ AllIn (length (types-of (now dst))) ((query-of q) .1) ⌝ }
+    requires { ⌜ q .n ≤ 4 ⌝ }
+    requires { ⌜ 256 ≤ length (now marks) ⌝ }
+    ensures { λ r. ⌜ Joins (unify-impl-type (now (sheet .entry)) (types-of (now (dst .entry))) (tr, map-list type-of-word (now (xs .entry))) (query-of q)) (now (dst .exit)) r ⌝ }
+{
+    let ys = [q.args[0], q.args[1], q.args[2], q.args[3]];
+    let n = q.n;
+    let v = unify::unify_impl_type(sheet, dst, marks, tr, xs, q.tr, &ys[..n]);
+    match v {
+        UnifyResult::Success => true,
+        UnifyResult::Failure => false,
+        UnifyResult::Indeterminate => false,
+    }
+}
+
+// Imports the first n types of xs, in place, from the sheet's table at a head, and joins them, as the arguments of a trait?, with the question.
+fn meet_types(
+    sheet: &[u32],
+    head: u32,
+    dst: &mut [u32],
+    places: &mut [u32],
+    map: &mut [u32],
+    with: bool,
+    ps: &[u32],
+    tr: u32,
+    xs: &mut [u32],
+    n: usize,
+    q: Query,
+) -> Signed
+    requires { ⌜ Neat (table-of (now sheet) head) ⌝ }
+    requires { ⌜ Lent (now sheet) (now places) (now map) ⌝ }
+    requires { ⌜ TypeWords (now ps) ⌝ }
+    requires { ⌜ Packed (now dst) ⌝ }
+    requires { ⌜ n ≤ length (now xs) ⌝ }
+    requires { ⌜ AllIn (length (table-of (now sheet) head)) (types-in n (now xs)) ⌝ }
+    requires { ⌜ q .n ≤ 4 ⌝ }
+    requires { ⌜ AllIn (length (types-of (now dst))) ((query-of q) .1) ⌝ }
+    requires { ⌜ Brought (types-of (now dst)) ((imported (table-of (now sheet) head) (params-of with (now ps)) tr n (now xs) (now dst)) .0 .1) ((imported (table-of (now sheet) head) (params-of with (now ps)) tr n (now xs) (now dst)) .1) ⌝ }
+    ensures { λ r. ⌜ Meets (now (sheet .entry)) (imported (table-of (now (sheet .entry)) head) (params-of with (now (ps .entry))) tr n (now (xs .entry)) (now (dst .entry))) (query-of q) r (now (dst .exit)) ⌝ }
+{
+    let done = bring(sheet, head, dst, places, map, with, ps, xs, n);
+    if done {
+        if joins(sheet, dst, map, tr, &xs[..n], q) {
+            return Signed::Fits;
+        }
+        return Signed::Unfit;
+    }
+    Signed::Full
+}
+
+// Imports p from the sheet's table at a head, and joins it with question q.
+fn meet(
+    sheet: &[u32],
+    head: u32,
+    dst: &mut [u32],
+    places: &mut [u32],
+    map: &mut [u32],
+    with: bool,
+    ps: &[u32],
+    p: Query,
+    q: Query,
+) -> Signed
+    requires { ⌜ Neat (table-of (now sheet) head) ⌝ }
+    requires { ⌜ Lent (now sheet) (now places) (now map) ⌝ }
+    requires { ⌜ TypeWords (now ps) ⌝ }
+    requires { ⌜ Packed (now dst) ⌝ }
+    requires { ⌜ p .n ≤ 4 ⌝ }
+    requires { ⌜ AllIn (length (table-of (now sheet) head)) ((query-of p) .1) ⌝ }
+    requires { ⌜ q .n ≤ 4 ⌝ }
+    requires { ⌜ AllIn (length (types-of (now dst))) ((query-of q) .1) ⌝ }
+    requires { ⌜ Brought (types-of (now dst)) ((import-impl-type (table-of (now sheet) head) (params-of with (now ps)) (query-of p) (types-of (now dst))) .0 .1) ((import-impl-type (table-of (now sheet) head) (params-of with (now ps)) (query-of p) (types-of (now dst))) .1) ⌝ }
+    ensures { λ r. ⌜ Meets (now (sheet .entry)) (import-impl-type (table-of (now (sheet .entry)) head) (params-of with (now (ps .entry))) (query-of p) (types-of (now (dst .entry)))) (query-of q) r (now (dst .exit)) ⌝ }
+{
+    let mut xs = [p.args[0], p.args[1], p.args[2], p.args[3]];
+    meet_types(
+        sheet,
+        head,
+        dst,
+        places,
+        map,
+        with,
+        ps,
+        p.tr,
+        &mut xs,
+        p.n,
+        q,
+    )
 }
