@@ -1,2 +1,4 @@
+pub mod Few
+pub mod Gathering
 pub mod Queries
 pub mod Reading

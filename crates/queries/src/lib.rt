@@ -2,10 +2,13 @@
 ghost use mathlib.Core.Path.{_≡_};
 ghost use Prim.Native.Nat.{_<_, _≤_};
 ghost use lib.ListN.{length};
+ghost use Rattle.rules.specs.Sheet.{chain};
 ghost use Rattle.rules.specs.Transfer.{cell-types};
-ghost use Rattle.queries.specs.Queries.{query-of, query-in};
-
-const CELL_TYPE: usize = 1;
+ghost use Rattle.rules.specs.Search.{impl-params};
+ghost use Rattle.queries.specs.Queries.{query-of, queries-of, query-in};
+ghost use Rattle.queries.specs.Few.{Few};
+ghost use Rattle.queries.specs.Gathering.{WithinFour, gathered, params-from, ParamRead};
+use chart::layout;
 
 // `ImplType`: a trait? and the first n of four type words.
 pub struct Query {
@@ -51,10 +54,74 @@ pub fn read_query(s: &[u32], tr: u32, head: usize) -> Query
     let c = words::next(s, b);
     let d = words::next(s, c);
     let args = [
-        words::offset(s, head, CELL_TYPE),
-        words::offset(s, b, CELL_TYPE),
-        words::offset(s, c, CELL_TYPE),
-        words::offset(s, d, CELL_TYPE),
+        words::offset(s, head, layout::CELL_TYPE),
+        words::offset(s, b, layout::CELL_TYPE),
+        words::offset(s, c, layout::CELL_TYPE),
+        words::offset(s, d, layout::CELL_TYPE),
     ];
     Query { tr, n, args }
+}
+
+// The first n of four questions.
+pub fn gather(n: usize, a: Query, b: Query, c: Query, d: Query) -> Queries
+    ensures { λ r. ⌜ r ≡ gathered n a b c d ⌝ }
+{
+    let args = [
+        a.args[0],
+        a.args[1],
+        a.args[2],
+        a.args[3],
+        b.args[0],
+        b.args[1],
+        b.args[2],
+        b.args[3],
+        c.args[0],
+        c.args[1],
+        c.args[2],
+        c.args[3],
+        d.args[0],
+        d.args[1],
+        d.args[2],
+        d.args[3],
+    ];
+    Queries {
+        n,
+        trs: [a.tr, b.tr, c.tr, d.tr],
+        counts: [a.n, b.n, c.n, d.n],
+        args,
+    }
+}
+
+// Impl parameter k of the n in the chain from a head; none, with no arguments, past them.
+fn read_param(s: &[u32], head: usize, n: usize, k: usize) -> Query
+    requires { ⌜ Few (params-from (now s) head) ⌝ }
+    requires { ⌜ n ≡ length (chain (now s) head) ⌝ }
+    ensures { λ r. ⌜ ParamRead (now (s .entry)) head k r ⌝ }
+{
+    if k < n {
+        let p = words::place(s, head, k);
+        let tr = words::offset(s, p, layout::IMPL_PARAM_TRAIT);
+        let args = chart::field_at(s, p, layout::IMPL_PARAM_ARGS);
+        return read_query(s, tr, args);
+    }
+    Query {
+        tr: 0,
+        n: 0,
+        args: [0, 0, 0, 0],
+    }
+}
+
+// The impl parameters of generics g.
+pub fn read_params(s: &[u32], g: usize) -> Queries
+    requires { ⌜ Few ((impl-params (now s) g) .1) ⌝ }
+    ensures { λ r. ⌜ queries-of r ≡ (impl-params (now (s .entry)) g) .1 ⌝ }
+    ensures { λ r. ⌜ WithinFour r ⌝ }
+{
+    let head = chart::impl_params_head(s, g);
+    let n = words::chain_length(s, head);
+    let a = read_param(s, head, n, 0);
+    let b = read_param(s, head, n, 1);
+    let c = read_param(s, head, n, 2);
+    let d = read_param(s, head, n, 3);
+    gather(n, a, b, c, d)
 }
