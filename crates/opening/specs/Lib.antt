@@ -1,3 +1,4 @@
 pub mod Fresh
 pub mod Bringing
 pub mod Meeting
+pub mod Sound

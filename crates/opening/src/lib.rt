@@ -2,6 +2,7 @@
 // with the question. It is work on one lent type table; `places` and `map` are lent for the time of a call.
 ghost use mathlib.Core.Path.{_≡_};
 ghost use mathlib.Core.List.{map as map-list};
+ghost use mathlib.Core.Option.{none};
 ghost use Prim.Native.Nat.{_<_, _≤_};
 ghost use lib.ListN.{length};
 ghost use Rattle.rules.specs.Layout.{header·generics};
@@ -9,6 +10,7 @@ ghost use Rattle.rules.specs.Sheet.{field, many};
 ghost use Rattle.rules.specs.Solutions.{AllIn};
 ghost use Rattle.rules.specs.Types.{unify-impl-type};
 ghost use Rattle.rules.specs.Transfer.{type-of-word, table as table-of, import-types, import-impl-type};
+ghost use Rattle.rules.specs.Search.{impl-params};
 ghost use Rattle.rules.specs.Neat.{Neat, Brought};
 ghost use Rattle.table.specs.Packing.{types-of, Packed, Good, TypeWords};
 ghost use Rattle.transfer.specs.Moving.{params-of};
@@ -17,7 +19,9 @@ ghost use Rattle.queries.specs.Queries.{query-of};
 ghost use Rattle.unify.specs.Lists.{Nodes};
 ghost use Rattle.opening.specs.Fresh.{Freshens};
 ghost use Rattle.opening.specs.Bringing.{Lent};
+ghost use Rattle.opening.specs.Sound.{Sound};
 ghost use Rattle.opening.specs.Meeting.{imported, Joins, Meets};
+use chart::layout;
 use queries::Query;
 use unify::UnifyResult;
 
@@ -167,4 +171,30 @@ fn meet(
         p.n,
         q,
     )
+}
+
+// An impl parameter p of generics, imported and met with question q.
+pub fn meet_param(
+    sheet: &[u32],
+    generics: usize,
+    dst: &mut [u32],
+    places: &mut [u32],
+    map: &mut [u32],
+    q: Query,
+    p: Query,
+) -> Signed
+    requires { ⌜ Sound (now sheet) ⌝ }
+    requires { ⌜ generics < many (now sheet) header·generics ⌝ }
+    requires { ⌜ 4096 ≤ length (now places) ⌝ }
+    requires { ⌜ 4096 ≤ length (now map) ⌝ }
+    requires { ⌜ Packed (now dst) ⌝ }
+    requires { ⌜ Neat (types-of (now dst)) ⌝ }
+    requires { ⌜ q .n ≤ 4 ⌝ }
+    requires { ⌜ AllIn (length (types-of (now dst))) ((query-of q) .1) ⌝ }
+    requires { ⌜ p .n ≤ 4 ⌝ }
+    requires { ⌜ AllIn (length ((impl-params (now sheet) generics) .0)) ((query-of p) .1) ⌝ }
+    ensures { λ r. ⌜ Meets (now (sheet .entry)) (import-impl-type ((impl-params (now (sheet .entry)) generics) .0) none (query-of p) (types-of (now (dst .entry)))) (query-of q) r (now (dst .exit)) ⌝ }
+{
+    let head = word_of(sheet, layout::GENERICS, generics, layout::GENERICS_TABLE);
+    meet(sheet, head, dst, places, map, false, &sheet[..0], p, q)
 }
