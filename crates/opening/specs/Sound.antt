@@ -1,34 +1,25 @@
 -- What a call that passed the checks promises to the work on one candidate or one impl parameter, and what that work is in the rules.
-use Prim.Native.Nat.{ℕ, zero, suc, _+_, _*_, _/_, _%_, _≤_, _<_}
-use mathlib.Core.Path.{_≡_, refl, sym, _∙_, ap, ap₂, subst}
-use mathlib.Core.Bool.{Bool, true, false}
-use mathlib.Core.List.{List, [], _∷_, map}
-use mathlib.Core.Option.{Option, none, some}
+use Prim.Native.Nat.{ℕ, _≤_, _<_}
+use mathlib.Core.Path.{_≡_, sym, ap, subst}
+use mathlib.Core.Bool.{false}
+use mathlib.Core.Option.{none}
 use native.Mathlib.Omega.{arith}
-use lib.Dec.{leb→le}
-use lib.ListN.{length, take}
-use Rattle.rules.specs.Lists.{Words, range}
-use Rattle.rules.specs.Limits.{limit·sheet, limit·nodes, limit·type-params}
-use Rattle.rules.specs.Layout.{header·generics, header·impls, generics·table, generics·type-params, impl·generics, impl·trait, impl·table, impl·args}
-use Rattle.rules.specs.Sheet.{at, field, many, type-params, generics-table, impl-generics, impl-trait, impl-table, impl-args}
-use Rattle.rules.specs.Types.{Ty, Types, ImplType}
+use lib.ListN.{length}
+use Rattle.rules.specs.Lists.{Words}
+use Rattle.rules.specs.Limits.{limit·sheet}
+use Rattle.rules.specs.Layout.{header·generics, generics·table}
+use Rattle.rules.specs.Sheet.{field, many, generics-table}
+use Rattle.rules.specs.Types.{Types, ImplType}
 use Rattle.rules.specs.Solutions.{AllIn}
-use Rattle.rules.specs.Transfer.{type-of-word, import-impl-type, cell-types, table}
-use Rattle.rules.specs.Search.{Finder, impl-signature, impl-params, fresh-params, with-fresh}
-use Rattle.rules.specs.Values.{generics-ok}
-use Rattle.rules.specs.CheckLaws.{part}
+use Rattle.rules.specs.Transfer.{import-impl-type, table}
+use Rattle.rules.specs.Search.{Finder, impl-params}
 use Rattle.rules.specs.CheckedTables.{Ready}
-use Rattle.rules.specs.Neat.{Neat, Brought, low-none, query-brought, impl-params-neat, impl-generics-in, signature-neat, signature-in, in-more, fresh-length}
-use Rattle.rules.specs.SearchKeeps.{fresh-count, signed, signature-brought}
-use Rattle.table.specs.Packing.{types-of, Packed}
-use Rattle.table.specs.Nodes.{types-few}
+use Rattle.rules.specs.Neat.{Neat, Brought, low-none, query-brought, impl-params-neat}
+use Rattle.table.specs.Packing.{types-of}
 use Rattle.transfer.specs.Moving.{params-of}
 use Rattle.queries.specs.declared.Query.{Query}
 use Rattle.queries.specs.Queries.{query-of}
-use Rattle.queries.specs.Few.{few-args}
 use Rattle.opening.specs.declared.Signed.{Signed}
-use Rattle.opening.specs.declared.Signed.the-variants.{Full, Unfit, Fits}
-use Rattle.opening.specs.Fresh.{Freshens}
 use Rattle.opening.specs.Bringing.{Lent}
 use Rattle.opening.specs.Meeting.{Meets}
 
@@ -44,7 +35,7 @@ pub sound-of : (a : Finder) (w : Words) → Ready a w → length (a .sheet) ≤ 
 sound-of a w r h = record { source = a .source; generics = a .generics; question = w; ready = r; short = h }
 
 module _ (s : Words) (sound : Sound s) where
-  abbrev finder : Finder
+  abbrev pub finder : Finder
   finder = record { sheet = s; source = sound .source; generics = sound .generics }
 
   -- Slices of 4,096 words serve every import from it.

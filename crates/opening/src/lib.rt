@@ -1,16 +1,18 @@
 // What a question does with one candidate impl before its sub-questions, and with one impl parameter: fresh unknowns, imports from the sheet, and the join
 // with the question. It is work on one lent type table; `places` and `map` are lent for the time of a call.
 ghost use mathlib.Core.Path.{_≡_};
+ghost use mathlib.Core.Bool.{true};
 ghost use mathlib.Core.List.{map as map-list};
-ghost use mathlib.Core.Option.{none};
-ghost use Prim.Native.Nat.{_<_, _≤_};
+ghost use mathlib.Core.Option.{none, some};
+ghost use Prim.Native.Nat.{_+_, _<_, _≤_};
 ghost use lib.ListN.{length};
-ghost use Rattle.rules.specs.Layout.{header·generics};
+ghost use Rattle.rules.specs.Layout.{header·generics, header·impls};
 ghost use Rattle.rules.specs.Sheet.{field, many};
 ghost use Rattle.rules.specs.Solutions.{AllIn};
 ghost use Rattle.rules.specs.Types.{unify-impl-type};
 ghost use Rattle.rules.specs.Transfer.{type-of-word, table as table-of, import-types, import-impl-type};
 ghost use Rattle.rules.specs.Search.{impl-params};
+ghost use Rattle.rules.specs.SearchKeeps.{signed};
 ghost use Rattle.rules.specs.Neat.{Neat, Brought};
 ghost use Rattle.table.specs.Packing.{types-of, Packed, Good, TypeWords};
 ghost use Rattle.transfer.specs.Moving.{params-of};
@@ -18,8 +20,10 @@ ghost use Rattle.transfer.specs.Imports.{types-in, Imports};
 ghost use Rattle.queries.specs.Queries.{query-of};
 ghost use Rattle.unify.specs.Lists.{Nodes};
 ghost use Rattle.opening.specs.Fresh.{Freshens};
+ghost use Rattle.opening.specs.Standing.{standing, Stands};
 ghost use Rattle.opening.specs.Bringing.{Lent};
 ghost use Rattle.opening.specs.Sound.{Sound};
+ghost use Rattle.opening.specs.Signing.{signed-by, Leaves};
 ghost use Rattle.opening.specs.Meeting.{imported, Joins, Meets};
 use chart::layout;
 use queries::Query;
@@ -45,6 +49,21 @@ fn fresh(ws: &mut [u32], n: usize) -> bool
         i += 1;
     }
     true
+}
+
+// Writes the types that stand for n type parameters: the nodes from base on.
+fn stand(base: u32, n: usize, ps: &mut [u32])
+    requires { ⌜ base + n ≤ 256 ⌝ }
+    requires { ⌜ n ≤ length (now ps) ⌝ }
+    ensures { λ _. ⌜ Stands base n (now (ps .exit)) ⌝ }
+{
+    let mut w = 2 * base;
+    let mut k = 0;
+    while k < n {
+        ps[k] = w;
+        w += 2;
+        k += 1;
+    }
 }
 
 // Word k of record `id` of the chain that header word h heads.
@@ -197,4 +216,89 @@ pub fn meet_param(
 {
     let head = word_of(sheet, layout::GENERICS, generics, layout::GENERICS_TABLE);
     meet(sheet, head, dst, places, map, false, &sheet[..0], p, q)
+}
+
+// The signature of impl i, imported with the parameters ps and met with question q.
+fn sign_with(
+    sheet: &[u32],
+    dst: &mut [u32],
+    places: &mut [u32],
+    map: &mut [u32],
+    ps: &[u32],
+    q: Query,
+    i: usize,
+) -> Signed
+    requires { ⌜ Sound (now sheet) ⌝ }
+    requires { ⌜ i < many (now sheet) header·impls ⌝ }
+    requires { ⌜ 4096 ≤ length (now places) ⌝ }
+    requires { ⌜ 4096 ≤ length (now map) ⌝ }
+    requires { ⌜ Packed (now dst) ⌝ }
+    requires { ⌜ q .n ≤ 4 ⌝ }
+    requires { ⌜ AllIn (length (types-of (now dst))) ((query-of q) .1) ⌝ }
+    requires { ⌜ TypeWords (now ps) ⌝ }
+    requires { ⌜ Leaves (types-of (now dst)) (signed-by (now sheet) i (params-of true (now ps)) (types-of (now dst))) ⌝ }
+    ensures { λ r. ⌜ Meets (now (sheet .entry)) (signed-by (now (sheet .entry)) i (params-of true (now (ps .entry))) (types-of (now (dst .entry)))) (query-of q) r (now (dst .exit)) ⌝ }
+{
+    let tr = word_of(sheet, layout::IMPLS, i, layout::IMPL_TRAIT);
+    let args = chart::impl_args(sheet, i);
+    let p = queries::read_query(sheet, tr, args);
+    let head = word_of(sheet, layout::IMPLS, i, layout::IMPL_TABLE);
+    meet(sheet, head, dst, places, map, true, ps, p, q)
+}
+
+// The same with the n nodes from base on as parameters.
+fn sign_from(
+    sheet: &[u32],
+    dst: &mut [u32],
+    places: &mut [u32],
+    map: &mut [u32],
+    base: u32,
+    n: usize,
+    q: Query,
+    i: usize,
+) -> Signed
+    requires { ⌜ Sound (now sheet) ⌝ }
+    requires { ⌜ i < many (now sheet) header·impls ⌝ }
+    requires { ⌜ 4096 ≤ length (now places) ⌝ }
+    requires { ⌜ 4096 ≤ length (now map) ⌝ }
+    requires { ⌜ Packed (now dst) ⌝ }
+    requires { ⌜ q .n ≤ 4 ⌝ }
+    requires { ⌜ AllIn (length (types-of (now dst))) ((query-of q) .1) ⌝ }
+    requires { ⌜ n ≤ 8 ⌝ }
+    requires { ⌜ base + n ≤ 256 ⌝ }
+    requires { ⌜ Leaves (types-of (now dst)) (signed-by (now sheet) i (some (standing base n)) (types-of (now dst))) ⌝ }
+    ensures { λ r. ⌜ Meets (now (sheet .entry)) (signed-by (now (sheet .entry)) i (some (standing base n)) (types-of (now (dst .entry)))) (query-of q) r (now (dst .exit)) ⌝ }
+{
+    let mut ps = [0u32; 8];
+    stand(base, n, &mut ps);
+    sign_with(sheet, dst, places, map, &ps[..n], q, i)
+}
+
+// Candidate i up to its join with question q: fresh unknowns for its type parameters, and its signature.
+pub fn sign(
+    sheet: &[u32],
+    dst: &mut [u32],
+    places: &mut [u32],
+    map: &mut [u32],
+    q: Query,
+    i: usize,
+) -> Signed
+    requires { ⌜ Sound (now sheet) ⌝ }
+    requires { ⌜ i < many (now sheet) header·impls ⌝ }
+    requires { ⌜ 4096 ≤ length (now places) ⌝ }
+    requires { ⌜ 4096 ≤ length (now map) ⌝ }
+    requires { ⌜ Packed (now dst) ⌝ }
+    requires { ⌜ q .n ≤ 4 ⌝ }
+    requires { ⌜ AllIn (length (types-of (now dst))) ((query-of q) .1) ⌝ }
+    requires { ⌜ Neat (types-of (now dst)) ⌝ }
+    ensures { λ r. ⌜ Meets (now (sheet .entry)) (signed (now (sheet .entry)) (types-of (now (dst .entry))) i) (query-of q) r (now (dst .exit)) ⌝ }
+{
+    let base = table::count(dst);
+    let g = chart::impl_generics(sheet, i);
+    let n = chart::type_params(sheet, g);
+    let room = fresh(dst, n);
+    if room {
+        return sign_from(sheet, dst, places, map, base, n, q, i);
+    }
+    Signed::Full
 }
