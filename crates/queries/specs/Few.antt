@@ -1,6 +1,6 @@
 -- At most four questions with at most four arguments each: what the checks promise of a sheet's impl parameters and signatures and of a call's question.
 use Prim.Native.Nat.{ℕ, zero, suc, _+_, _≤_, _<_, zero-le}
-use mathlib.Core.Path.{_≡_, refl, sym, _∙_, ap, subst}
+use mathlib.Core.Path.{_≡_, refl, sym, subst}
 use mathlib.Core.List.{List, [], _∷_, map}
 use mathlib.Core.Option.{none}
 use native.Mathlib.Nat.{le-of-suc-le-suc, not-suc-le-zero}
@@ -10,7 +10,7 @@ use lib.ListN.{length, getD, length-map}
 use Rattle.rules.specs.Lists.{Words}
 use Rattle.rules.specs.Limits.{limit·arity}
 use Rattle.rules.specs.Layout.{header·generics, header·traits, header·impls, impl-param·trait, impl-param·args, question·args}
-use Rattle.rules.specs.Sheet.{at, chain, field, many, trait-arity, impl-param-records, impl-args}
+use Rattle.rules.specs.Sheet.{at, field, many, trait-arity, impl-param-records, impl-args}
 use Rattle.rules.specs.Types.{ImplType}
 use Rattle.rules.specs.Transfer.{cell-types}
 use Rattle.rules.specs.Search.{Finder, impl-signature, impl-params}

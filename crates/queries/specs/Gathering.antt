@@ -2,7 +2,7 @@
 use Prim.Native.Nat.{ℕ, zero, suc, _+_, _≤_, _<_}
 use mathlib.Core.Path.{_≡_, refl, sym, _∙_, ap, ap₂, subst}
 use mathlib.Core.List.{List, [], _∷_, map}
-use native.Mathlib.Nat.{le-of-suc-le-suc, not-suc-le-zero}
+use native.Mathlib.Nat.{not-suc-le-zero}
 use native.Mathlib.Omega.{arith}
 use lib.ListN.{length, getD, take, length-map}
 use Rattle.rules.specs.Lists.{Words}
@@ -14,7 +14,7 @@ use Rattle.rules.specs.Search.{impl-params}
 use Rattle.table.specs.Packing.{up-to}
 use Rattle.queries.specs.declared.Query.{Query}
 use Rattle.queries.specs.declared.Queries.{Queries}
-use Rattle.queries.specs.Queries.{query-of, queries-of}
+use Rattle.queries.specs.Queries.{query-of, query-in, queries-of}
 use Rattle.queries.specs.Few.{Few, map-at}
 
 -- At most four, with at most four type words each.
@@ -36,14 +36,23 @@ gathered n a b c d = record {
       ∷ [];
 }
 
+up-to-four : {A : Type 0} (f : ℕ → A) (n : ℕ) → n ≤ 4 → up-to f n ≡ take n (f 0 ∷ f 1 ∷ f 2 ∷ f 3 ∷ [])
+unfolding up-to
+up-to-four f zero h = refl
+up-to-four f (suc zero) h = refl
+up-to-four f (suc (suc zero)) h = refl
+up-to-four f (suc (suc (suc zero))) h = refl
+up-to-four f (suc (suc (suc (suc zero)))) h = refl
+up-to-four f (suc (suc (suc (suc (suc n))))) h = absurd (not-suc-le-zero {n = 0} (omega arith))
+
+-- At most four are the first of four.
+pub queries-four : (qs : Queries) → qs .n ≤ 4 → queries-of qs ≡ take (qs .n) (query-of (query-in qs 0) ∷ query-of (query-in qs 1) ∷ query-of (query-in qs 2) ∷ query-of (query-in qs 3) ∷ [])
+unfolding queries-of
+queries-four qs h = up-to-four (λ k. query-of (query-in qs k)) (qs .n) h
+
 pub queries-gathered : (n : ℕ) (a b c d : Query) → n ≤ 4 → queries-of (gathered n a b c d) ≡ take n (query-of a ∷ query-of b ∷ query-of c ∷ query-of d ∷ [])
-unfolding queries-of query-of gathered up-to
-queries-gathered zero a b c d h = refl
-queries-gathered (suc zero) a b c d h = refl
-queries-gathered (suc (suc zero)) a b c d h = refl
-queries-gathered (suc (suc (suc zero))) a b c d h = refl
-queries-gathered (suc (suc (suc (suc zero)))) a b c d h = refl
-queries-gathered (suc (suc (suc (suc (suc n))))) a b c d h = absurd (not-suc-le-zero {n = 0} (omega arith))
+unfolding query-of gathered
+queries-gathered n a b c d h = queries-four (gathered n a b c d) h
 
 pub within-gathered : (n : ℕ) (a b c d : Query) → n ≤ 4 → a .n ≤ 4 → b .n ≤ 4 → c .n ≤ 4 → d .n ≤ 4 → WithinFour (gathered n a b c d)
 unfolding gathered

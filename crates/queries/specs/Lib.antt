@@ -2,3 +2,4 @@ pub mod Few
 pub mod Gathering
 pub mod Queries
 pub mod Reading
+pub mod Rows

@@ -8,9 +8,8 @@ use lib.ListN.{length, take, length-map}
 use Rattle.rules.specs.Lists.{Words}
 use Rattle.rules.specs.Layout.{cell·type}
 use Rattle.rules.specs.Sheet.{at, chain, chain-of}
-use Rattle.rules.specs.Types.{Ty, ImplType}
+use Rattle.rules.specs.Types.{Ty}
 use Rattle.rules.specs.Transfer.{type-of-word, cell-types}
-use Rattle.queries.specs.declared.Query.{Query}
 use Rattle.queries.specs.Queries.{query-of}
 
 -- As many types as cells.
@@ -31,7 +30,7 @@ chain-steps (suc k) s zero m h = refl
 chain-steps (suc k) s (suc i) zero h = absurd (not-suc-le-zero h)
 chain-steps (suc k) s (suc i) (suc m) h = ap (λ (l : Words). suc i ∷ l) (chain-steps k s (at s (suc i)) m (le-of-suc-le-suc h))
 
-map-take : {A B : Type 0} (f : A → B) (n : ℕ) (xs : List A) → map f (take n xs) ≡ take n (map f xs)
+pub map-take : {A B : Type 0} (f : A → B) (n : ℕ) (xs : List A) → map f (take n xs) ≡ take n (map f xs)
 map-take f zero xs = refl
 map-take f (suc n) [] = refl
 map-take f (suc n) (x ∷ xs) = ap (λ (l : List _). f x ∷ l) (map-take f n xs)

@@ -1,6 +1,6 @@
 // Questions in the code's words: one with its type words, and the sub-questions of a candidate.
 ghost use mathlib.Core.Path.{_≡_};
-ghost use Prim.Native.Nat.{_<_, _≤_};
+ghost use Prim.Native.Nat.{_+_, _<_, _≤_};
 ghost use lib.ListN.{length};
 ghost use Rattle.rules.specs.Sheet.{chain};
 ghost use Rattle.rules.specs.Transfer.{cell-types};
@@ -8,6 +8,7 @@ ghost use Rattle.rules.specs.Search.{impl-params};
 ghost use Rattle.queries.specs.Queries.{query-of, queries-of, query-in};
 ghost use Rattle.queries.specs.Few.{Few};
 ghost use Rattle.queries.specs.Gathering.{WithinFour, gathered, params-from, ParamRead};
+ghost use Rattle.queries.specs.Rows.{Put, Rowed, Cut, Unrowed};
 use chart::layout;
 
 // `ImplType`: a trait? and the first n of four type words.
@@ -124,4 +125,67 @@ pub fn read_params(s: &[u32], g: usize) -> Queries
     let c = read_param(s, head, n, 2);
     let d = read_param(s, head, n, 3);
     gather(n, a, b, c, d)
+}
+
+// Writes a question's type words from place m on, and says where they end. All four are written; those that are none of its own are not counted.
+fn put_query(q: Query, ts: &mut [u32], m: usize) -> usize
+    requires { ⌜ q .n ≤ 4 ⌝ }
+    requires { ⌜ m + 4 ≤ length (now ts) ⌝ }
+    ensures { λ r. ⌜ Put q (now (ts .entry)) (now (ts .exit)) m r ⌝ }
+{
+    ts[m] = q.args[0];
+    ts[m + 1] = q.args[1];
+    ts[m + 2] = q.args[2];
+    ts[m + 3] = q.args[3];
+    m + q.n
+}
+
+// Writes the type words of all sub-questions, one behind the other, and says how many there are.
+pub fn row(qs: Queries, ts: &mut [u32]) -> usize
+    requires { ⌜ WithinFour qs ⌝ }
+    requires { ⌜ 16 ≤ length (now ts) ⌝ }
+    ensures { λ m. ⌜ Rowed qs (now (ts .exit)) m ⌝ }
+{
+    let mut k = 0;
+    let mut m = 0;
+    while k < qs.n {
+        let q = query_at(qs, k);
+        m = put_query(q, ts, m);
+        k += 1;
+    }
+    m
+}
+
+// Sub-question k with the type words from place o on, as many as it has.
+fn cut(qs: Queries, k: usize, ts: &[u32], o: usize) -> Query
+    requires { ⌜ WithinFour qs ⌝ }
+    requires { ⌜ k < 4 ⌝ }
+    requires { ⌜ o + 4 ≤ length (now ts) ⌝ }
+    ensures { λ r. ⌜ Cut qs k (now (ts .entry)) o r ⌝ }
+{
+    let args = [
+        words::offset(ts, o, 0),
+        words::offset(ts, o, 1),
+        words::offset(ts, o, 2),
+        words::offset(ts, o, 3),
+    ];
+    Query {
+        tr: qs.trs[k],
+        n: qs.counts[k],
+        args,
+    }
+}
+
+// The sub-questions with the type words of a row, as many to each as it has.
+pub fn unrow(qs: Queries, ts: &[u32]) -> Queries
+    requires { ⌜ WithinFour qs ⌝ }
+    requires { ⌜ 16 ≤ length (now ts) ⌝ }
+    ensures { λ r. ⌜ Unrowed qs (now (ts .entry)) r ⌝ }
+{
+    let a = cut(qs, 0, ts, 0);
+    let b = cut(qs, 1, ts, a.n);
+    let o = a.n + b.n;
+    let c = cut(qs, 2, ts, o);
+    let d = cut(qs, 3, ts, o + c.n);
+    gather(qs.n, a, b, c, d)
 }
