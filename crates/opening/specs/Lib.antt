@@ -1,0 +1,6 @@
+pub mod Fresh
+pub mod Standing
+pub mod Bringing
+pub mod Meeting
+pub mod Sound
+pub mod Signing
