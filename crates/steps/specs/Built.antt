@@ -53,6 +53,7 @@ none-left ws out count low w = record {
 
 -- The types that stand at `from`, with a leaf, are added behind n; slot 0 and what lies behind slot 4 is as it was.
 pub record LeafStep (ws : Words) (n from k i count : ℕ) (r : Asked) (out : Words) : Type 0 where
+  pub len : length out ≡ length ws
   pub low : (j : ℕ) → j < 1794 → at out j ≡ at ws j
   pub high : (j : ℕ) → 8970 ≤ j → at out j ≡ at ws j
   pub at : (L : ℕ) → Stepped L (λ fs. add-results fs ((types-of (drop from ws), leaf k i) ∷ [])) n count ws r out
@@ -60,6 +61,7 @@ pub record LeafStep (ws : Words) (n from k i count : ℕ) (r : Asked) (out : Wor
 pub leaf-added : (ws out : Words) (n from k i count : ℕ) (o : Adding) → Adds ws out n (types-of (drop from ws), leaf k i) o → o ≡ Added → count ≤ 4000000000 → LeafStep ws n from k i count (Found count (n + 1)) out
 unfolding within add-results
 leaf-added ws out n from k i count o a e low = record {
+  len = a .len;
   low = a .low;
   high = a .high;
   at = λ L. record {
@@ -73,6 +75,7 @@ leaf-added ws out n from k i count o a e low = record {
 pub leaf-refused : (ws out : Words) (n from k i count m : ℕ) (o : Adding) → Adds ws out n (types-of (drop from ws), leaf k i) o → o ≡ Denied m → LeafStep ws n from k i count (Refused m count) out
 unfolding within
 leaf-refused ws out n from k i count m o a e = record {
+  len = a .len;
   low = a .low;
   high = a .high;
   at = λ L. record { at = λ fs p s. answers-refused _ m count out (ap (λ r. within (ltb L) r count) (a .at fs p s .stops m e [])) };
@@ -80,6 +83,7 @@ leaf-refused ws out n from k i count m o a e = record {
 
 -- Built-in fork and drop are added behind no results; slot 0 and what lies behind slot 4 is as it was.
 pub record Autos (s ws : Words) (q : ImplType) (count : ℕ) (r : Asked) (out : Words) : Type 0 where
+  pub len : length out ≡ length ws
   pub low : (j : ℕ) → j < 1794 → at out j ≡ at ws j
   pub high : (j : ℕ) → 8970 ≤ j → at out j ≡ at ws j
   pub at : (L : ℕ) → Stepped L (λ fs. add-results fs (map (λ (t : Trees). (types-of ws, t)) (find-auto-impls s (types-of ws) q))) 0 count ws r out
@@ -106,6 +110,7 @@ module _ (s ws : Words) (q : Query) (o : Auto) (e : leaves o ≡ find-auto-impls
   pub auto-none : (count : ℕ) → o ≡ Nothing → count ≤ 4000000000 → Autos s ws (query-of q) count (Found count 0) ws
   unfolding query-of leaves within add-results
   auto-none count n low = record {
+    len = refl;
     low = λ j l. refl;
     high = λ j l. refl;
     at = λ L. record {
@@ -116,6 +121,7 @@ module _ (s ws : Words) (q : Query) (o : Auto) (e : leaves o ≡ find-auto-impls
   pub auto-one : (k i count : ℕ) (r : Asked) (out : Words) → o ≡ Leaf k i → LeafStep ws 0 0 k i count r out → Autos s ws (query-of q) count r out
   unfolding query-of leaves
   auto-one k i count r out l a = record {
+    len = a .len;
     low = a .low;
     high = a .high;
     at = λ L. subst (λ (ts : List Trees). Stepped L (λ fs. add-results fs (map (λ (t : Trees). (types-of ws, t)) ts)) 0 count ws r out) (ap leaves (sym l) ∙ e) (a .at L);

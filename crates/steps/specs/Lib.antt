@@ -2,3 +2,5 @@ pub mod Asking
 pub mod Loops
 pub mod Built
 pub mod Next
+pub mod Behind
+pub mod Params

@@ -1,23 +1,27 @@
 // What a question does outside the cycle of the search: built-in fork and drop, the generics' impl parameters, its candidates one by one, and a candidate's sub-questions.
 // A question's part of the lent slice has the table that is asked about in slot 0 and its results in slots 1 to 4; behind slot 4 is room for one table more, and for sub-questions.
 ghost use mathlib.Core.Path.{_≡_};
+ghost use mathlib.Core.Bool.{true};
 ghost use Prim.Native.Nat.{_+_, _-_, _*_, _<_, _≤_};
-ghost use lib.Dec.{eqb};
 ghost use lib.ListN.{length, drop};
 ghost use Rattle.rules.specs.Layout.{header·impls};
 ghost use Rattle.rules.specs.Sheet.{many};
+ghost use Rattle.rules.specs.Types.{approx-eq};
 ghost use Rattle.table.specs.Packing.{types-of, Packed};
-ghost use Rattle.slots.specs.Copies.{Beside};
+ghost use Rattle.slots.specs.Adding.{Aside};
+ghost use Rattle.slots.specs.Gathering.{Row};
 ghost use Rattle.candidates.specs.Index.{Indexes};
 ghost use Rattle.admitted.specs.Found.{Stands, Finds};
 ghost use Rattle.queries.specs.Queries.{query-of};
-ghost use Rattle.steps.specs.Asking.{finder-of, Sound, Scratch, Asking, Begins, Opens};
+ghost use Rattle.steps.specs.Asking.{finder-of, Sound, Scratch, Asking};
+ghost use Rattle.steps.specs.Behind.{brought, Behind, ParamIn};
 ghost use Rattle.steps.specs.Built.{NoneLeft, LeafStep, SmallIds, Autos};
+ghost use Rattle.steps.specs.Params.{ParamStep, ParamsStep};
 ghost use Rattle.steps.specs.Next.{NextId};
 use admitted::Candidate;
 use admitted::Found;
 use auto::Auto;
-use queries::Queries;
+use opening::Signed;
 use queries::Query;
 use slots::Adding;
 use slots::Asked;
@@ -28,6 +32,12 @@ pub struct Finder {
     pub generics: usize,
     pub limit: u32,
 }
+
+// Where a question's results end: a candidate's sub-questions begin there.
+pub const SUB: usize = 8970;
+
+// The kind of an impl parameter's tree.
+const PARAM: u32 = 1;
 
 // Past every impl.
 pub const NONE: usize = 384;
@@ -47,7 +57,7 @@ pub fn none_left(ws: &mut [u32], count: u32) -> Asked
 fn leaf_step(ws: &mut [u32], n: usize, from: usize, kind: u32, id: u32, count: u32) -> Asked
     requires { ⌜ n ≤ 4 ⌝ }
     requires { ⌜ Packed (drop from (now ws)) ⌝ }
-    requires { ⌜ Beside from (1794 + 1794 * n) ⌝ }
+    requires { ⌜ Aside from n ⌝ }
     requires { ⌜ 8970 ≤ length (now ws) ⌝ }
     requires { ⌜ kind < 8 ⌝ }
     requires { ⌜ id < 4096 ⌝ }
@@ -76,6 +86,133 @@ fn add_autos(sheet: &[u32], ws: &mut [u32], q: Query, count: u32) -> Asked
     match found {
         Auto::Nothing => Asked::Found { count, n: 0 },
         Auto::Leaf { kind, id } => leaf_step(ws, 0, 0, kind, id, count),
+    }
+}
+
+// An impl parameter p of the generics is met with question q behind slot 4.
+fn meet_behind(
+    sheet: &[u32],
+    ws: &mut [u32],
+    places: &mut [u32],
+    map: &mut [u32],
+    f: Finder,
+    q: Query,
+    p: Query,
+) -> Signed
+    requires { ⌜ Sound (finder-of (now sheet) f) ⌝ }
+    requires { ⌜ Scratch (now places) (now map) ⌝ }
+    requires { ⌜ Asking (now ws) q ⌝ }
+    requires { ⌜ 10764 ≤ length (now ws) ⌝ }
+    requires { ⌜ ParamIn (finder-of (now sheet) f) p ⌝ }
+    ensures { λ r. ⌜ Behind (now (sheet .entry)) (now (ws .entry)) (brought (finder-of (now (sheet .entry)) f) (types-of (now (ws .entry))) (query-of p)) (query-of q) r (now (ws .exit)) ⌝ }
+{
+    slots::copy_table_slot(ws, 0, SUB);
+    opening::meet_param(sheet, f.generics, &mut ws[SUB..], places, map, q, p)
+}
+
+// Impl parameter k of the generics, of the question's trait: added behind n where it unifies with the question.
+fn param_met(
+    sheet: &[u32],
+    ws: &mut [u32],
+    places: &mut [u32],
+    map: &mut [u32],
+    f: Finder,
+    q: Query,
+    p: Query,
+    k: usize,
+    n: usize,
+    count: u32,
+) -> Asked
+    requires { ⌜ Sound (finder-of (now sheet) f) ⌝ }
+    requires { ⌜ Scratch (now places) (now map) ⌝ }
+    requires { ⌜ Asking (now ws) q ⌝ }
+    requires { ⌜ 10764 ≤ length (now ws) ⌝ }
+    requires { ⌜ ParamIn (finder-of (now sheet) f) p ⌝ }
+    requires { ⌜ approx-eq (query-of q) (query-of p) ≡ true ⌝ }
+    requires { ⌜ k < 4 ⌝ }
+    requires { ⌜ n ≤ 4 ⌝ }
+    requires { ⌜ count ≤ 4000000000 ⌝ }
+    ensures { λ r. ⌜ ParamStep (finder-of (now (sheet .entry)) f) (now (ws .entry)) (query-of q) (query-of p) k n count r (now (ws .exit)) ⌝ }
+{
+    let met = meet_behind(sheet, ws, places, map, f, q, p);
+    match met {
+        Signed::Full => Asked::Refused { number: 14, count },
+        Signed::Unfit => Asked::Found { count, n },
+        Signed::Fits => leaf_step(ws, n, SUB, PARAM, k as u32, count),
+    }
+}
+
+// Impl parameter k of the generics, whatever its trait.
+fn add_param(
+    sheet: &[u32],
+    ws: &mut [u32],
+    places: &mut [u32],
+    map: &mut [u32],
+    f: Finder,
+    q: Query,
+    p: Query,
+    k: usize,
+    n: usize,
+    count: u32,
+) -> Asked
+    requires { ⌜ Sound (finder-of (now sheet) f) ⌝ }
+    requires { ⌜ Scratch (now places) (now map) ⌝ }
+    requires { ⌜ Asking (now ws) q ⌝ }
+    requires { ⌜ 10764 ≤ length (now ws) ⌝ }
+    requires { ⌜ ParamIn (finder-of (now sheet) f) p ⌝ }
+    requires { ⌜ k < 4 ⌝ }
+    requires { ⌜ n ≤ 4 ⌝ }
+    requires { ⌜ count ≤ 4000000000 ⌝ }
+    ensures { λ r. ⌜ ParamStep (finder-of (now (sheet .entry)) f) (now (ws .entry)) (query-of q) (query-of p) k n count r (now (ws .exit)) ⌝ }
+{
+    let same = unify::approx_eq(q.tr, p.tr);
+    if same {
+        return param_met(sheet, ws, places, map, f, q, p, k, n, count);
+    }
+    Asked::Found { count, n }
+}
+
+// The generics' impl parameters: those that unify with the question are added behind n.
+fn add_params(
+    sheet: &[u32],
+    ws: &mut [u32],
+    places: &mut [u32],
+    map: &mut [u32],
+    f: Finder,
+    q: Query,
+    n: usize,
+    count: u32,
+) -> Asked
+    requires { ⌜ Sound (finder-of (now sheet) f) ⌝ }
+    requires { ⌜ Scratch (now places) (now map) ⌝ }
+    requires { ⌜ Asking (now ws) q ⌝ }
+    requires { ⌜ 10764 ≤ length (now ws) ⌝ }
+    requires { ⌜ Row (now ws) 1794 n ⌝ }
+    requires { ⌜ n ≤ 4 ⌝ }
+    requires { ⌜ count ≤ 4000000000 ⌝ }
+    ensures { λ r. ⌜ ParamsStep (finder-of (now (sheet .entry)) f) (now (ws .entry)) (query-of q) n count r (now (ws .exit)) ⌝ }
+{
+    let ps = queries::read_params(sheet, f.generics);
+    let mut stand = n;
+    let mut cur = count;
+    let mut k = 0;
+    while k < ps.n {
+        let p = queries::query_at(ps, k);
+        let one = add_param(sheet, ws, places, map, f, q, p, k, stand, cur);
+        match one {
+            Asked::Refused { number, count } => {
+                return Asked::Refused { number, count };
+            }
+            Asked::Found { count, n } => {
+                stand = n;
+                cur = count;
+            }
+        }
+        k += 1;
+    }
+    Asked::Found {
+        count: cur,
+        n: stand,
     }
 }
 

@@ -1,5 +1,6 @@
 -- `add_autos`: by what is found.
-use Rattle.steps.specs.Built.{beside-one, four-length, auto-fits-kind, auto-fits-id, auto-none, auto-one}
+use Rattle.steps.specs.Built.{four-length, auto-fits-kind, auto-fits-id, auto-none, auto-one}
+use Rattle.slots.specs.Adding.{aside-first}
 use borrow.Author.Needs.{needs}
 use Rattle.steps.proofs.add_autos.Statement.{statement}
 use Rattle.steps.proofs.add_autos.Tie as tie
@@ -32,7 +33,7 @@ enum-known-found : tie.Need-enum-known-found
 enum-known-found c = search needs
 
 leaf-step-requires : tie.Need-leaf-step-requires
-leaf-step-requires c κs = (search needs, (search needs, (search (needs, beside-one), (search needs, (search (needs, auto-fits-kind), (search (needs, auto-fits-id), search needs))))))
+leaf-step-requires c κs = (search needs, (search needs, (search (needs, aside-first), (search needs, (search (needs, auto-fits-kind), (search (needs, auto-fits-id), search needs))))))
 
 same-length : tie.Need-same-length
 same-length c = search needs
