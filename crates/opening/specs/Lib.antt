@@ -4,3 +4,4 @@ pub mod Bringing
 pub mod Meeting
 pub mod Sound
 pub mod Signing
+pub mod Needing
