@@ -5,3 +5,4 @@ pub mod Meeting
 pub mod Sound
 pub mod Signing
 pub mod Needing
+pub mod After

@@ -9,17 +9,17 @@ use lib.ListN.{length, take}
 use Rattle.rules.specs.Lists.{Words}
 use Rattle.rules.specs.Limits.{limit·nodes}
 use Rattle.rules.specs.Layout.{header·generics, header·impls, generics·table, generics·type-params, impl·generics}
-use Rattle.rules.specs.Sheet.{field, many, type-params, impl-generics}
+use Rattle.rules.specs.Sheet.{field, many, impl-generics}
 use Rattle.rules.specs.Types.{Ty, Types, ImplType}
 use Rattle.rules.specs.Solutions.{AllIn}
 use Rattle.rules.specs.Transfer.{import-types, import-impl-types, table}
-use Rattle.rules.specs.Search.{impl-params, with-fresh}
+use Rattle.rules.specs.Search.{impl-params}
 use Rattle.rules.specs.Neat.{Neat, QueriesIn, impl-generics-in, impl-params-in, fresh-length}
-use Rattle.rules.specs.SearchKeeps.{fresh-count, signed, met, needs, signature-brought, signature-met}
+use Rattle.rules.specs.SearchKeeps.{fresh-count, met, needs, signature-brought, signature-met}
 use Rattle.table.specs.Packing.{types-of, Packed}
 use Rattle.table.specs.Nodes.{types-few}
 use Rattle.transfer.specs.Moving.{params-of}
-use Rattle.transfer.specs.Imports.{types-in, Imports, ImportsImpls, Comes, imports-impls}
+use Rattle.transfer.specs.Imports.{types-in, Imports, ImportsImpls, imports-impls}
 use Rattle.transfer.specs.Callers.{inside-all}
 use Rattle.queries.specs.declared.Queries.{Queries}
 use Rattle.queries.specs.Queries.{queries-of}
@@ -27,6 +27,7 @@ use Rattle.queries.specs.Few.{Few, few-params}
 use Rattle.queries.specs.Gathering.{WithinFour}
 use Rattle.queries.specs.Rows.{Rowed, Unrowed, impls-imported, row-inside}
 use Rattle.opening.specs.Standing.{standing, standing-fresh, Stands}
+use Rattle.opening.specs.Signing.{counted}
 use Rattle.opening.specs.Sound.{Sound, finder, params-neat, params-table}
 
 -- The import o, as sub-questions r and the table that out is.
@@ -102,19 +103,18 @@ pub record Follows (s : Words) (i b : ℕ) (ds : Words) (r : Queries) (out : Wor
 
 -- n is the count of type parameters of impl i.
 module _ (s : Words) (i g n : ℕ) (eg : g ≡ field s header·impls i impl·generics) (en : n ≡ field s header·generics g generics·type-params) where
-  counted : n ≡ fresh-count s i
-  unfolding type-params impl-generics
-  counted = en ∙ ap (λ k. field s header·generics k generics·type-params) eg
+  count : n ≡ fresh-count s i
+  count = counted s i g n eg en
 
   pub standing-few : (b : ℕ) (ds : Words) → b + fresh-count s i ≤ length (types-of ds) → b + n ≤ 256
-  standing-few b ds l = omega (arith, counted, types-few ds)
+  standing-few b ds l = omega (arith, count, types-few ds)
 
   pub need-follows : (b : ℕ) (ps ds us : Words) (r : Queries) → Stands b n ps → Needs (needed-by s i (params-of true (take n ps)) (types-of ds)) r us → Follows s i b ds r us
   unfolding params-of
   need-follows b ps ds us r t m = record {
     at = λ ts q e f.
         subst (λ (o : List ImplType × Types). Needs o r us)
-        (ap₂ (λ (xs : List Ty) (vs : Types). needed-by s i (some xs) vs) (t .is ∙ ap₂ standing (sym e) counted ∙ standing-fresh ts (fresh-count s i)) f) m;
+        (ap₂ (λ (xs : List Ty) (vs : Types). needed-by s i (some xs) vs) (t .is ∙ ap₂ standing (sym e) count ∙ standing-fresh ts (fresh-count s i)) f) m;
   }
 
 -- The fresh unknowns are still there after the join.
