@@ -1,12 +1,11 @@
 -- Imports from the sheet's tables: the places of a chain are a source of records.
-use Prim.Native.Nat.{ℕ, zero, suc, _+_, _≤_, _<_}
-use mathlib.Core.Path.{_≡_, refl, sym, _∙_, ap, subst}
-use mathlib.Core.Bool.{Bool, true, false}
+use Prim.Native.Nat.{ℕ, zero, suc, _+_, _≤_}
+use mathlib.Core.Path.{_≡_, sym, ap, subst}
+use mathlib.Core.Bool.{Bool, false}
 use mathlib.Core.List.{List}
 use mathlib.Core.Option.{Option}
 use native.Mathlib.Omega.{arith}
-use native.Mathlib.Nat.{zero-add}
-use lib.ListN.{length, take, drop}
+use lib.ListN.{length, take}
 use lib.Seq.{length-take-le}
 use Rattle.rules.specs.Lists.{Words}
 use Rattle.rules.specs.Limits.{limit·nodes}
@@ -18,7 +17,6 @@ use Rattle.rules.specs.CheckedTables.{table-length}
 use Rattle.rules.specs.Neat.{Neat}
 use Rattle.table.specs.Packing.{types-of}
 use Rattle.transfer.specs.Source.{source}
-use Rattle.transfer.specs.Moving.{params-of}
 use Rattle.transfer.specs.Imports.{types-in, Inside, Imports}
 use Rattle.transfer.specs.Callers.{inside-from, places-chain, places-table}
 use Rattle.chart.specs.Index.{Indexed}

@@ -1,17 +1,17 @@
 -- Fresh unknowns for the type parameters of a candidate, and the types that stand for these.
-use Prim.Native.Nat.{ℕ, zero, suc, _+_, _-_, _*_, _/_, _%_, _≤_, _<_}
-use mathlib.Core.Path.{_≡_, refl, sym, _∙_, ap, subst}
+use Prim.Native.Nat.{ℕ, suc, _+_, _-_, _≤_, _<_}
+use mathlib.Core.Path.{_≡_, sym, _∙_, ap}
 use mathlib.Core.Bool.{Bool, true, false, true≢false}
 use mathlib.Core.Logic.{_≢_}
-use mathlib.Core.List.{List, [], _∷_, _++_, map, append-assoc, append-nil}
+use mathlib.Core.List.{[], _∷_, _++_, append-assoc, append-nil}
 use native.Mathlib.Numerals.{add-one}
 use native.Mathlib.Omega.{arith}
-use lib.ListN.{length, getD, take, replicate, length-append, length-replicate}
+use lib.ListN.{length, replicate, length-append}
 use Rattle.rules.specs.Lists.{Words}
 use Rattle.rules.specs.Limits.{limit·nodes}
 use Rattle.rules.specs.Types.{Types, unknown, new-node}
 use Rattle.rules.specs.Transfer.{new-nodes}
-use Rattle.rules.specs.CheckedTables.{new-nodes-length}
+use Rattle.rules.specs.Neat.{fresh-length}
 use Rattle.rules.specs.Search.{with-fresh}
 use Rattle.table.specs.Packing.{types-of, Packed, Pushes}
 use Rattle.table.specs.Nodes.{types-few}
@@ -21,10 +21,6 @@ pub record Freshens (ws us : Words) (n : ℕ) (ok : Bool) : Type 0 where
   pub packed : Packed us
   pub room : ok ≡ true → types-of us ≡ with-fresh (types-of ws) n
   pub full : ok ≡ false → limit·nodes < length (with-fresh (types-of ws) n)
-
-fresh-length : (ts : Types) (n : ℕ) → length (with-fresh ts n) ≡ length ts + n
-unfolding with-fresh
-fresh-length ts n = length-append ts (new-nodes (length ts) (replicate n unknown)) ∙ ap (λ k. length ts + k) (new-nodes-length (length ts) (replicate n unknown) ∙ length-replicate n unknown)
 
 fresh-one : (ts : Types) (n : ℕ) → with-fresh (ts ++ (new-node (length ts) unknown ∷ [])) n ≡ with-fresh ts (suc n)
 unfolding with-fresh new-nodes

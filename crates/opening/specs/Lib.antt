@@ -4,3 +4,5 @@ pub mod Bringing
 pub mod Meeting
 pub mod Sound
 pub mod Signing
+pub mod Needing
+pub mod After

@@ -1,6 +1,6 @@
 -- An `ImplType` of the sheet is imported and met with the question: what that comes to, and its laws.
 use Prim.Native.Nat.{ℕ, _≤_, _<_}
-use mathlib.Core.Path.{_≡_, refl, sym, _∙_, ap, subst}
+use mathlib.Core.Path.{_≡_, sym, _∙_, ap, subst}
 use mathlib.Core.Bool.{Bool, true, false, true≢false}
 use mathlib.Core.Logic.{_≢_}
 use mathlib.Core.List.{List, map}
@@ -15,7 +15,7 @@ use Rattle.rules.specs.Types as rules
 use Rattle.rules.specs.Solutions.{AllIn}
 use Rattle.rules.specs.Readings.{readable-ranked}
 use Rattle.rules.specs.Transfer.{type-of-word, import-types, import-impl-type}
-use Rattle.rules.specs.Neat.{Neat, Brought, in-more}
+use Rattle.rules.specs.Neat.{Brought, in-more}
 use Rattle.table.specs.Packing.{types-of, Packed, Good}
 use Rattle.table.specs.Nodes.{types-few}
 use Rattle.transfer.specs.Imports.{types-in, Imports}
@@ -56,6 +56,15 @@ pub record Meets (s : Words) (o : ImplType × Types) (q : ImplType) (r : Signed)
   pub full : r ≡ Full → limit·nodes < length (o .1)
   pub unfit : r ≡ Unfit → Parts s o q
   pub fits : r ≡ Fits → Agrees s o q out
+
+-- There was no room.
+pub meets-none : (s : Words) (o : ImplType × Types) (q : ImplType) (out : Words) → Packed out → limit·nodes < length (o .1) → Meets s o q Full out
+meets-none s o q out p l = record { packed = p; full = λ z. l; unfit = λ z. absurd (subst IsFull z tt); fits = λ z. absurd (subst IsFull z tt) }
+  where
+    IsFull : Signed → Type 0
+    IsFull Full = Unit {0}
+    IsFull Unfit = ⊥
+    IsFull Fits = ⊥
 
 -- Of four words the first.
 pub four-length : (xs : Words) (n : ℕ) → n ≤ 4 → n ≡ length (take n (four xs))
@@ -123,12 +132,7 @@ module _ (src : Types) (ps : Option (List Ty)) (tr n : ℕ) (xs ds es vs : Words
   -- There is no room.
   pub meets-full : (s : Words) (q : ImplType) → r ≡ false → Meets s (imported src ps tr n xs ds) q Full es
   unfolding import-impl-type
-  meets-full s q e = record { packed = i .replaces .packed; full = λ f. i .comes .full e; unfit = λ f. absurd (subst IsFull f tt); fits = λ f. absurd (subst IsFull f tt) }
-    where
-      IsFull : Signed → Type 0
-      IsFull Full = Unit {0}
-      IsFull Unfit = ⊥
-      IsFull Fits = ⊥
+  meets-full s q e = meets-none s (imported src ps tr n xs ds) q es (i .replaces .packed) (i .comes .full e)
 
   module _ (e : r ≡ true) (b : Brought (types-of ds) ((imported src ps tr n xs ds) .0 .1) ((imported src ps tr n xs ds) .1)) where
     there : Brought (types-of ds) (map type-of-word (take n vs)) (types-of es)

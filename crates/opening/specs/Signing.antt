@@ -1,8 +1,8 @@
 -- One candidate: its signature, under the types that stand for its type parameters, and after fresh unknowns.
 use Prim.Native.Nat.{ℕ, _+_, _≤_, _<_}
-use mathlib.Core.Path.{_≡_, refl, sym, _∙_, ap, ap₂, subst}
+use mathlib.Core.Path.{_≡_, sym, _∙_, ap, ap₂, subst}
 use mathlib.Core.Bool.{Bool, true, false}
-use mathlib.Core.List.{List, map}
+use mathlib.Core.List.{List}
 use mathlib.Core.Option.{Option, some}
 use native.Mathlib.Nat.{le-trans}
 use native.Mathlib.Omega.{arith}
@@ -11,26 +11,26 @@ use lib.ListN.{length, take}
 use Rattle.rules.specs.Lists.{Words}
 use Rattle.rules.specs.Limits.{limit·nodes, limit·type-params}
 use Rattle.rules.specs.Layout.{header·generics, header·impls, generics·type-params, impl·generics, impl·trait, impl·table, impl·args}
-use Rattle.rules.specs.Sheet.{at, field, many, type-params, impl-generics, impl-trait, impl-table, impl-args}
+use Rattle.rules.specs.Sheet.{field, many, type-params, impl-generics, impl-trait, impl-table, impl-args}
 use Rattle.rules.specs.Types.{Ty, Types, ImplType}
 use Rattle.rules.specs.Solutions.{AllIn}
-use Rattle.rules.specs.Transfer.{type-of-word, import-impl-type, cell-types, table}
+use Rattle.rules.specs.Transfer.{import-impl-type, cell-types, table}
 use Rattle.rules.specs.Search.{impl-signature, with-fresh}
 use Rattle.rules.specs.Values.{generics-ok}
 use Rattle.rules.specs.CheckLaws.{part}
 use Rattle.rules.specs.Neat.{Neat, Brought, impl-generics-in, signature-neat, signature-in, in-more, fresh-length}
 use Rattle.rules.specs.SearchKeeps.{fresh-count, signed, signature-brought}
-use Rattle.table.specs.Packing.{types-of, TypeWords}
+use Rattle.table.specs.Packing.{types-of}
 use Rattle.table.specs.Nodes.{types-few}
 use Rattle.transfer.specs.Moving.{params-of}
 use Rattle.queries.specs.declared.Query.{Query}
 use Rattle.queries.specs.Queries.{query-of}
 use Rattle.queries.specs.Few.{few-args}
 use Rattle.opening.specs.declared.Signed.{Signed}
-use Rattle.opening.specs.declared.Signed.the-variants.{Full, Unfit, Fits}
+use Rattle.opening.specs.declared.Signed.the-variants.{Full}
 use Rattle.opening.specs.Fresh.{Freshens}
 use Rattle.opening.specs.Standing.{standing, standing-fresh, Stands}
-use Rattle.opening.specs.Meeting.{Meets}
+use Rattle.opening.specs.Meeting.{Meets, meets-none}
 use Rattle.opening.specs.Sound.{Sound, finder}
 
 -- The import of the signature of impl i.
@@ -83,11 +83,15 @@ module _ (s : Words) (i b n : ℕ) (ps ds : Words) (t : Stands b n ps) where
   pub stood-meets : (us : Words) (q : ImplType) (r : Signed) → Meets s (signed-by s i (params-of true (take n ps)) (types-of ds)) q r us → Meets s (signed-by s i (some (standing b n)) (types-of ds)) q r us
   stood-meets us q r m = subst (λ (o : ImplType × Types). Meets s o q r us) stood m
 
+-- g are the generics of impl i, and n their count of type parameters.
+pub counted : (s : Words) (i g n : ℕ) → g ≡ field s header·impls i impl·generics → n ≡ field s header·generics g generics·type-params → n ≡ fresh-count s i
+unfolding type-params impl-generics
+counted s i g n eg en = en ∙ ap (λ k. field s header·generics k generics·type-params) eg
+
 -- After fresh unknowns: ws is the table before them, us after, and b its count of nodes.
 module _ (s : Words) (sound : Sound s) (i : ℕ) (h : i < many s header·impls) (g n : ℕ) (eg : g ≡ field s header·impls i impl·generics) (en : n ≡ field s header·generics g generics·type-params) where
   count : n ≡ fresh-count s i
-  unfolding type-params impl-generics
-  count = en ∙ ap (λ k. field s header·generics k generics·type-params) eg
+  count = counted s i g n eg en
 
   pub params-few : n ≤ 8
   unfolding generics-ok type-params field
@@ -99,17 +103,7 @@ module _ (s : Words) (sound : Sound s) (i : ℕ) (h : i < many s header·impls) 
 
     -- There is no room for them.
     pub sign-full : ok ≡ false → Meets s (signed s (types-of ws) i) (query-of q) Full us
-    sign-full e = record {
-      packed = f .packed;
-      full = λ z. le-trans (subst (λ k. limit·nodes < length (with-fresh (types-of ws) k)) count (f .full e)) (brought .grown);
-      unfit = λ z. absurd (subst IsFull z tt);
-      fits = λ z. absurd (subst IsFull z tt);
-    }
-      where
-        IsFull : Signed → Type 0
-        IsFull Full = Unit {0}
-        IsFull Unfit = ⊥
-        IsFull Fits = ⊥
+    sign-full e = meets-none s (signed s (types-of ws) i) (query-of q) us (f .packed) (le-trans (subst (λ k. limit·nodes < length (with-fresh (types-of ws) k)) count (f .full e)) (brought .grown))
 
     -- There is.
     module _ (e : ok ≡ true) where

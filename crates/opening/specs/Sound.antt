@@ -44,7 +44,7 @@ module _ (s : Words) (sound : Sound s) where
 
   -- One impl parameter of generics g, whose table has that head.
   module _ (g head : ℕ) (h : g < many s header·generics) (e : head ≡ field s header·generics g generics·table) where
-    params-table : table s head ≡ (impl-params s g) .0
+    pub params-table : table s head ≡ (impl-params s g) .0
     unfolding impl-params generics-table
     params-table = ap (table s) e
 

@@ -1,12 +1,12 @@
 -- The types that stand for a candidate's type parameters: its fresh unknowns, upright.
 use Prim.Native.Nat.{ℕ, zero, suc, _+_, _*_, _≤_, _<_}
 use mathlib.Core.Path.{_≡_, refl, sym, _∙_, ap}
-use mathlib.Core.Bool.{Bool, false}
-use mathlib.Core.List.{List, [], _∷_, map}
+use mathlib.Core.Bool.{false}
+use mathlib.Core.List.{List, map}
 use mathlib.Core.Logic.{⊎-elim}
 use native.Mathlib.Nat.{add-zero, eq-or-lt-of-le}
 use native.Mathlib.Omega.{arith}
-use lib.ListN.{length, getD, set, take, length-map, length-set, List·getD-eq-default}
+use lib.ListN.{length, set, take, length-map, length-set, List·getD-eq-default}
 use lib.Seq.{ext-getD, getD-take, getD-set-same, getD-set-other, length-take-le}
 use Rattle.rules.specs.Lists.{Words, range}
 use Rattle.rules.specs.Sheet.{at}

@@ -10,22 +10,26 @@ ghost use Rattle.rules.specs.Layout.{header·generics, header·impls};
 ghost use Rattle.rules.specs.Sheet.{field, many};
 ghost use Rattle.rules.specs.Solutions.{AllIn};
 ghost use Rattle.rules.specs.Types.{unify-impl-type};
-ghost use Rattle.rules.specs.Transfer.{type-of-word, table as table-of, import-types, import-impl-type};
+ghost use Rattle.rules.specs.Transfer.{type-of-word, table as table-of, import-types, import-impl-type, import-impl-types};
 ghost use Rattle.rules.specs.Search.{impl-params};
-ghost use Rattle.rules.specs.SearchKeeps.{signed};
-ghost use Rattle.rules.specs.Neat.{Neat, Brought};
+ghost use Rattle.rules.specs.SearchKeeps.{fresh-count, signed};
+ghost use Rattle.rules.specs.Neat.{Neat, Brought, QueriesIn};
 ghost use Rattle.table.specs.Packing.{types-of, Packed, Good, TypeWords};
 ghost use Rattle.transfer.specs.Moving.{params-of};
 ghost use Rattle.transfer.specs.Imports.{types-in, Imports};
-ghost use Rattle.queries.specs.Queries.{query-of};
+ghost use Rattle.queries.specs.Queries.{query-of, queries-of};
+ghost use Rattle.queries.specs.Gathering.{WithinFour};
+ghost use Rattle.queries.specs.Rows.{Rowed};
 ghost use Rattle.unify.specs.Lists.{Nodes};
 ghost use Rattle.opening.specs.Fresh.{Freshens};
 ghost use Rattle.opening.specs.Standing.{standing, Stands};
 ghost use Rattle.opening.specs.Bringing.{Lent};
 ghost use Rattle.opening.specs.Sound.{Sound};
 ghost use Rattle.opening.specs.Signing.{signed-by, Leaves};
+ghost use Rattle.opening.specs.Needing.{needed-by, Needs, Follows};
 ghost use Rattle.opening.specs.Meeting.{imported, Joins, Meets};
 use chart::layout;
+use queries::Queries;
 use queries::Query;
 use unify::UnifyResult;
 
@@ -301,4 +305,116 @@ pub fn sign(
         return sign_from(sheet, dst, places, map, base, n, q, i);
     }
     Signed::Full
+}
+
+// What stands for no room: more than four sub-questions.
+fn crowded() -> Queries
+    ensures { λ r. ⌜ r .n ≡ 5 ⌝ }
+{
+    Queries {
+        n: 5,
+        trs: [0u32; 4],
+        counts: [0usize; 4],
+        args: [0u32; 16],
+    }
+}
+
+// Imports sub-questions qs, whose type words are the first m of ts, from the sheet's table at a head with the parameters ps.
+fn bring_row(
+    sheet: &[u32],
+    head: u32,
+    dst: &mut [u32],
+    places: &mut [u32],
+    map: &mut [u32],
+    ps: &[u32],
+    qs: Queries,
+    ts: &mut [u32],
+    m: usize,
+) -> Queries
+    requires { ⌜ Neat (table-of (now sheet) head) ⌝ }
+    requires { ⌜ Lent (now sheet) (now places) (now map) ⌝ }
+    requires { ⌜ TypeWords (now ps) ⌝ }
+    requires { ⌜ Packed (now dst) ⌝ }
+    requires { ⌜ WithinFour qs ⌝ }
+    requires { ⌜ QueriesIn (length (table-of (now sheet) head)) (queries-of qs) ⌝ }
+    requires { ⌜ 16 ≤ length (now ts) ⌝ }
+    requires { ⌜ Rowed qs (now ts) m ⌝ }
+    ensures { λ r. ⌜ Needs (import-impl-types (table-of (now (sheet .entry)) head) (params-of true (now (ps .entry))) (queries-of qs) (types-of (now (dst .entry)))) r (now (dst .exit)) ⌝ }
+{
+    let done = bring(sheet, head, dst, places, map, true, ps, ts, m);
+    if done {
+        return queries::unrow(qs, ts);
+    }
+    crowded()
+}
+
+// Imports sub-questions qs from the sheet's table at a head with the parameters ps.
+fn bring_queries(
+    sheet: &[u32],
+    head: u32,
+    dst: &mut [u32],
+    places: &mut [u32],
+    map: &mut [u32],
+    ps: &[u32],
+    qs: Queries,
+) -> Queries
+    requires { ⌜ Neat (table-of (now sheet) head) ⌝ }
+    requires { ⌜ Lent (now sheet) (now places) (now map) ⌝ }
+    requires { ⌜ TypeWords (now ps) ⌝ }
+    requires { ⌜ Packed (now dst) ⌝ }
+    requires { ⌜ WithinFour qs ⌝ }
+    requires { ⌜ QueriesIn (length (table-of (now sheet) head)) (queries-of qs) ⌝ }
+    ensures { λ r. ⌜ Needs (import-impl-types (table-of (now (sheet .entry)) head) (params-of true (now (ps .entry))) (queries-of qs) (types-of (now (dst .entry)))) r (now (dst .exit)) ⌝ }
+{
+    let mut ts = [0u32; 16];
+    let m = queries::row(qs, &mut ts);
+    bring_row(sheet, head, dst, places, map, ps, qs, &mut ts, m)
+}
+
+// The impl parameters of impl i, imported with the parameters ps.
+fn need_with(
+    sheet: &[u32],
+    dst: &mut [u32],
+    places: &mut [u32],
+    map: &mut [u32],
+    ps: &[u32],
+    i: usize,
+) -> Queries
+    requires { ⌜ Sound (now sheet) ⌝ }
+    requires { ⌜ i < many (now sheet) header·impls ⌝ }
+    requires { ⌜ 4096 ≤ length (now places) ⌝ }
+    requires { ⌜ 4096 ≤ length (now map) ⌝ }
+    requires { ⌜ Packed (now dst) ⌝ }
+    requires { ⌜ TypeWords (now ps) ⌝ }
+    ensures { λ r. ⌜ Needs (needed-by (now (sheet .entry)) i (params-of true (now (ps .entry))) (types-of (now (dst .entry)))) r (now (dst .exit)) ⌝ }
+{
+    let g = chart::impl_generics(sheet, i);
+    let qs = queries::read_params(sheet, g);
+    let head = word_of(sheet, layout::GENERICS, g, layout::GENERICS_TABLE);
+    bring_queries(sheet, head, dst, places, map, ps, qs)
+}
+
+// The sub-questions of candidate i after `sign`: its impl parameters, with its fresh unknowns, from node base on, for its type parameters.
+// More than four where there is no room.
+pub fn need(
+    sheet: &[u32],
+    dst: &mut [u32],
+    places: &mut [u32],
+    map: &mut [u32],
+    base: u32,
+    i: usize,
+) -> Queries
+    requires { ⌜ Sound (now sheet) ⌝ }
+    requires { ⌜ i < many (now sheet) header·impls ⌝ }
+    requires { ⌜ 4096 ≤ length (now places) ⌝ }
+    requires { ⌜ 4096 ≤ length (now map) ⌝ }
+    requires { ⌜ Packed (now dst) ⌝ }
+    requires { ⌜ base + fresh-count (now sheet) i ≤ length (types-of (now dst)) ⌝ }
+    ensures { λ r. ⌜ Follows (now (sheet .entry)) i base (now (dst .entry)) r (now (dst .exit)) ⌝ }
+{
+    let g = chart::impl_generics(sheet, i);
+    let n = chart::type_params(sheet, g);
+    let mut ps = [0u32; 8];
+    stand(base, n, &mut ps);
+    need_with(sheet, dst, places, map, &ps[..n], i)
 }
