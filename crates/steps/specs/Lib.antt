@@ -4,3 +4,5 @@ pub mod Built
 pub mod Next
 pub mod Behind
 pub mod Params
+pub mod Beginning
+pub mod Candidate

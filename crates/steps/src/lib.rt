@@ -3,25 +3,30 @@
 ghost use mathlib.Core.Path.{_≡_};
 ghost use mathlib.Core.Bool.{true};
 ghost use Prim.Native.Nat.{_+_, _-_, _*_, _<_, _≤_};
+ghost use lib.Dec.{eqb};
 ghost use lib.ListN.{length, drop};
 ghost use Rattle.rules.specs.Layout.{header·impls};
 ghost use Rattle.rules.specs.Sheet.{many};
 ghost use Rattle.rules.specs.Types.{approx-eq};
+ghost use Rattle.rules.specs.SearchKeeps.{fresh-count};
 ghost use Rattle.table.specs.Packing.{types-of, Packed};
 ghost use Rattle.slots.specs.Adding.{Aside};
 ghost use Rattle.slots.specs.Gathering.{Row};
 ghost use Rattle.candidates.specs.Index.{Indexes};
 ghost use Rattle.admitted.specs.Found.{Stands, Finds};
 ghost use Rattle.queries.specs.Queries.{query-of};
-ghost use Rattle.steps.specs.Asking.{finder-of, Sound, Scratch, Asking};
+ghost use Rattle.opening.specs.Sound.{Sound as SoundSheet};
+ghost use Rattle.steps.specs.Asking.{finder-of, Sound, Scratch, Asking, Begins, Opens};
 ghost use Rattle.steps.specs.Behind.{brought, Behind, ParamIn};
 ghost use Rattle.steps.specs.Built.{NoneLeft, LeafStep, SmallIds, Autos};
 ghost use Rattle.steps.specs.Params.{ParamStep, ParamsStep};
+ghost use Rattle.steps.specs.Candidate.{Fitted, Seeks, PartOpens};
 ghost use Rattle.steps.specs.Next.{NextId};
 use admitted::Candidate;
 use admitted::Found;
 use auto::Auto;
 use opening::Signed;
+use queries::Queries;
 use queries::Query;
 use slots::Adding;
 use slots::Asked;
@@ -38,6 +43,11 @@ pub const SUB: usize = 8970;
 
 // The kind of an impl parameter's tree.
 const PARAM: u32 = 1;
+
+// In the place of how many sub-questions a candidate has: its table would pass its limit, or it does not unify with the question.
+pub const FULL: usize = 5;
+
+pub const UNFIT: usize = 6;
 
 // Past every impl.
 pub const NONE: usize = 384;
@@ -214,6 +224,128 @@ fn add_params(
         count: cur,
         n: stand,
     }
+}
+
+// Built-in fork and drop, then the generics' impl parameters.
+pub fn before_candidates(
+    sheet: &[u32],
+    ws: &mut [u32],
+    places: &mut [u32],
+    map: &mut [u32],
+    f: Finder,
+    basic: u32,
+    q: Query,
+    count: u32,
+) -> Asked
+    requires { ⌜ Sound (finder-of (now sheet) f) ⌝ }
+    requires { ⌜ Scratch (now places) (now map) ⌝ }
+    requires { ⌜ Asking (now ws) q ⌝ }
+    requires { ⌜ 10764 ≤ length (now ws) ⌝ }
+    requires { ⌜ basic < 2 ⌝ }
+    requires { ⌜ count ≤ 4000000000 ⌝ }
+    ensures { λ r. ⌜ Begins (finder-of (now (sheet .entry)) f) (eqb basic 1) (now (ws .entry)) (query-of q) count r (now (ws .exit)) ⌝ }
+{
+    if basic == 1 {
+        return Asked::Found { count, n: 0 };
+    }
+    let first = add_autos(sheet, ws, q, count);
+    match first {
+        Asked::Refused { number, count } => Asked::Refused { number, count },
+        Asked::Found { count, n } => add_params(sheet, ws, places, map, f, q, n, count),
+    }
+}
+
+// No sub-questions, with a number in the place of how many there are.
+fn no_questions(n: usize) -> Queries
+    ensures { λ r. ⌜ r .n ≡ n ⌝ }
+{
+    Queries {
+        n,
+        trs: [0, 0, 0, 0],
+        counts: [0, 0, 0, 0],
+        args: [0, 0, 0, 0, 0, 0, 0, 0, 0, 0, 0, 0, 0, 0, 0, 0],
+    }
+}
+
+// Sub-questions as they are asked: more than four are FULL.
+fn fitted(qs: Queries) -> Queries
+    ensures { λ r. ⌜ Fitted qs r ⌝ }
+{
+    if 4 < qs.n {
+        return no_questions(FULL);
+    }
+    let counts = [qs.counts[0], qs.counts[1], qs.counts[2], qs.counts[3]];
+    Queries {
+        n: qs.n,
+        trs: qs.trs,
+        counts,
+        args: qs.args,
+    }
+}
+
+// The sub-questions of candidate i, whose signature has been met with the question of a table of `base` nodes.
+fn seek(
+    sheet: &[u32],
+    dst: &mut [u32],
+    places: &mut [u32],
+    map: &mut [u32],
+    base: u32,
+    i: usize,
+) -> Queries
+    requires { ⌜ SoundSheet (now sheet) ⌝ }
+    requires { ⌜ Scratch (now places) (now map) ⌝ }
+    requires { ⌜ i < many (now sheet) header·impls ⌝ }
+    requires { ⌜ Packed (now dst) ⌝ }
+    requires { ⌜ base + fresh-count (now sheet) i ≤ length (types-of (now dst)) ⌝ }
+    ensures { λ r. ⌜ Seeks (now (sheet .entry)) i base (now (dst .entry)) r (now (dst .exit)) ⌝ }
+{
+    let qs = opening::need(sheet, dst, places, map, base, i);
+    fitted(qs)
+}
+
+// Opens candidate i in a part that has the question's table.
+fn open_part(
+    sheet: &[u32],
+    dst: &mut [u32],
+    places: &mut [u32],
+    map: &mut [u32],
+    q: Query,
+    i: usize,
+) -> Queries
+    requires { ⌜ SoundSheet (now sheet) ⌝ }
+    requires { ⌜ Scratch (now places) (now map) ⌝ }
+    requires { ⌜ Asking (now dst) q ⌝ }
+    requires { ⌜ i < many (now sheet) header·impls ⌝ }
+    ensures { λ r. ⌜ PartOpens (now (sheet .entry)) (types-of (now (dst .entry))) (query-of q) i r (now (dst .exit)) ⌝ }
+{
+    let base = table::count(dst);
+    let met = opening::sign(sheet, dst, places, map, q, i);
+    match met {
+        Signed::Full => no_questions(FULL),
+        Signed::Unfit => no_questions(UNFIT),
+        Signed::Fits => seek(sheet, dst, places, map, base, i),
+    }
+}
+
+// Opens a candidate behind slot 4: the table there is that of its sub-questions.
+pub fn open_candidate(
+    sheet: &[u32],
+    ws: &mut [u32],
+    places: &mut [u32],
+    map: &mut [u32],
+    f: Finder,
+    q: Query,
+    i: usize,
+) -> Queries
+    requires { ⌜ Sound (finder-of (now sheet) f) ⌝ }
+    requires { ⌜ Scratch (now places) (now map) ⌝ }
+    requires { ⌜ Asking (now ws) q ⌝ }
+    requires { ⌜ 10764 ≤ length (now ws) ⌝ }
+    requires { ⌜ i < many (now sheet) header·impls ⌝ }
+    ensures { λ r. ⌜ Opens (now (sheet .entry)) (now (ws .entry)) (query-of q) i r (now (ws .exit)) ⌝ }
+{
+    slots::copy_table_slot(ws, 0, SUB);
+    open_part(sheet, &mut ws[SUB..], places, map, q, i)
 }
 
 // `find_impl_candidates` for a question.
