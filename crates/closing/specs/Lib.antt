@@ -3,3 +3,4 @@ pub mod Last
 pub mod Impl
 pub mod Flex
 pub mod FlexEnd
+pub mod FlexResults
