@@ -4,3 +4,4 @@ pub mod Impl
 pub mod Flex
 pub mod FlexEnd
 pub mod FlexResults
+pub mod Searched
