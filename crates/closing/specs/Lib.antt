@@ -3,3 +3,5 @@ pub mod Last
 pub mod Impl
 pub mod Flex
 pub mod FlexEnd
+pub mod FlexResults
+pub mod Searched
