@@ -42,26 +42,15 @@ use Rattle.admitted.specs.Found.{Stands, Finds, Gives, ids, nodes-of, found-sto
 use Rattle.queries.specs.declared.Query.{Query}
 use Rattle.queries.specs.declared.Queries.{Queries}
 use Rattle.queries.specs.Queries.{query-of, query-in, queries-of, queries-next, queries-none}
-use Rattle.finder.specs.declared.Finder.{Finder}
-use Rattle.finder.specs.Asking.{finder-of, Sound, Searching, Front, Asking, Tail, Begins, Opens, front-table, asking-table, tail-asking}
-use Rattle.finder.specs.Loops.{Stepping, stepping-start, stepping-few, stepping-low, stepping-same, stepping-end, stepping-on, stepping-refused}
+use Rattle.steps.specs.declared.Finder.{Finder}
+use Rattle.steps.specs.Asking.{finder-of, Sound, Searching, Front, Asking, Tail, Begins, Opens, front-table, asking-table, tail-asking}
+use Rattle.steps.specs.Loops.{Stepping, stepping-start, stepping-few, stepping-low, stepping-same, stepping-end, stepping-on, stepping-refused}
 use Rattle.finder.specs.Singles.{One, question-ones}
 use Rattle.finder.specs.Steps.{ask-below, candidates-left, question-over, question-deep, question-start}
-use Rattle.finder.specs.Tails.{sub-one, tail-none, tail-next, tail-last, Resting, Rested, Keeps, rest-turn, rest-end}
-use Rattle.finder.specs.Built.{NoneLeft}
+use Rattle.finder.specs.Tails.{sub-one, tail-next, tail-last, Resting, Rested, Keeps, rest-turn, rest-end}
+use Rattle.steps.specs.Built.{NoneLeft}
+use Rattle.steps.specs.Next.{NextId}
 use Rattle.finder.specs.Members.{CandidateStep, ResultStep, candidate-stops, candidate-none, candidate-sub, candidate-steps, result-sub, result-element, result-steps}
-
--- The next candidate, or a number past every impl.
-pub record NextId (s ws : Words) (f : Sets) (from r : ℕ) : Type 0 where
-  pub up : r < 384 → (from ≤ r) × (r < many s header·impls)
-  pub found : r < 384 → (src : ℕ) → Standing s src ws (nodes-of f) → from-on from (ids s src f) ≡ r ∷ from-on (r + 1) (ids s src f)
-  pub none : 384 ≤ r → (src : ℕ) → Standing s src ws (nodes-of f) → from-on from (ids s src f) ≡ []
-
-pub next-impl : (s ws : Words) (f : Sets) (from id : ℕ) (r : Candidate) → many s header·impls ≤ 384 → Gives s ws f from r → r ≡ Impl id → NextId s ws f from id
-next-impl s ws f from id r few g e = record { up = λ h. g .up id e; found = λ h. g .found id e; none = λ h. absurd (omega (arith, g .up id e .1)) }
-
-pub next-none : (s ws : Words) (f : Sets) (from : ℕ) (r : Candidate) → Gives s ws f from r → r ≡ End → NextId s ws f from 384
-next-none s ws f from r g e = record { up = λ h. absurd (omega arith); found = λ h. absurd (omega arith); none = λ h. g .none e }
 
 pub few-impls : (s sets : Words) (f : Finder) → Searching s sets f → many s header·impls ≤ 384
 few-impls s sets f h = omega (arith, valid s (passed s (h .stands .checked) .values) .impl-count)
