@@ -1,8 +1,8 @@
 -- What the members of the search rely on: a checked call, the sets of its source, lent slices, and a neat table whose nodes the question's types are.
-use Prim.Native.Nat.{ℕ, suc, _+_, _*_, _≤_, _<_}
+use Prim.Native.Nat.{ℕ, _+_, _≤_, _<_}
 use mathlib.Core.Path.{_≡_, refl, sym, _∙_, ap, subst}
 use mathlib.Core.Bool.{Bool}
-use mathlib.Core.List.{List, [], _∷_, map}
+use mathlib.Core.List.{List, [], map}
 use mathlib.Core.Logic.{_≢_}
 use native.Mathlib.Omega.{arith}
 use lib.Dec.{ltb}
@@ -20,7 +20,7 @@ use Rattle.table.specs.Packing.{types-of, Packed}
 use Rattle.slots.specs.Slots.{Table, table-move}
 use Rattle.slots.specs.Adding.{under}
 use Rattle.slots.specs.Turns.{Answers}
-use Rattle.slots.specs.Parts.{part, part-table}
+use Rattle.slots.specs.Parts.{part}
 use Rattle.slots.specs.declared.Asked.{Asked}
 use Rattle.admitted.specs.Found.{Stands}
 use Rattle.queries.specs.declared.Query.{Query}

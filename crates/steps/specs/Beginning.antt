@@ -1,29 +1,27 @@
 -- How a question begins: built-in fork and drop, then the generics' impl parameters; a basic one has neither.
-use Prim.Native.Nat.{ℕ, _+_, _*_, _≤_, _<_}
-use mathlib.Core.Path.{_≡_, refl, sym, _∙_, ap, subst}
-use mathlib.Core.Bool.{Bool, true, false}
+use Prim.Native.Nat.{ℕ, _≤_}
+use mathlib.Core.Path.{_≡_, refl, _∙_, ap, subst}
 use mathlib.Core.Logic.{_≢_}
-use mathlib.Core.List.{List, [], _∷_, map}
+use mathlib.Core.List.{List, [], map}
 use native.Mathlib.Omega.{arith}
 use borrow.Author.Tests.{ne-eqb}
 use lib.Dec.{eqb, ltb}
-use lib.ListN.{length}
 use Rattle.rules.specs.Lists.{Words}
 use Rattle.rules.specs.Sheet.{at}
-use Rattle.rules.specs.Types.{Types, ImplType}
-use Rattle.rules.specs.Run.{Run, done, _>>=_, within}
+use Rattle.rules.specs.Types.{Types}
+use Rattle.rules.specs.Run.{Run, _>>=_, within}
 use Rattle.rules.specs.Search.{Trees, Result, add-results, impl-params, find-auto-impls, from-impl-params, before-candidates}
 use Rattle.rules.specs.Search as rules
 use Rattle.table.specs.Packing.{types-of, Packed}
 use Rattle.slots.specs.declared.Asked.{Asked}
 use Rattle.slots.specs.declared.Asked.the-variants.{Found, Refused}
-use Rattle.slots.specs.Slots.{Table, slots-none}
+use Rattle.slots.specs.Slots.{slots-none}
 use Rattle.slots.specs.Gathering.{Row}
-use Rattle.slots.specs.Turns.{Got, Answers, answers-refused, answers-found, answers-same, then-got, then-refused, Stepped}
+use Rattle.slots.specs.Turns.{Answers, answers-refused, answers-found, answers-same, then-got, then-refused}
 use Rattle.queries.specs.declared.Query.{Query}
 use Rattle.queries.specs.Queries.{query-of}
 use Rattle.steps.specs.declared.Finder.{Finder}
-use Rattle.steps.specs.Asking.{finder-of, Sound, Asking, Front, Begins, front-table, asking-table}
+use Rattle.steps.specs.Asking.{finder-of, Sound, Asking, Begins, front-table, asking-table}
 use Rattle.steps.specs.Built.{SmallIds, Autos}
 use Rattle.steps.specs.Params.{ParamsStep}
 

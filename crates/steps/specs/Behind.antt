@@ -1,7 +1,7 @@
 -- Behind slot 4: the table of slot 0 is copied there, is worked on as a part of its own, and comes back.
-use Prim.Native.Nat.{ℕ, _+_, _-_, _*_, _≤_, _<_}
+use Prim.Native.Nat.{ℕ, _+_, _-_, _≤_}
 use mathlib.Core.Path.{_≡_, refl, sym, _∙_, ap, subst}
-use mathlib.Core.Logic.{_⊎_, inl, inr}
+use mathlib.Core.Logic.{inl}
 use mathlib.Core.Option.{none}
 use native.Mathlib.Omega.{arith}
 use borrow.Rule.Slice.PartMut.{putMid}
@@ -17,12 +17,12 @@ use Rattle.rules.specs.Neat.{Neat}
 use Rattle.table.specs.Packing.{types-of, Packed}
 use Rattle.slots.specs.Slots.{Table, Written, table-move}
 use Rattle.slots.specs.Copies.{Beside}
-use Rattle.slots.specs.Parts.{part, part-table, part-length, Lent, lent}
+use Rattle.slots.specs.Parts.{part, part-table, Lent, lent}
 use Rattle.queries.specs.declared.Query.{Query}
 use Rattle.queries.specs.Queries.{query-of}
 use Rattle.opening.specs.declared.Signed.{Signed}
 use Rattle.opening.specs.Sound as opening
-use Rattle.opening.specs.Meeting.{Meets, Agrees}
+use Rattle.opening.specs.Meeting.{Meets}
 use Rattle.steps.specs.declared.Finder.{Finder}
 use Rattle.steps.specs.Asking.{finder-of, Sound, Asking, Opened}
 
@@ -62,17 +62,17 @@ module _ (ws us ys : Words) (w : Written ws us 8970 (types-of ws, end)) (kept : 
   pub back-opened : Opened ws back
   back-opened = record { len = came .long ∙ w .len; at = λ i h. came .low i h ∙ w .low i h }
 
--- Its types are nodes of the generics' table.
+-- The types of an impl parameter are nodes of the generics' table.
 pub record ParamIn (a : rules.Finder) (p : Query) : Type 0 where
   pub few : p .n ≤ 4
   pub inside : AllIn (length ((impl-params (a .sheet) (a .generics)) .0)) ((query-of p) .1)
 
--- An impl parameter is met with the question behind slot 4.
+-- It is met with the question behind slot 4.
 pub record Behind (s ws : Words) (o : ImplType × Types) (q : ImplType) (r : Signed) (out : Words) : Type 0 where
   pub opened : Opened ws out
   pub meets : Meets s o q r (drop 8970 out)
 
--- From where its table comes, and what it is met with.
+-- Its import.
 abbrev pub brought : rules.Finder → Types → ImplType → ImplType × Types
 brought a ts p = import-impl-type ((impl-params (a .sheet) (a .generics)) .0) none p ts
 

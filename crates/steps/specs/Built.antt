@@ -2,11 +2,10 @@
 use Prim.Native.Nat.{ℕ, _+_, _*_, _≤_, _<_}
 use mathlib.Core.Path.{_≡_, refl, sym, _∙_, ap, subst}
 use mathlib.Core.List.{List, [], _∷_, _++_, map}
-use mathlib.Core.Logic.{_⊎_, inl, inr}
+use mathlib.Core.Logic.{inl}
 use native.Mathlib.Omega.{arith}
 use lib.Dec.{ltb}
-use mathlib.Core.Bool.{false}
-use lib.ListN.{length, getD, take, drop, length-append}
+use lib.ListN.{length, take, drop, length-append}
 use lib.Seq.{length-take-le}
 use Rattle.rules.specs.Lists.{Words}
 use Rattle.rules.specs.Sheet.{at}
@@ -14,7 +13,7 @@ use Rattle.rules.specs.Layout.{header·duplicate, header·erase}
 use Rattle.rules.specs.Types.{Types, ImplType}
 use Rattle.rules.specs.Slim.{Slim}
 use Rattle.rules.specs.Transfer.{type-of-word}
-use Rattle.rules.specs.Run.{Run, done, stop, within}
+use Rattle.rules.specs.Run.{Run, done, within}
 use Rattle.rules.specs.Search.{Trees, end, leaf, Result, add-results, find-subimpls, find-auto-impls}
 use Rattle.table.specs.Packing.{types-of}
 use Rattle.auto.specs.declared.Auto.{Auto}
@@ -25,9 +24,9 @@ use Rattle.slots.specs.declared.Adding.{Adding}
 use Rattle.slots.specs.declared.Adding.the-variants.{Added, Refused as Denied}
 use Rattle.slots.specs.declared.Asked.{Asked}
 use Rattle.slots.specs.declared.Asked.the-variants.{Found, Refused}
-use Rattle.slots.specs.Slots.{slot·length, Slot, Slots, Written, slots-none, slots-more}
+use Rattle.slots.specs.Slots.{Slot, Written, slots-none, slots-more}
 use Rattle.slots.specs.Copies.{Beside}
-use Rattle.slots.specs.Adding.{Enters, Adds}
+use Rattle.slots.specs.Adding.{Adds}
 use Rattle.slots.specs.Turns.{Answers, answers-refused, answers-found, Stepped}
 use Rattle.queries.specs.declared.Query.{Query}
 use Rattle.queries.specs.Queries.{four, query-of}

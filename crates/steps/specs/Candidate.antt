@@ -1,6 +1,6 @@
 -- What one candidate comes to before its sub-questions are asked, and what the code leaves where it is opened.
-use Prim.Native.Nat.{ℕ, zero, suc, _+_, _-_, _*_, _≤_, _<_}
-use mathlib.Core.Path.{_≡_, refl, sym, _∙_, ap, ap₂, subst}
+use Prim.Native.Nat.{ℕ, zero, suc, _+_, _-_, _≤_, _<_}
+use mathlib.Core.Path.{_≡_, refl, sym, _∙_, ap, subst}
 use mathlib.Core.Logic.{_≢_}
 use mathlib.Core.List.{List, [], _∷_, map}
 use native.Mathlib.Omega.{arith}
@@ -17,12 +17,12 @@ use Rattle.rules.specs.Search.{end, Result, check-nodes, find-subimpls, try-can
 use Rattle.rules.specs.SearchKeeps.{fresh-count, signed, met, needs}
 use Rattle.rules.specs.Neat.{Neat, QueriesIn}
 use Rattle.table.specs.Packing.{types-of, Packed}
-use Rattle.slots.specs.Slots.{Table, Written}
+use Rattle.slots.specs.Slots.{Written}
 use Rattle.slots.specs.Adding.{under}
 use Rattle.slots.specs.Parts.{part, part-table}
 use Rattle.queries.specs.declared.Query.{Query}
 use Rattle.queries.specs.declared.Queries.{Queries}
-use Rattle.queries.specs.Queries.{query-of, query-in, queries-of}
+use Rattle.queries.specs.Queries.{query-of, queries-of}
 use Rattle.queries.specs.Gathering.{WithinFour, queries-four}
 use Rattle.opening.specs.declared.Signed.{Signed}
 use Rattle.opening.specs.declared.Signed.the-variants.{Full, Unfit, Fits}

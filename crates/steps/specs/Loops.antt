@@ -1,18 +1,17 @@
 -- Loops that add results behind those that stand, whatever these are: the run from them is what is left of it.
-use Prim.Native.Nat.{ℕ, _+_, _*_, _≤_, _<_}
-use mathlib.Core.Path.{_≡_, refl, sym, _∙_, ap}
+use Prim.Native.Nat.{ℕ, _≤_}
+use mathlib.Core.Path.{_≡_, refl, _∙_, ap}
 use mathlib.Core.List.{List}
-use native.Mathlib.Omega.{arith}
 use lib.Dec.{ltb}
 use lib.ListN.{length}
 use Rattle.rules.specs.Lists.{Words}
-use Rattle.rules.specs.Run.{Run, done, stop, _>>=_, Out, within}
+use Rattle.rules.specs.Run.{Run, done, stop, _>>=_, within}
 use Rattle.rules.specs.Search.{Result}
 use Rattle.slots.specs.declared.Asked.{Asked}
 use Rattle.slots.specs.declared.Asked.the-variants.{Found, Refused}
 use Rattle.slots.specs.Slots.{slot·length, Slots}
 use Rattle.slots.specs.Gathering.{Row}
-use Rattle.slots.specs.Turns.{Answers, answers-refused, Going, Stepped, turn, going-same, going-end}
+use Rattle.slots.specs.Turns.{answers-refused, Going, Stepped, turn, going-same, going-end}
 
 -- The run from the n₀ results that stood, read from count c₀, is what is left of it, from the n that stand, at count c.
 pub record Stepping (L : ℕ) (step rest : List Result → Run (List Result)) (n₀ c₀ : ℕ) (ws₀ : Words) (n c : ℕ) (ws : Words) : Type 0 where

@@ -1,5 +1,5 @@
 -- The generics' impl parameters, one after another: `from-impl-params` of the rules, and what the code leaves.
-use Prim.Native.Nat.{ℕ, zero, suc, _+_, _-_, _*_, _≤_, _<_}
+use Prim.Native.Nat.{ℕ, zero, suc, _+_, _≤_, _<_}
 use mathlib.Core.Path.{_≡_, refl, sym, _∙_, ap, subst}
 use mathlib.Core.Bool.{Bool, true, false}
 use mathlib.Core.Logic.{_≢_}
@@ -11,7 +11,7 @@ use lib.Dec.{ltb}
 use lib.ListN.{length, getD, drop}
 use Rattle.rules.specs.Lists.{Words}
 use Rattle.rules.specs.Limits.{limit·nodes}
-use Rattle.rules.specs.Layout.{header·generics, tree·param}
+use Rattle.rules.specs.Layout.{tree·param}
 use Rattle.rules.specs.Sheet.{at}
 use Rattle.rules.specs.Types.{Ty, Types, UnifyResult, success, failure, indeterminate, Unified, ImplType, unify-impl-type, approx-eq}
 use Rattle.rules.specs.Run.{Run, done, stop, asks, _>>=_, within}
@@ -26,7 +26,7 @@ use Rattle.slots.specs.declared.Asked.{Asked}
 use Rattle.slots.specs.declared.Asked.the-variants.{Found, Refused}
 use Rattle.slots.specs.Slots.{slot·length, Slots, slots-kept}
 use Rattle.slots.specs.Gathering.{Row}
-use Rattle.slots.specs.Turns.{Answers, answers-refused, answers-found, answers-same, bind-assoc, Stepped}
+use Rattle.slots.specs.Turns.{answers-refused, answers-found, answers-same, bind-assoc, Stepped}
 use Rattle.queries.specs.declared.Query.{Query}
 use Rattle.queries.specs.declared.Queries.{Queries}
 use Rattle.queries.specs.Queries.{query-of, query-in, queries-of, queries-length, queries-next, queries-none}
@@ -159,7 +159,7 @@ pub record ParamsStep (a : rules.Finder) (ws : Words) (q : ImplType) (n count : 
   pub at : (L : ℕ) → Stepped L (λ fs. from-impl-params a (types-of ws) q 0 ((impl-params (a .sheet) (a .generics)) .1) fs) n count ws r out
 
 -- k of them are done: n results stand, of n₀ at first.
-pub record Adding (s : Words) (f : Finder) (q : Query) (ps : Queries) (n₀ c₀ : ℕ) (ws₀ ws : Words) (k n c : ℕ) : Type 0 where
+pub record ParamsDone (s : Words) (f : Finder) (q : Query) (ps : Queries) (n₀ c₀ : ℕ) (ws₀ ws : Words) (k n c : ℕ) : Type 0 where
   pub front : Front ws₀ ws
   pub asking : Asking ws q
   pub few : n ≤ 4
@@ -169,7 +169,7 @@ pub record Adding (s : Words) (f : Finder) (q : Query) (ps : Queries) (n₀ c₀
 pub params-few : (s : Words) (f : Finder) → Sound (finder-of s f) → Few ((impl-params s (f .generics)) .1)
 params-few s f h = few-params (finder-of s f) (h .question) (h .ready) (f .generics) (h .ready .generics)
 
-pub adding-start : (s : Words) (f : Finder) (q : Query) (ps : Queries) (n c : ℕ) (ws : Words) → Asking ws q → Row ws 1794 n → n ≤ 4 → c ≤ 4000000000 → Adding s f q ps n c ws ws 0 n c
+pub adding-start : (s : Words) (f : Finder) (q : Query) (ps : Queries) (n c : ℕ) (ws : Words) → Asking ws q → Row ws 1794 n → n ≤ 4 → c ≤ 4000000000 → ParamsDone s f q ps n c ws ws 0 n c
 adding-start s f q ps n c ws a row few low = record {
   front = record { len = refl; at = λ i l. refl };
   asking = a;
@@ -199,7 +199,7 @@ module _ (s : Words) (f : Finder) (ps : Queries) (k : ℕ) (p : Query) (sound : 
   }
 
 -- A turn of the loop, and its end.
-module _ (s : Words) (f : Finder) (q : Query) (ps : Queries) (n₀ c₀ : ℕ) (ws₀ ws : Words) (k n c : ℕ) (packed : Packed ws₀) (g : Adding s f q ps n₀ c₀ ws₀ ws k n c) where
+module _ (s : Words) (f : Finder) (q : Query) (ps : Queries) (n₀ c₀ : ℕ) (ws₀ ws : Words) (k n c : ℕ) (packed : Packed ws₀) (g : ParamsDone s f q ps n₀ c₀ ws₀ ws k n c) where
   abbrev whole : List Result → Run (List Result)
   whole fs = from-impl-params (finder-of s f) (types-of ws₀) (query-of q) 0 (queries-of ps) fs
 
@@ -223,7 +223,7 @@ module _ (s : Words) (f : Finder) (q : Query) (ps : Queries) (n₀ c₀ : ℕ) (
     frame-on : Front ws₀ out
     frame-on = record { len = o .front .len ∙ g .front .len; at = λ i l. o .front .at i l ∙ g .front .at i l }
 
-    pub adding-on : (d m : ℕ) → r ≡ Found d m → Adding s f q ps n₀ c₀ ws₀ out (k + 1) m d
+    pub adding-on : (d m : ℕ) → r ≡ Found d m → ParamsDone s f q ps n₀ c₀ ws₀ out (k + 1) m d
     adding-on d m e =
         let on : (L : ℕ) → Stepping L whole rest n₀ c₀ ws₀ m d out = λ L. stepping-on L whole n₀ c₀ ws₀ turns rest n c ws (going L) r out (one L) d m e in
         record {

@@ -2,7 +2,7 @@
 // A question's part of the lent slice has the table that is asked about in slot 0 and its results in slots 1 to 4; behind slot 4 is room for one table more, and for sub-questions.
 ghost use mathlib.Core.Path.{_≡_};
 ghost use mathlib.Core.Bool.{true};
-ghost use Prim.Native.Nat.{_+_, _-_, _*_, _<_, _≤_};
+ghost use Prim.Native.Nat.{_+_, _<_, _≤_};
 ghost use lib.Dec.{eqb};
 ghost use lib.ListN.{length, drop};
 ghost use Rattle.rules.specs.Layout.{header·impls};

@@ -3,13 +3,13 @@ use Prim.Native.Nat.{_≤_, _-_}
 use mathlib.Core.Path.{_≡_}
 use lib.ListN.{length}
 use Rattle.steps.specs.Asking.{scratch-kept}
-use Rattle.steps.specs.Params.{Adding, params-few, param-in, adding-start, adding-on, adding-refused, adding-end}
+use Rattle.steps.specs.Params.{ParamsDone, params-few, param-in, adding-start, adding-on, adding-refused, adding-end}
 use borrow.Author.Needs.{needs}
 use Rattle.steps.proofs.add_params.Statement.{statement}
 use Rattle.steps.proofs.add_params.Tie as tie
 
 abbrev Inv-loop : tie.InvT-loop
-Inv-loop sheet ws₀ places₀ map₀ f q n count ps stand₀ cur₀ k₀ ws places map stand cur k = Adding sheet f q ps n count ws₀ ws k stand cur × ((length places ≡ length places₀) × ((length map ≡ length map₀) × (k ≤ ps .n)))
+Inv-loop sheet ws₀ places₀ map₀ f q n count ps stand₀ cur₀ k₀ ws places map stand cur k = ParamsDone sheet f q ps n count ws₀ ws k stand cur × ((length places ≡ length places₀) × ((length map ≡ length map₀) × (k ≤ ps .n)))
 
 abbrev μ-loop : tie.MeasureT-loop
 μ-loop sheet ws₀ places₀ map₀ f q n count ps stand₀ cur₀ k₀ ws places map stand cur k = ps .n - k
