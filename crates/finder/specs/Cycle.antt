@@ -6,7 +6,8 @@ use mathlib.Core.Logic.{_≢_, inl}
 use mathlib.Core.List.{List, [], _∷_, _++_, map}
 use native.Mathlib.Omega.{arith}
 use lib.Dec.{eqb, ltb}
-use lib.ListN.{length, getD, drop}
+use native.Mathlib.Nat.{le-refl}
+use lib.ListN.{length, getD, drop, replicate, length-replicate}
 use Rattle.rules.specs.Lists.{Words}
 use Rattle.rules.specs.Layout.{header·impls}
 use Rattle.rules.specs.Sheet.{at, many}
@@ -43,7 +44,7 @@ use Rattle.queries.specs.declared.Query.{Query}
 use Rattle.queries.specs.declared.Queries.{Queries}
 use Rattle.queries.specs.Queries.{query-of, query-in, queries-of, queries-next, queries-none}
 use Rattle.steps.specs.declared.Finder.{Finder}
-use Rattle.steps.specs.Asking.{finder-of, Sound, Searching, Front, Asking, Tail, Begins, Opens, front-table, asking-table, tail-asking}
+use Rattle.steps.specs.Asking.{finder-of, Sound, Scratch, Searching, Front, Asking, Tail, Begins, Opens, front-table, asking-table, tail-asking}
 use Rattle.steps.specs.Loops.{Stepping, stepping-start, stepping-few, stepping-low, stepping-same, stepping-end, stepping-on, stepping-refused}
 use Rattle.finder.specs.Singles.{One, question-ones}
 use Rattle.finder.specs.Steps.{ask-below, candidates-left, question-over, question-deep, question-start}
@@ -491,3 +492,10 @@ module _ (L d : ℕ) (s sets : Words) (f : Finder) (search : Searching s sets f)
 
     pub asked-goes : (r : Asked) (out : Words) → Collects L (sub-one (ask-below d (finder-of s f)) (drop (from + 1) (queries-of qs))) m c (putMid 8970 (length us - 8970) us ys) r out → Answers (within (ltb L) (find-subimpls (ask-below d (finder-of s f)) (types-of ws) (drop from (queries-of qs))) count) r out
     asked-goes r out x = sub-goes L d (finder-of s f) (search .sound) ws us ys _ qs from count first t h room copied gone came-back c m p r out x
+
+-- New slices for an import.
+pub scratch-new : Scratch (replicate 4096 0) (replicate 4096 0)
+scratch-new = record { places-long = long; map-long = long }
+  where
+    long : 4096 ≤ length (replicate {A = ℕ} 4096 0)
+    long = subst (λ n. 4096 ≤ n) (sym (length-replicate {0} {A = ℕ} 4096 0)) (le-refl 4096)

@@ -1,3 +1,4 @@
+use Rattle.finder.specs.Cycle.{scratch-new}
 use borrow.Author.Needs.{needs}
 use Rattle.finder.proofs.begin.Statement.{statement}
 use Rattle.finder.proofs.begin.Tie as tie
@@ -5,23 +6,18 @@ use Rattle.finder.proofs.begin.Reads as reads
 use Rattle.finder.proofs.begin.Lts as lts
 use Rattle.steps.proofs.before_candidates.Reads as before-candidates-reads
 
--- src/lib.rt:43:41
 slice-aggregate-before-candidates : tie.Need-slice-aggregate-before-candidates
 slice-aggregate-before-candidates c = search needs
 
--- src/lib.rt:43:54
 slice-aggregate-before-candidates-2 : tie.Need-slice-aggregate-before-candidates-2
 slice-aggregate-before-candidates-2 c = search needs
 
--- src/lib.rt:43:5
 before-candidates-requires : tie.Need-before-candidates-requires
-before-candidates-requires c κs = ?
+before-candidates-requires c κs = (search needs, (scratch-new, (search needs, (search needs, (search needs, search needs)))))
 
--- src/lib.rt:33:1
 same-length : tie.Need-same-length
 same-length c = search needs
 
--- src/lib.rt:33:1
 returns : tie.Need-returns
 returns c = search needs
 

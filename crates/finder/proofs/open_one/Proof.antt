@@ -1,3 +1,4 @@
+use Rattle.finder.specs.Cycle.{scratch-new}
 use borrow.Author.Needs.{needs}
 use Rattle.finder.proofs.open_one.Statement.{statement}
 use Rattle.finder.proofs.open_one.Tie as tie
@@ -5,23 +6,18 @@ use Rattle.finder.proofs.open_one.Reads as reads
 use Rattle.finder.proofs.open_one.Lts as lts
 use Rattle.steps.proofs.open_candidate.Reads as open-candidate-reads
 
--- src/lib.rt:56:38
 slice-aggregate-open-candidate : tie.Need-slice-aggregate-open-candidate
 slice-aggregate-open-candidate c = search needs
 
--- src/lib.rt:56:51
 slice-aggregate-open-candidate-2 : tie.Need-slice-aggregate-open-candidate-2
 slice-aggregate-open-candidate-2 c = search needs
 
--- src/lib.rt:56:5
 open-candidate-requires : tie.Need-open-candidate-requires
-open-candidate-requires c κs = ?
+open-candidate-requires c κs = (search needs, (scratch-new, (search needs, (search needs, search needs))))
 
--- src/lib.rt:47:1
 same-length : tie.Need-same-length
 same-length c = search needs
 
--- src/lib.rt:47:1
 returns : tie.Need-returns
 returns c = search needs
 
