@@ -1,7 +1,7 @@
 -- What a search leaves is what the end of its call asks for: its results' tables are neat, and what was exported are types of them.
 use Prim.Native.Nat.{ℕ, _/_, _≤_, _<_}
-use mathlib.Core.Path.{_≡_, refl, sym, ap, subst}
-use mathlib.Core.Bool.{Bool, true, false}
+use mathlib.Core.Path.{_≡_, sym, subst}
+use mathlib.Core.Bool.{Bool, false}
 use mathlib.Core.List.{List, [], _∷_, map}
 use mathlib.Core.Option.{none}
 use native.Mathlib.Omega.{arith}
@@ -11,7 +11,6 @@ use Rattle.rules.specs.Limits.{limit·depth, limit·question}
 use Rattle.rules.specs.Layout.{question·type}
 use Rattle.rules.specs.Sheet.{at}
 use Rattle.rules.specs.Types.{Ty, Types, ImplType, invert-if}
-use Rattle.rules.specs.Solutions.{AllIn}
 use Rattle.rules.specs.Robinson.{flip-in}
 use Rattle.rules.specs.Transfer.{type-of-word, export-types, export-impl-type}
 use Rattle.rules.specs.Run.{Out, got, within}
@@ -20,15 +19,13 @@ use Rattle.rules.specs.Check.{refusal, impl-checks, flex-checks}
 use Rattle.rules.specs.CheckedTables.{flex-ready}
 use Rattle.rules.specs.Calls.{question-types, impl-query, impl-search}
 use Rattle.rules.specs.Yields.{Comes, yields-within}
-use Rattle.rules.specs.Neat.{Neat, in-more, Brought, types-exported}
+use Rattle.rules.specs.Neat.{Neat, Brought, types-exported}
 use Rattle.rules.specs.SearchKeeps.{Kept, AllKept, question-keeps}
 use Rattle.rules.specs.CallKeeps.{impl-search-keeps}
 use Rattle.table.specs.Packing.{types-of}
 use Rattle.slots.specs.Slots.{Slot}
 use Rattle.slots.specs.Copies.{Filled}
 use Rattle.queries.specs.declared.Query.{Query}
-use Rattle.queries.specs.Queries.{query-of}
-use Rattle.loading.specs.Nodes.{Fitting}
 use Rattle.loading.specs.Exports.{Asks}
 use Rattle.loading.specs.Checked.{flex-fitting, flex-inside}
 use Rattle.closing.specs.Impl.{asks-on}

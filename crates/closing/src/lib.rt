@@ -12,7 +12,7 @@ ghost use Rattle.rules.specs.Types.{unify-impl-type as impl-type-unified};
 ghost use Rattle.rules.specs.Solutions.{AllIn};
 ghost use Rattle.rules.specs.Neat.{Neat};
 ghost use Rattle.rules.specs.Transfer.{type-of-word, import-types};
-ghost use Rattle.table.specs.Packing.{types-of, Packed, Good};
+ghost use Rattle.table.specs.Packing.{types-of, Packed};
 ghost use Rattle.transfer.specs.Imports.{types-in, Inside, Imports};
 ghost use Rattle.trees.specs.Forests.{trees·length};
 ghost use Rattle.slots.specs.Copies.{Filled};

@@ -11,7 +11,7 @@ use lib.Dec.{T, ltb→lt, lit<}
 use lib.ListN.{length}
 use Rattle.rules.specs.Lists.{Words}
 use Rattle.rules.specs.Limits.{limit·question, limit·nodes}
-use Rattle.rules.specs.Layout.{node·length, node·children, question·table, question·args, question·type, question·length}
+use Rattle.rules.specs.Layout.{node·length, question·table, question·args, question·type, question·length}
 use Rattle.rules.specs.Sheet.{at, chain, chain-of}
 use Rattle.rules.specs.Types.{ImplType}
 use Rattle.rules.specs.Transfer.{type-of-word, cell-types, table}
