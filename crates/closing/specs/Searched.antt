@@ -4,6 +4,7 @@ use mathlib.Core.Path.{_≡_, sym, subst}
 use mathlib.Core.Bool.{Bool, false}
 use mathlib.Core.List.{List, [], _∷_, map}
 use mathlib.Core.Option.{none}
+use mathlib.Core.Logic.{_≢_}
 use native.Mathlib.Omega.{arith}
 use lib.ListN.{length, drop}
 use Rattle.rules.specs.Lists.{Words}
@@ -13,7 +14,9 @@ use Rattle.rules.specs.Sheet.{at}
 use Rattle.rules.specs.Types.{Ty, Types, ImplType, invert-if}
 use Rattle.rules.specs.Robinson.{flip-in}
 use Rattle.rules.specs.Transfer.{type-of-word, export-types, export-impl-type}
-use Rattle.rules.specs.Run.{Out, got, within}
+use Rattle.rules.specs.Run.{Out, got, refused, within}
+use Rattle.rules.specs.RunLaws.{Refuses, within-stops}
+use Rattle.rules.specs.Stops.{In-search, question-stops}
 use Rattle.rules.specs.Search.{Finder, Result, question}
 use Rattle.rules.specs.Check.{refusal, impl-checks, flex-checks}
 use Rattle.rules.specs.CheckedTables.{flex-ready}
@@ -33,6 +36,10 @@ use Rattle.closing.specs.Flex.{Offered}
 
 came : (P : List Result → Type 0) (o : Out (List Result) × ℕ) (rs : List Result) (d : ℕ) → o ≡ (got rs, d) → Comes P (o .0) → P rs
 came P o rs d e h = subst (λ (x : Out (List Result) × ℕ). Comes P (x .0)) e h
+
+-- No search is refused with the number 0.
+pub search-number : (over : ℕ → Bool) (k : ℕ) (a : Finder) (basic : Bool) (ts : Types) (q : ImplType) (c m : ℕ) → (within over (question k a basic ts q) c) .0 ≡ refused m → m ≢ 0
+search-number over k a basic ts q c m e z = let h = subst (Refuses In-search) e (within-stops In-search (omega arith) over (question k a basic ts q) c (question-stops k a basic ts q)) in omega arith
 
 -- Every result of an impl call's search is kept.
 pub impl-kept : (a : Finder) (basic : ℕ) (q : Words) → refusal (impl-checks a basic q) ≡ none → (over : ℕ → Bool) (b : Bool) (c : ℕ) (rs : List Result) (d : ℕ) → within over (impl-search a b q) c ≡ (got rs, d) → AllKept ((export-impl-type (question-types q) (impl-query q)) .1) rs
