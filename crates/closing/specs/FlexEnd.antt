@@ -1,5 +1,5 @@
 -- The end of a flex call put together: the last imports (14), their join (26), the closing join, and the answer.
-use Prim.Native.Nat.{ℕ, _+_, _-_, _/_, _≤_, _<_}
+use Prim.Native.Nat.{ℕ, _-_, _/_, _≤_, _<_}
 use mathlib.Core.Path.{_≡_, refl, sym, _∙_, ap, ap₂, subst}
 use mathlib.Core.Bool.{Bool, true, false, _||_, true≢false}
 use mathlib.Core.List.{List, [], _∷_, _++_}

@@ -1,21 +1,21 @@
 -- What the results of the four flex questions come to, from how many there are of each: 21, 25, and the side that counts.
-use Prim.Native.Nat.{ℕ, zero, suc, _+_, _/_, _≤_, _<_}
+use Prim.Native.Nat.{ℕ, _/_, _<_}
 use mathlib.Core.Path.{_≡_, refl, sym, _∙_, ap, ap₂, subst}
 use mathlib.Core.Bool.{Bool, true, false, not, _&&_, _||_}
 use mathlib.Core.List.{List, [], _∷_}
 use native.Mathlib.Omega.{arith}
 use borrow.Author.Tests.{lt-ltb, le-ltb}
 use lib.Dec.{ltb}
-use lib.ListN.{length, getD}
+use lib.ListN.{length}
 use Rattle.rules.specs.Lists.{Words, any}
 use Rattle.rules.specs.Layout.{question·type}
 use Rattle.rules.specs.Sheet.{at}
 use Rattle.rules.specs.Types.{Ty, Types, self-inverse}
 use Rattle.rules.specs.Transfer.{type-of-word, export-types}
-use Rattle.rules.specs.Run.{Out, got, refused}
+use Rattle.rules.specs.Run.{Out, refused}
 use Rattle.rules.specs.Search.{Result}
 use Rattle.rules.specs.Calls.{question-types, is-found, flex-results}
-use Rattle.table.specs.Packing.{types-of, Packed, Good}
+use Rattle.table.specs.Packing.{types-of, Good}
 use Rattle.slots.specs.Slots.{Slot}
 use Rattle.closing.specs.Impl.{Closed}
 use Rattle.closing.specs.Last.{neat-good}

@@ -12,7 +12,7 @@ ghost use Rattle.rules.specs.Types.{unify-impl-type as impl-type-unified};
 ghost use Rattle.rules.specs.Solutions.{AllIn};
 ghost use Rattle.rules.specs.Neat.{Neat};
 ghost use Rattle.rules.specs.Transfer.{type-of-word, import-types};
-ghost use Rattle.table.specs.Packing.{types-of, Packed, Good};
+ghost use Rattle.table.specs.Packing.{types-of, Packed};
 ghost use Rattle.transfer.specs.Imports.{types-in, Inside, Imports};
 ghost use Rattle.trees.specs.Forests.{trees·length};
 ghost use Rattle.slots.specs.Copies.{Filled};
@@ -25,8 +25,16 @@ ghost use Rattle.closing.specs.Impl.{WritesImpl, ClosesImpl};
 ghost use Rattle.closing.specs.Flex.{when, failed, Offers, FilledIf, Brings, JoinsFirst, TreesOf, WritesFlex};
 ghost use Rattle.closing.specs.FlexEnd.{picked, closing-join, Joining, ClosesJoined, Caller, ClosesFound};
 ghost use Rattle.closing.specs.FlexResults.{several-of, bi-flexible, inverted-of, chosen, ClosesFlex};
+ghost use Rattle.closing.specs.Ends.{IfOne, IfFound, EndsResults, EndsImpl};
 use queries::Query;
+use slots::Asked;
 use unify::UnifyResult;
+
+// What a call comes to behind its checks: 0 where it is answered, or the number of its refusal; and the count after.
+pub struct Ended {
+    pub number: u32,
+    pub count: u32,
+}
 
 // The words of a slice from a place on.
 fn tail(s: &[u32], a: usize) -> &[u32]
@@ -253,6 +261,73 @@ pub fn close_impl(
         return 0;
     }
     14
+}
+
+// What n results of an impl call come to: 20 where there is none, 21 where there are several, or the end of the call with the one in slot 1.
+fn end_results(
+    sheet: &[u32],
+    query: Query,
+    asked: Query,
+    n: usize,
+    found: &[u32],
+    table: &mut [u32],
+    out: &mut [u32],
+    map: &mut [u32],
+    answer: &mut [u32],
+) -> u32
+    requires { ⌜ Packed (now table) ⌝ }
+    requires { ⌜ Asks (types-of (now table)) query ⌝ }
+    requires { ⌜ IfOne n asked (now found) ⌝ }
+    requires { ⌜ 1537 ≤ length (now out) ⌝ }
+    requires { ⌜ 256 ≤ length (now map) ⌝ }
+    requires { ⌜ limit·answer ≤ length (now answer) ⌝ }
+    ensures { λ r. ⌜ EndsResults (now (sheet .entry)) (types-of (now (table .entry))) (query-of query) (query-of asked) n (now (found .entry)) (now (answer .entry)) (now (answer .exit)) r ⌝ }
+{
+    if n == 0 {
+        return 20;
+    }
+    if n != 1 {
+        return 21;
+    }
+    close_impl(
+        sheet,
+        query,
+        asked,
+        found,
+        slots::SLOT,
+        table,
+        out,
+        map,
+        answer,
+    )
+}
+
+// What the search of an impl call comes to: the number of its refusal, or what its results come to, which stand in slots 1 to 4.
+pub fn end_impl(
+    sheet: &[u32],
+    query: Query,
+    asked: Query,
+    searched: Asked,
+    found: &[u32],
+    table: &mut [u32],
+    out: &mut [u32],
+    map: &mut [u32],
+    answer: &mut [u32],
+) -> u32
+    requires { ⌜ Packed (now table) ⌝ }
+    requires { ⌜ Asks (types-of (now table)) query ⌝ }
+    requires { ⌜ IfFound searched asked (now found) ⌝ }
+    requires { ⌜ 1537 ≤ length (now out) ⌝ }
+    requires { ⌜ 256 ≤ length (now map) ⌝ }
+    requires { ⌜ limit·answer ≤ length (now answer) ⌝ }
+    ensures { λ r. ⌜ EndsImpl (now (sheet .entry)) (types-of (now (table .entry))) (query-of query) (query-of asked) searched (now (found .entry)) (now (answer .entry)) (now (answer .exit)) r ⌝ }
+{
+    match searched {
+        Asked::Refused { number, count } => number,
+        Asked::Found { count, n } => {
+            end_results(sheet, query, asked, n, found, table, out, map, answer)
+        }
+    }
 }
 
 // The last import of the exported type t from the first result of a flex question, if there is one (`has`): 0 where there is no room, else 1 and a type word.

@@ -4,7 +4,7 @@ use mathlib.Core.Path.{_≡_, refl, sym, _∙_, ap, ap₂, subst}
 use mathlib.Core.Bool.{Bool, true}
 use mathlib.Core.List.{List, [], _∷_, map}
 use native.Mathlib.Omega.{arith}
-use lib.ListN.{length, getD, take}
+use lib.ListN.{length, take}
 use lib.Seq.{ext-getD, take-suc, getD-take}
 use Rattle.rules.specs.Lists.{Words}
 use Rattle.rules.specs.Sheet.{at}
@@ -12,7 +12,7 @@ use Rattle.rules.specs.Types.{Ty, Types, ImplType, invert-if}
 use Rattle.rules.specs.Solutions.{AllIn}
 use Rattle.rules.specs.Calls.{impl-query}
 use Rattle.rules.specs.Answer.{word-of-type}
-use Rattle.rules.specs.Transfer.{type-of-word, cell-types, export-types, export-impl-type, import-types, import-impl-type}
+use Rattle.rules.specs.Transfer.{type-of-word, cell-types, export-types, export-impl-type, import-impl-type}
 use Rattle.rules.specs.Neat.{Neat, Brought}
 use Rattle.table.specs.Packing.{types-of, Packed}
 use Rattle.table.specs.Nodes.{types-few, type-word}
