@@ -3,7 +3,7 @@
 ghost use mathlib.Core.Path.{_≡_};
 ghost use Prim.Native.Nat.{_/_, _<_, _≤_};
 ghost use lib.Dec.{ltb};
-ghost use lib.ListN.{length};
+ghost use lib.ListN.{length, drop};
 ghost use Rattle.rules.specs.Limits.{limit·answer, limit·count};
 ghost use Rattle.rules.specs.Layout.{question·type};
 ghost use Rattle.rules.specs.Sheet.{at};
@@ -14,6 +14,7 @@ ghost use Rattle.steps.specs.Asking.{finder-of};
 ghost use Rattle.loading.specs.Nodes.{Fitting};
 ghost use Rattle.loading.specs.Exports.{ExportsType};
 ghost use Rattle.flexing.specs.Asked.{Flexing, flex-question};
+ghost use Rattle.flexing.specs.Kept.{Copied, Settles, Turned};
 use chart::layout;
 use closing::Ended;
 use slots::Asked;
@@ -63,4 +64,75 @@ fn ask_one(
     let tr = words::word(sheet, h);
     let q = loading::type_question(tr, inverted, e);
     finder::question(sheet, sets, ws, f, 0, q, DEPTH, count)
+}
+
+// The words of a slice behind slot 0.
+fn results(ws: &[u32]) -> &[u32]
+    requires { ⌜ 1794 ≤ length (now ws) ⌝ }
+    ensures { λ r. ⌜ now r ≡ drop 1794 (now (ws .entry)) ⌝ }
+{
+    &ws[slots::SLOT..]
+}
+
+// Keeps the first result of a search aside: the words of slot 1, as those of a slot alone.
+fn keep(ws: &[u32], kept: &mut [u32])
+    requires { ⌜ 3588 ≤ length (now ws) ⌝ }
+    requires { ⌜ 1794 ≤ length (now kept) ⌝ }
+    ensures { λ _. ⌜ Copied (now (ws .entry)) (now (kept .exit)) ⌝ }
+{
+    let from = results(ws);
+    words::copy(from, kept, slots::SLOT)
+}
+
+// What a search answered, as the flex call takes it: 18 and 19 count as nothing found.
+fn settle(asked: Asked) -> Turn
+    ensures { λ r. ⌜ Settles asked r ⌝ }
+{
+    match asked {
+        Asked::Found { count, n } => Turn { stop: 0, n, count },
+        Asked::Refused { number, count } => {
+            if number == 18 {
+                return Turn {
+                    stop: 0,
+                    n: 0,
+                    count,
+                };
+            }
+            if number == 19 {
+                return Turn {
+                    stop: 0,
+                    n: 0,
+                    count,
+                };
+            }
+            Turn {
+                stop: number,
+                n: 0,
+                count,
+            }
+        }
+    }
+}
+
+// One of the four questions, with its first result kept aside.
+fn ask_turn(
+    sheet: &[u32],
+    sets: &[u32],
+    question: &[u32],
+    f: Finder,
+    ws: &mut [u32],
+    kept: &mut [u32],
+    h: usize,
+    inverted: bool,
+    count: u32,
+) -> Turn
+    requires { ⌜ Flexing (now sheet) (now sets) (now question) f ⌝ }
+    requires { ⌜ 1013610 ≤ length (now ws) ⌝ }
+    requires { ⌜ 1794 ≤ length (now kept) ⌝ }
+    requires { ⌜ count ≤ 4000000000 ⌝ }
+    ensures { λ r. ⌜ Turned (f .limit) (finder-of (now (sheet .entry)) f) (now (question .entry)) h inverted count (now (kept .exit)) r ⌝ }
+{
+    let asked = ask_one(sheet, sets, question, f, ws, h, inverted, count);
+    keep(ws, kept);
+    settle(asked)
 }
