@@ -88,22 +88,26 @@ none-taken ws a o e = record { results = []; is = e; size = refl; first = λ r r
 module _ (asked : Asked) where
   pub settle-found : (c n : ℕ) → asked ≡ Found c n → Settles asked (record { stop = 0; n = n; count = c })
   unfolding or-nothing
-  settle-found c n e = record { at = λ o out w z. let g = w .found c n e in record {
-    stops = λ x. absurd (x refl);
-    goes = λ x. record { results = g .results; is = ap (λ (p : Out (List Result) × ℕ). or-nothing (p .0)) (g .is); size = g .size; first = λ r rs p. one (g .results) out r rs p (g .stand) };
-    count = sym (ap (λ (p : Out (List Result) × ℕ). p .1) (g .is));
-  } }
+  settle-found c n e = record {
+    at = λ o out w z. let g = w .found c n e in record {
+      stops = λ x. absurd (x refl);
+      goes = λ x. record { results = g .results; is = ap (λ (p : Out (List Result) × ℕ). or-nothing (p .0)) (g .is); size = g .size; first = λ r rs p. one (g .results) out r rs p (g .stand) };
+      count = sym (ap (λ (p : Out (List Result) × ℕ). p .1) (g .is));
+    };
+  }
     where
       one : (fs : List Result) (out : Words) (r : Result) (rs : List Result) → fs ≡ r ∷ rs → Slots out 1794 fs → Slot out 1794 r
       one fs out r rs e s = subst (λ i. Slot out i r) (let z : 1794 + 1794 * 0 ≡ 1794 = omega arith in z) ((subst (λ (l : List Result). Slots out 1794 l) e s) .at 0 (omega arith))
 
   module _ (m c : ℕ) (e : asked ≡ Refused m c) where
     nothing : ((o : Out (List Result)) → o ≡ refused m → or-nothing o ≡ got []) → Settles asked (record { stop = 0; n = 0; count = c })
-    nothing h = record { at = λ o out w z. let g = w .refuses m c e in record {
-      stops = λ x. absurd (x refl);
-      goes = λ x. none-taken out 1794 (or-nothing (o .0)) (h (o .0) (ap (λ (p : Out (List Result) × ℕ). p .0) g));
-      count = sym (ap (λ (p : Out (List Result) × ℕ). p .1) g);
-    } }
+    nothing h = record {
+      at = λ o out w z. let g = w .refuses m c e in record {
+        stops = λ x. absurd (x refl);
+        goes = λ x. none-taken out 1794 (or-nothing (o .0)) (h (o .0) (ap (λ (p : Out (List Result) × ℕ). p .0) g));
+        count = sym (ap (λ (p : Out (List Result) × ℕ). p .1) g);
+      };
+    }
 
     pub settle-18 : m ≡ 18 → Settles asked (record { stop = 0; n = 0; count = c })
     settle-18 h = nothing (λ o x. ap or-nothing x ∙ nothing-18 m h)
@@ -112,11 +116,13 @@ module _ (asked : Asked) where
     settle-19 y h = nothing (λ o x. ap or-nothing x ∙ nothing-19 m y h)
 
     pub settle-stop : m ≢ 18 → m ≢ 19 → Settles asked (record { stop = m; n = 0; count = c })
-    settle-stop y h = record { at = λ o out w z. let g = w .refuses m c e in let k : o .0 ≡ refused m = ap (λ (p : Out (List Result) × ℕ). p .0) g in record {
-      stops = λ x. ap or-nothing k ∙ nothing-else m y h;
-      goes = λ x. absurd (z m k x);
-      count = sym (ap (λ (p : Out (List Result) × ℕ). p .1) g);
-    } }
+    settle-stop y h = record {
+      at = λ o out w z. let g = w .refuses m c e in let k : o .0 ≡ refused m = ap (λ (p : Out (List Result) × ℕ). p .0) g in record {
+        stops = λ x. ap or-nothing k ∙ nothing-else m y h;
+        goes = λ x. absurd (z m k x);
+        count = sym (ap (λ (p : Out (List Result) × ℕ). p .1) g);
+      };
+    }
 
 -- Results of one of the four questions: how many there are, and the first in a slot alone.
 pub record Holding (q : Words) (n : ℕ) (kept : Words) (fs : List Result) : Type 0 where
