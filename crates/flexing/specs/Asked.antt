@@ -1,6 +1,6 @@
 -- What a flex call has behind its checks, and each of its four questions: the exported type, asked of a trait.
-use Prim.Native.Nat.{ℕ, _*_, _+_, _/_, _≤_, _<_}
-use mathlib.Core.Path.{_≡_, refl, sym, _∙_, ap, ap₂, subst}
+use Prim.Native.Nat.{ℕ, _/_, _≤_, _<_}
+use mathlib.Core.Path.{_≡_, refl, sym, _∙_, ap, subst}
 use mathlib.Core.Bool.{Bool, true, false}
 use mathlib.Core.List.{List, [], _∷_, map}
 use mathlib.Core.Option.{none}
@@ -21,7 +21,7 @@ use Rattle.rules.specs.Search as rules
 use Rattle.rules.specs.Neat.{Neat}
 use Rattle.rules.specs.Check.{refusal, flex-checks}
 use Rattle.rules.specs.Calls.{question-types, flex-searches}
-use Rattle.table.specs.Packing.{types-of, Packed, Becomes}
+use Rattle.table.specs.Packing.{types-of, Becomes}
 use Rattle.slots.specs.declared.Asked.{Asked}
 use Rattle.slots.specs.Turns.{Answers, answers-same}
 use Rattle.queries.specs.declared.Query.{Query}

@@ -1,10 +1,9 @@
 -- The four searches in turn: what the call comes to from the results that are there, and the searches that are left.
 -- Results and what is kept of them stand last first.
-use Prim.Native.Nat.{ℕ, _+_, _≤_, _<_, max}
+use Prim.Native.Nat.{ℕ, _≤_, _<_}
 use mathlib.Core.Path.{_≡_, refl, sym, _∙_, ap, subst}
 use mathlib.Core.Bool.{Bool, true, false}
 use mathlib.Core.List.{List, [], _∷_}
-use mathlib.Core.Option.{Option, none, some}
 use mathlib.Core.Logic.{_≢_}
 use native.Mathlib.Omega.{arith}
 use borrow.Author.Tests.{lt-ltb, le-ltb, eq-eqb, ne-eqb}
@@ -16,16 +15,15 @@ use Rattle.rules.specs.Sheet.{at}
 use Rattle.rules.specs.Run.{Run, Out, got, refused, within}
 use Rattle.rules.specs.Search.{Result}
 use Rattle.rules.specs.Search as rules
-use Rattle.rules.specs.Calls.{or-nothing, with-first, onward, in-turn, flex-searches, flex-results, flex-outcome, unset, flex-within}
+use Rattle.rules.specs.Calls.{or-nothing, with-first, onward, in-turn, flex-results, flex-outcome, unset, flex-within}
 use Rattle.steps.specs.declared.Finder.{Finder}
-use Rattle.steps.specs.Asking.{finder-of}
 use Rattle.closing.specs.declared.Ended.{Ended}
 use Rattle.closing.specs.Impl.{Closed}
 use Rattle.closing.specs.FlexEnd.{closed-refused}
 use Rattle.closing.specs.Ended.{Ends}
 use Rattle.flexing.specs.declared.Turn.{Turn}
 use Rattle.flexing.specs.Asked.{Flexing, flex-question, the-searches}
-use Rattle.flexing.specs.Kept.{Holding, Goes, Turned}
+use Rattle.flexing.specs.Kept.{Holding, Turned}
 
 -- Results in front of those of later questions.
 unfoldable pub before : List (List Result) → Out (List (List Result)) → Out (List (List Result))

@@ -14,10 +14,8 @@ use Rattle.rules.specs.Sheet.{at}
 use Rattle.rules.specs.Types.{Ty, Types}
 use Rattle.rules.specs.Transfer.{type-of-word, export-types}
 use Rattle.rules.specs.Search.{Result}
-use Rattle.rules.specs.SearchKeeps.{AllKept}
 use Rattle.rules.specs.Calls.{question-types, flex-results}
 use Rattle.table.specs.Packing.{types-of, Becomes}
-use Rattle.slots.specs.Slots.{Slot}
 use Rattle.loading.specs.Nodes.{Fitting}
 use Rattle.loading.specs.Exports.{ExportsType}
 use Rattle.closing.specs.Impl.{Closed}
