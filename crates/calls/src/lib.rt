@@ -9,7 +9,7 @@ ghost use Rattle.rules.specs.Check.{refusal, impl-checks, flex-checks};
 ghost use Rattle.rules.specs.Calls.{impl-within, flex-within, try-find-impl, find-flex};
 ghost use Rattle.checks.specs.Numbers.{finder};
 ghost use Rattle.closing.specs.Ended.{Ends};
-ghost use Rattle.calls.specs.Outcomes.{ended-of, Calls};
+ghost use Rattle.calls.specs.Outcomes.{ended-of, Calls, packed-of, PackedCalls};
 ghost use Rattle.calls.specs.Behind.{ImplPassed, FlexPassed, Entered, behind, Behind};
 use closing::Ended;
 use steps::Finder;
@@ -194,4 +194,66 @@ pub fn find_flex(
     let n = workspace_words();
     let r = flex_within(sheet, question, d, g, &mut work[..n], answer, count);
     as_outcome(r)
+}
+
+// An outcome as one number: the count × 2^32, and the number, 0 where it is answered.
+fn packed(o: Outcome) -> u64
+    ensures { λ r. ⌜ r ≡ packed-of o ⌝ }
+{
+    match o {
+        Outcome::Answered { count } => count as u64 * 4294967296,
+        Outcome::Refused { number, count } => count as u64 * 4294967296 + number as u64,
+    }
+}
+
+// The C interface (include/vine_finder.h): the impl call.
+#[no_mangle]
+pub extern "C" fn vine_find_impl(
+    sheet: &[u32],
+    question: &[u32],
+    source: u32,
+    generics: u32,
+    basic: u32,
+    answer: &mut [u32],
+    work: &mut [u32],
+    count: u32,
+) -> u64
+    ensures { λ r. ⌜ PackedCalls (try-find-impl limit·steps (finder (now (sheet .entry)) source generics) basic (now (question .entry)) (length (now (answer .entry))) (length (now (work .entry))) count) (now (answer .entry)) (now (answer .exit)) (now (work .entry)) (now (work .exit)) r ⌝ }
+{
+    let o = try_find_impl(
+        sheet,
+        question,
+        source,
+        generics,
+        basic,
+        answer,
+        work,
+        count,
+    );
+    packed(o)
+}
+
+// The flex call.
+#[no_mangle]
+pub extern "C" fn vine_find_flex(
+    sheet: &[u32],
+    question: &[u32],
+    source: u32,
+    generics: u32,
+    answer: &mut [u32],
+    work: &mut [u32],
+    count: u32,
+) -> u64
+    ensures { λ r. ⌜ PackedCalls (find-flex limit·steps (finder (now (sheet .entry)) source generics) (now (question .entry)) (length (now (answer .entry))) (length (now (work .entry))) count) (now (answer .entry)) (now (answer .exit)) (now (work .entry)) (now (work .exit)) r ⌝ }
+{
+    let o = find_flex(sheet, question, source, generics, answer, work, count);
+    packed(o)
+}
+
+// The workspace's words.
+#[no_mangle]
+pub extern "C" fn vine_workspace_words() -> u32
+    ensures { λ r. ⌜ r ≡ limit·workspace ⌝ }
+{
+    1048576
 }
