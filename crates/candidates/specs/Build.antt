@@ -20,6 +20,7 @@ use Rattle.rules.specs.Admission.{EdgeFrom, Reaches, arrived, along, Together, 
 use Rattle.rules.specs.Components.{reaches-on, edge-to, reaches-node, reach-paths, components}
 use Rattle.rules.specs.AdmissionLaws.{visible-iff, open-node, admission}
 use Rattle.words.specs.Buffers.{cleared}
+use Rattle.candidates.specs.Layout.{rows·links, rows·open, rows·reach, rows·sets, rows·end, index·definitions, candidates·length}
 use Rattle.candidates.specs.Bits.{bit, on}
 use Rattle.candidates.specs.Spread.{leads, has, Walk, stay, step, walk-on, walk-same, Comes, Grown, Spread, spread-back, spread-has, Rows, Kin, Kindred, kin-selves, kin-open}
 use Rattle.candidates.specs.Index.{Indexes, IndexedAll, indexes-keep, indexes-same}
@@ -31,14 +32,14 @@ use Rattle.candidates.specs.Sets.{BindingAll, Bound, entry}
 -- The rows are clear, the indexes written, the source's ancestors marked.
 pub record Prepared (s : Words) (src : ℕ) (us : Words) : Type 0 where
   pub indexes : Indexes s us
-  pub clear : (p : ℕ) → 128 ≤ p → p < 18560 → at us p ≡ 0
+  pub clear : (p : ℕ) → rows·links ≤ p → p < rows·end → at us p ≡ 0
   pub before : Words
   pub source : Sourced s src before us
 
-pub prepared : (s : Words) (src : ℕ) (w₀ w₁ w₂ w₃ : Words) → length s ≤ 4096 → w₁ ≡ cleared 18560 w₀ → IndexedAll s w₁ w₂ → Sourced s src w₂ w₃ → Prepared s src w₃
+pub prepared : (s : Words) (src : ℕ) (w₀ w₁ w₂ w₃ : Words) → length s ≤ 4096 → w₁ ≡ cleared rows·end w₀ → IndexedAll s w₁ w₂ → Sourced s src w₂ w₃ → Prepared s src w₃
 prepared s src w₀ w₁ w₂ w₃ l e i m = record {
   indexes = indexes-keep s w₂ w₃ l (λ p h. m .others p (omega arith)) (i .indexes);
-  clear = λ p h k. m .others p h ∙ i .others p k ∙ ap (λ w. at w p) e ∙ cleared-at 18560 w₀ p k;
+  clear = λ p h k. m .others p h ∙ i .others p k ∙ ap (λ w. at w p) e ∙ cleared-at rows·end w₀ p k;
   before = w₂;
   source = m;
 }
@@ -50,32 +51,32 @@ pub record Connected (s : Words) (n : ℕ) (ws us : Words) : Type 0 where
   pub reached : Words
   pub built : Built s (3 * n) ws linked
   pub selves : Selves (3 * n) linked started
-  pub spread : Spread (3 * n) 128 started reached
+  pub spread : Spread (3 * n) rows·links started reached
   pub inner : InnerAll (3 * n) (3 * n) reached us
 
 -- and to the sets.
 pub record Filled (s : Words) (n : ℕ) (ws us : Words) : Type 0 where
   pub entered : Words
   pub bound : Bound s n ws entered
-  pub spread : Spread (3 * n) 4736 entered us
+  pub spread : Spread (3 * n) rows·open entered us
 
-pub rows-for : (n m : ℕ) (s ws us : Words) → m ≤ 4736 → length us ≡ length ws → LinkingAll n s ws → Rows (3 * n) m us
+pub rows-for : (n m : ℕ) (s ws us : Words) → m ≤ rows·open → length us ≡ length ws → LinkingAll n s ws → Rows (3 * n) m us
 rows-for n m s ws us h e l = record { few = omega (arith, l .few); fits = omega (arith, l .few, l .fits) }
 
-pub rows-after : (n : ℕ) (s ws us : Words) → length us ≡ length ws → BindingAll n s ws → Rows (3 * n) 4736 us
+pub rows-after : (n : ℕ) (s ws us : Words) → length us ≡ length ws → BindingAll n s ws → Rows (3 * n) rows·open us
 rows-after n s ws us e l = record { few = omega (arith, l .few); fits = omega (arith, l .few, l .fits) }
 
 -- The indexes, the rows of reach and the sets, for a source.
 pub record Candidates (s : Words) (src : ℕ) (us : Words) : Type 0 where
   pub indexes : Indexes s us
-  pub reach : (x y : ℕ) → x < node-count s → y < node-count s → on us (9344 + 12 * x) y ≡ reach (length (graph s)) (linked (graph s)) x y
-  pub sets : (x i : ℕ) → x < node-count s → i < 384 → on us (13952 + 12 * x) i ≡ is-in i (admitted s src (x ∷ []))
+  pub reach : (x y : ℕ) → x < node-count s → y < node-count s → on us (rows·reach + 12 * x) y ≡ reach (length (graph s)) (linked (graph s)) x y
+  pub sets : (x i : ℕ) → x < node-count s → i < 384 → on us (rows·sets + 12 * x) i ≡ is-in i (admitted s src (x ∷ []))
 
 -- How many definitions the index says.
-pub prepared-count : (s : Words) (src n : ℕ) (ws : Words) → Prepared s src ws → n ≡ at ws 18560 → n ≡ many s header·definitions
+pub prepared-count : (s : Words) (src n : ℕ) (ws : Words) → Prepared s src ws → n ≡ at ws index·definitions → n ≡ many s header·definitions
 prepared-count s src n ws p e = e ∙ p .indexes .definitions .count
 
-pub prepared-links : (s : Words) (src n : ℕ) (ws : Words) → Checked s → length s ≤ 4096 → 34948 ≤ length ws → Prepared s src ws → n ≡ at ws 18560 → LinkingAll n s ws
+pub prepared-links : (s : Words) (src n : ℕ) (ws : Words) → Checked s → length s ≤ 4096 → candidates·length ≤ length ws → Prepared s src ws → n ≡ at ws index·definitions → LinkingAll n s ws
 prepared-links s src n ws c l f p e = record {
   few = omega (arith, prepared-count s src n ws p e, valid s (passed s c .values) .definition-count);
   short = l;
@@ -85,7 +86,7 @@ prepared-links s src n ws c l f p e = record {
 }
 
 -- What the edges' rows leave alone.
-connected-same : (s : Words) (n : ℕ) (ws us : Words) → n ≤ 128 → Connected s n ws us → (p : ℕ) → (p < 128) ⊎ (13952 ≤ p) → at us p ≡ at ws p
+connected-same : (s : Words) (n : ℕ) (ws us : Words) → n ≤ 128 → Connected s n ws us → (p : ℕ) → (p < rows·links) ⊎ (rows·sets ≤ p) → at us p ≡ at ws p
 connected-same s n ws us l c p o =
     c .inner .others p (⊎-elim (λ h. inl (omega (arith, h))) (λ h. inr (omega (arith, h))) o)
     ∙ c .spread .grown .same p (⊎-elim (λ h. inl (omega (arith, h))) (λ h. inr (omega (arith, h))) o)
@@ -106,43 +107,43 @@ or-iff true b = (λ t. inl tt, λ h. tt)
 or-iff false b = (λ t. inr t, λ h. ⊎-elim (λ t. absurd t) (λ t. t) h)
 
 -- Every node begins with itself in the rows of reach,
-pub begun : (s : Words) (n : ℕ) (w₀ w₁ w₂ : Words) → LinkingAll n s w₀ → Built s (3 * n) w₀ w₁ → Selves (3 * n) w₁ w₂ → (x j : ℕ) → x < 3 * n → j < 384 → on w₂ (9344 + 12 * x) j ≡ eqb j x
+pub begun : (s : Words) (n : ℕ) (w₀ w₁ w₂ : Words) → LinkingAll n s w₀ → Built s (3 * n) w₀ w₁ → Selves (3 * n) w₁ w₂ → (x j : ℕ) → x < 3 * n → j < 384 → on w₂ (rows·reach + 12 * x) j ≡ eqb j x
 unfolding on
 begun s n w₀ w₁ w₂ l b c x j hx hj =
     c .selves x j hx hj
-    ∙ ap (λ a. a || eqb j x) (ap (λ w. bit w (j % 32)) (b .others (9344 + 12 * x + j / 32) (inr (omega arith)) ∙ l .clear (9344 + 12 * x + j / 32) (omega arith) (omega (arith, l .few))) ∙ bit-zero (j % 32))
+    ∙ ap (λ a. a || eqb j x) (ap (λ w. bit w (j % 32)) (b .others (rows·reach + 12 * x + j / 32) (inr (omega arith)) ∙ l .clear (rows·reach + 12 * x + j / 32) (omega arith) (omega (arith, l .few))) ∙ bit-zero (j % 32))
 
-pub kin-begun : (s : Words) (n : ℕ) (w₀ w₁ w₂ : Words) → LinkingAll n s w₀ → Built s (3 * n) w₀ w₁ → Selves (3 * n) w₁ w₂ → Kin (3 * n) 128 w₂
+pub kin-begun : (s : Words) (n : ℕ) (w₀ w₁ w₂ : Words) → LinkingAll n s w₀ → Built s (3 * n) w₀ w₁ → Selves (3 * n) w₁ w₂ → Kin (3 * n) rows·links w₂
 kin-begun s n w₀ w₁ w₂ l b c = kin-selves (3 * n) w₂ (omega (arith, l .few)) (begun s n w₀ w₁ w₂ l b c)
 
 -- and in the end the edges between nodes that reach each other are open.
-module _ (n : ℕ) (w₀ w₁ w₂ : Words) (few : n ≤ 384) (k : Kin n 128 w₀) (own : (x j : ℕ) → x < n → j < 384 → on w₀ (9344 + 12 * x) j ≡ eqb j x) (p : Spread n 128 w₀ w₁) (i : InnerAll n n w₁ w₂) where
-  reach-walk : (x y : ℕ) → x < n → y < n → T (on w₁ (9344 + 12 * x) y) → T (on w₁ (9344 + 12 * y) x) → Walk (leads 128 w₀) n x y
-  reach-walk x y hx hy t u = walk-same 128 w₀ w₁ few (p .grown .same) hx (k .at w₁ (p .grown) x y hx hy t u)
+module _ (n : ℕ) (w₀ w₁ w₂ : Words) (few : n ≤ 384) (k : Kin n rows·links w₀) (own : (x j : ℕ) → x < n → j < 384 → on w₀ (rows·reach + 12 * x) j ≡ eqb j x) (p : Spread n rows·links w₀ w₁) (i : InnerAll n n w₁ w₂) where
+  reach-walk : (x y : ℕ) → x < n → y < n → T (on w₁ (rows·reach + 12 * x) y) → T (on w₁ (rows·reach + 12 * y) x) → Walk (leads rows·links w₀) n x y
+  reach-walk x y hx hy t u = walk-same rows·links w₀ w₁ few (p .grown .same) hx (k .at w₁ (p .grown) x y hx hy t u)
 
-  self-reached : (x : ℕ) → x < n → T (has 128 w₁ x x)
+  self-reached : (x : ℕ) → x < n → T (has rows·links w₁ x x)
   unfolding has
   self-reached x hx = p .grown .keeps x x hx (omega arith) (subst T (sym (own x x hx (omega arith))) (eqb-refl x))
 
-  open-step : (x y : ℕ) → x < n → y < n → T (leads 128 w₀ x y) → T (has 128 w₁ y x) → T (leads 4736 w₂ x y)
+  open-step : (x y : ℕ) → x < n → y < n → T (leads rows·links w₀ x y) → T (has rows·links w₁ y x) → T (leads rows·open w₂ x y)
   unfolding leads has on
   open-step x y hx hy t u =
-      subst T (sym (i .done x y hx hy)) (or-iff (on w₁ (4736 + 12 * x) y) (on w₁ (128 + 12 * x) y && on w₁ (9344 + 12 * y) x) .1 (inr (and-iff (on w₁ (128 + 12 * x) y) (on w₁ (9344 + 12 * y) x) .1 (
-        subst T (sym (ap (λ w. bit w (y % 32)) (p .grown .same (128 + 12 * x + y / 32) (inl (omega arith))))) t,
+      subst T (sym (i .done x y hx hy)) (or-iff (on w₁ (rows·open + 12 * x) y) (on w₁ (rows·links + 12 * x) y && on w₁ (rows·reach + 12 * y) x) .1 (inr (and-iff (on w₁ (rows·links + 12 * x) y) (on w₁ (rows·reach + 12 * y) x) .1 (
+        subst T (sym (ap (λ w. bit w (y % 32)) (p .grown .same (rows·links + 12 * x + y / 32) (inl (omega arith))))) t,
         u,
       ))))
 
-  open-walk : {x z : ℕ} → x < n → Walk (leads 128 w₀) n x z → Walk (leads 128 w₀) n z x → Walk (leads 4736 w₂) n x z
+  open-walk : {x z : ℕ} → x < n → Walk (leads rows·links w₀) n x z → Walk (leads rows·links w₀) n z x → Walk (leads rows·open w₂) n x z
   open-walk hx stay v = stay
   open-walk hx (step {x} {y} t hy q) v =
-      step (open-step x y hx hy t (spread-back n 128 w₀ w₁ few p x (omega arith) hy (walk-on q v) (self-reached x hx))) hy (open-walk hy q (walk-on v (step t hy stay)))
+      step (open-step x y hx hy t (spread-back n rows·links w₀ w₁ few p x (omega arith) hy (walk-on q v) (self-reached x hx))) hy (open-walk hy q (walk-on v (step t hy stay)))
 
   kindred : Kindred n w₂
   unfolding on
   kindred = record {
     at = λ x z hx hz t u.
-        let a = subst T (ap (λ w. bit w (z % 32)) (i .others (9344 + 12 * x + z / 32) (inr (omega arith)))) t in
-        let b = subst T (ap (λ w. bit w (x % 32)) (i .others (9344 + 12 * z + x / 32) (inr (omega arith)))) u in
+        let a = subst T (ap (λ w. bit w (z % 32)) (i .others (rows·reach + 12 * x + z / 32) (inr (omega arith)))) t in
+        let b = subst T (ap (λ w. bit w (x % 32)) (i .others (rows·reach + 12 * z + x / 32) (inr (omega arith)))) u in
         open-walk hx (reach-walk x z hx hz a b) (reach-walk z x hz hx b a);
   }
 
@@ -150,7 +151,7 @@ pub connected-kin : (s : Words) (n : ℕ) (ws us : Words) → LinkingAll n s ws 
 connected-kin s n ws us l c =
     kindred (3 * n) (c .started) (c .reached) us (omega (arith, l .few)) (kin-begun s n ws (c .linked) (c .started) l (c .built) (c .selves)) (begun s n ws (c .linked) (c .started) l (c .built) (c .selves)) (c .spread) (c .inner)
 
-pub kin-bound : (s : Words) (n : ℕ) (ws us : Words) → BindingAll n s ws → Kindred (3 * n) ws → Bound s n ws us → Kin (3 * n) 4736 us
+pub kin-bound : (s : Words) (n : ℕ) (ws us : Words) → BindingAll n s ws → Kindred (3 * n) ws → Bound s n ws us → Kin (3 * n) rows·open us
 kin-bound s n ws us l k b = kin-open (3 * n) ws us (omega (arith, l .few)) (b .others) k
 
 -- An edge leads from x to y; one whose vis a test lets in.
@@ -224,24 +225,24 @@ module _ (s : Words) (src : ℕ) (w₀ w₁ w₂ : Words) (short : length s ≤ 
   above {x} h = subst (λ n. x < n) (sym nodes) h
 
   -- The rows of links are the edges,
-  links : (x y : ℕ) → x < N → y < 384 → leads 128 (k .started) x y ≡ to (edges s x) y
+  links : (x y : ℕ) → x < N → y < 384 → leads rows·links (k .started) x y ≡ to (edges s x) y
   unfolding leads on
-  links x y hx hy = ap (λ w. bit w (y % 32)) (k .selves .others (128 + 12 * x + y / 32) (inl (omega (arith, few)))) ∙ k .built .links x y hx hy
+  links x y hx hy = ap (λ w. bit w (y % 32)) (k .selves .others (rows·links + 12 * x + y / 32) (inl (omega (arith, few)))) ∙ k .built .links x y hx hy
 
   -- and every node begins with itself.
-  itself : (x j : ℕ) → x < N → j < 384 → has 128 (k .started) x j ≡ eqb j x
+  itself : (x j : ℕ) → x < N → j < 384 → has rows·links (k .started) x j ≡ eqb j x
   unfolding has on
   itself x j hx hj =
       k .selves .selves x j hx hj
-      ∙ ap (λ b. b || eqb j x) (ap (λ w. bit w (j % 32)) (k .built .others (9344 + 12 * x + j / 32) (inr (omega arith)) ∙ p .clear (9344 + 12 * x + j / 32) (omega arith) (omega (arith, few))) ∙ bit-zero (j % 32))
+      ∙ ap (λ b. b || eqb j x) (ap (λ w. bit w (j % 32)) (k .built .others (rows·reach + 12 * x + j / 32) (inr (omega arith)) ∙ p .clear (rows·reach + 12 * x + j / 32) (omega arith) (omega (arith, few))) ∙ bit-zero (j % 32))
 
-  walk-reaches : {x y : ℕ} → x < N → Walk (leads 128 (k .started)) N x y → Reaches s x y
+  walk-reaches : {x y : ℕ} → x < N → Walk (leads rows·links (k .started)) N x y → Reaches s x y
   walk-reaches h stay = arrived
   walk-reaches h (step {x} {y} t l q) =
       let e = to-edge s x y .0 (subst T (links x y h (omega (arith, few))) t) in
       reaches-on (along arrived (e .1)) (walk-reaches l q)
 
-  reaches-walk : {x y : ℕ} → x < N → Reaches s x y → Walk (leads 128 (k .started)) N x y
+  reaches-walk : {x y : ℕ} → x < N → Reaches s x y → Walk (leads rows·links (k .started)) N x y
   reaches-walk h arrived = stay
   reaches-walk h (along {y} {v} {z} q e) =
       let l = above (reaches-node s c (below h) q) in
@@ -249,9 +250,9 @@ module _ (s : Words) (src : ℕ) (w₀ w₁ w₂ : Words) (short : length s ≤ 
       walk-on (reaches-walk h q) (step (subst T (sym (links y z l (omega (arith, few)))) (to-edge s y z .1 (v, e))) m stay)
 
   -- What is spread from there is reach.
-  reach-iff : (x y : ℕ) → x < N → y < N → T (has 128 (k .reached) x y) ↔ Reaches s x y
+  reach-iff : (x y : ℕ) → x < N → y < N → T (has rows·links (k .reached) x y) ↔ Reaches s x y
   reach-iff x y hx hy =
-      let r = spread-has N 128 (k .started) (k .reached) few (k .spread) x y hx (omega (arith, few)) in (
+      let r = spread-has N rows·links (k .started) (k .reached) few (k .spread) x y hx (omega (arith, few)) in (
         λ t. let m = r .0 t in subst (Reaches s x) (sym (eqb→eq y (m .end) (subst T (itself (m .end) y (m .below) (omega (arith, few))) (m .there)))) (walk-reaches hx (m .walk)),
         λ q. r .1 (record { end = y; below = hy; walk = reaches-walk hx q; there = subst T (sym (itself y y hy (omega (arith, few)))) (eqb-refl y) }),
       )
@@ -261,24 +262,24 @@ module _ (s : Words) (src : ℕ) (w₀ w₁ w₂ : Words) (short : length s ≤ 
   sees v = subst (λ b. T b ↔ LetsIn s src v) (sym (seen-is s src (p .before) w₀ c hs (p .source) v)) (visible-iff s c src hs v)
 
   -- The edges that the source may take: those within a component, and those whose vis lets it in.
-  taken-iff : (x y : ℕ) → x < N → y < N → T (leads 4736 (f .entered) x y) ↔ ((v : ℕ) × EdgeFrom s x v y × (Together s x y ⊎ LetsIn s src v))
+  taken-iff : (x y : ℕ) → x < N → y < N → T (leads rows·open (f .entered) x y) ↔ ((v : ℕ) × EdgeFrom s x v y × (Together s x y ⊎ LetsIn s src v))
   unfolding leads has on
   taken-iff x y hx hy = subst (λ b. T b ↔ ((v : ℕ) × EdgeFrom s x v y × (Together s x y ⊎ LetsIn s src v))) (sym row) (there, back)
     where
-      opens : on (k .reached) (4736 + 12 * x) y ≡ lets (seen w₀) (edges s x) y
+      opens : on (k .reached) (rows·open + 12 * x) y ≡ lets (seen w₀) (edges s x) y
       opens =
-          ap (λ w. bit w (y % 32)) (k .spread .grown .same (4736 + 12 * x + y / 32) (inl (omega (arith, few))) ∙ k .selves .others (4736 + 12 * x + y / 32) (inl (omega (arith, few))))
+          ap (λ w. bit w (y % 32)) (k .spread .grown .same (rows·open + 12 * x + y / 32) (inl (omega (arith, few))) ∙ k .selves .others (rows·open + 12 * x + y / 32) (inl (omega (arith, few))))
           ∙ k .built .opens x y hx (omega (arith, few))
 
-      linked : on (k .reached) (128 + 12 * x) y ≡ to (edges s x) y
-      linked = ap (λ w. bit w (y % 32)) (k .spread .grown .same (128 + 12 * x + y / 32) (inl (omega (arith, few)))) ∙ links x y hx (omega (arith, few))
+      linked : on (k .reached) (rows·links + 12 * x) y ≡ to (edges s x) y
+      linked = ap (λ w. bit w (y % 32)) (k .spread .grown .same (rows·links + 12 * x + y / 32) (inl (omega (arith, few)))) ∙ links x y hx (omega (arith, few))
 
       back-row : Bool
-      back-row = on (k .reached) (9344 + 12 * y) x
+      back-row = on (k .reached) (rows·reach + 12 * y) x
 
-      row : on (f .entered) (4736 + 12 * x) y ≡ (lets (seen w₀) (edges s x) y || (to (edges s x) y && back-row))
+      row : on (f .entered) (rows·open + 12 * x) y ≡ (lets (seen w₀) (edges s x) y || (to (edges s x) y && back-row))
       row =
-          ap (λ w. bit w (y % 32)) (f .bound .others (4736 + 12 * x + y / 32) (inl (omega (arith, few)))) ∙ k .inner .done x y hx hy
+          ap (λ w. bit w (y % 32)) (f .bound .others (rows·open + 12 * x + y / 32) (inl (omega (arith, few)))) ∙ k .inner .done x y hx hy
           ∙ ap₂ (λ a b. a || (b && back-row)) opens linked
 
       there : T (lets (seen w₀) (edges s x) y || (to (edges s x) y && back-row)) → (v : ℕ) × EdgeFrom s x v y × (Together s x y ⊎ LetsIn s src v)
@@ -299,7 +300,7 @@ module _ (s : Words) (src : ℕ) (w₀ w₁ w₂ : Words) (short : length s ≤ 
           go (inr g) = inl (lets-edge s (seen w₀) x y .1 (r .0, r .1, sees (r .0) .1 g))
 
   -- What a node binds itself.
-  bound-iff : (x i : ℕ) → x < N → i < 384 → T (has 4736 (f .entered) x i) ↔ (T (may-enter s i) × Binds s src x i)
+  bound-iff : (x i : ℕ) → x < N → i < 384 → T (has rows·open (f .entered) x i) ↔ (T (may-enter s i) × Binds s src x i)
   unfolding has entry
   bound-iff x i hx hi = subst (λ b. T b ↔ (T (may-enter s i) × Binds s src x i)) (sym (f .bound .sets x i hx hi)) (there, back)
     where
@@ -352,11 +353,11 @@ module _ (s : Words) (src : ℕ) (w₀ w₁ w₂ : Words) (short : length s ≤ 
             ),
           )
 
-  walk-path : {x y : ℕ} → x < N → Walk (leads 4736 (f .entered)) N x y → OpenPath s src x y
+  walk-path : {x y : ℕ} → x < N → Walk (leads rows·open (f .entered)) N x y → OpenPath s src x y
   walk-path h stay = stays
   walk-path h (step {x} {y} t l q) = let e = taken-iff x y h l .0 t in path-on (onward stays (e .1) (e .2)) (walk-path l q)
 
-  path-walk : {x y : ℕ} → x < N → OpenPath s src x y → Walk (leads 4736 (f .entered)) N x y
+  path-walk : {x y : ℕ} → x < N → OpenPath s src x y → Walk (leads rows·open (f .entered)) N x y
   path-walk h stays = stay
   path-walk h (onward {y} {v} {z} q e w) =
       let l = above (open-node s c src hs (below h) q) in
@@ -364,20 +365,20 @@ module _ (s : Words) (src : ℕ) (w₀ w₁ w₂ : Words) (short : length s ≤ 
       walk-on (path-walk h q) (step (taken-iff y z l m .1 (v, e, w)) m stay)
 
   -- The sets hold what the sets of the rules admit.
-  admits-iff : (x i : ℕ) → x < N → i < 384 → T (has 4736 w₂ x i) ↔ Admits s src x i
+  admits-iff : (x i : ℕ) → x < N → i < 384 → T (has rows·open w₂ x i) ↔ Admits s src x i
   admits-iff x i hx hi = (there, back)
     where
-      r : T (has 4736 w₂ x i) ↔ Comes N 4736 (f .entered) x i
-      r = spread-has N 4736 (f .entered) w₂ few (f .spread) x i hx hi
+      r : T (has rows·open w₂ x i) ↔ Comes N rows·open (f .entered) x i
+      r = spread-has N rows·open (f .entered) w₂ few (f .spread) x i hx hi
 
-      there : T (has 4736 w₂ x i) → Admits s src x i
+      there : T (has rows·open w₂ x i) → Admits s src x i
       there t =
           let m = r .0 t in
           let b = bound-iff (m .end) i (m .below) hi .0 (m .there) in
           let e = enter-iff s i .0 (b .0) in
           record { end = m .end; path = walk-path hx (m .walk); binds = b .1; not-manual = e .0; not-unsafe = e .1; not-error = e .2 }
 
-      back : Admits s src x i → T (has 4736 w₂ x i)
+      back : Admits s src x i → T (has rows·open w₂ x i)
       back a =
           let l = above (open-node s c src hs (below hx) (a .path)) in
           r .1 (record {
@@ -396,39 +397,39 @@ module _ (s : Words) (src : ℕ) (w₀ w₁ w₂ : Words) (short : length s ≤ 
           (λ q h. f .spread .grown .same q (inr (omega (arith, few))) ∙ f .bound .others q (inr h) ∙ connected-same s (many s header·definitions) w₀ w₁ (omega (arith, few)) k q (inr (omega arith)))
           (p .indexes)
 
-      reach-row : (x y : ℕ) → x < node-count s → y < node-count s → on w₂ (9344 + 12 * x) y ≡ reach (length (graph s)) (linked (graph s)) x y
+      reach-row : (x y : ℕ) → x < node-count s → y < node-count s → on w₂ (rows·reach + 12 * x) y ≡ reach (length (graph s)) (linked (graph s)) x y
       reach-row x y hx hy =
           ap (λ w. bit w (y % 32))
-          (f .spread .grown .same (9344 + 12 * x + y / 32) (inl (omega (arith, few, above hx, above hy))) ∙ f .bound .others (9344 + 12 * x + y / 32) (inl (omega (arith, few, above hx, above hy)))
-          ∙ k .inner .others (9344 + 12 * x + y / 32) (inr (omega arith)))
-          ∙ same-test (has 128 (k .reached) x y) (reach (length (graph s)) (linked (graph s)) x y)
+          (f .spread .grown .same (rows·reach + 12 * x + y / 32) (inl (omega (arith, few, above hx, above hy))) ∙ f .bound .others (rows·reach + 12 * x + y / 32) (inl (omega (arith, few, above hx, above hy)))
+          ∙ k .inner .others (rows·reach + 12 * x + y / 32) (inr (omega arith)))
+          ∙ same-test (has rows·links (k .reached) x y) (reach (length (graph s)) (linked (graph s)) x y)
           (λ t. reach-paths s c x y hx .1 (reach-iff x y (above hx) (above hy) .0 t), λ t. reach-iff x y (above hx) (above hy) .1 (reach-paths s c x y hx .0 t))
 
-      set-row : (x i : ℕ) → x < node-count s → i < 384 → on w₂ (13952 + 12 * x) i ≡ is-in i (admitted s src (x ∷ []))
-      set-row x i hx hi = same-test (has 4736 w₂ x i) (is-in i (admitted s src (x ∷ []))) (
+      set-row : (x i : ℕ) → x < node-count s → i < 384 → on w₂ (rows·sets + 12 * x) i ≡ is-in i (admitted s src (x ∷ []))
+      set-row x i hx hi = same-test (has rows·open w₂ x i) (is-in i (admitted s src (x ∷ []))) (
         λ t. is-in-in i (admitted s src (x ∷ [])) .1 (admission s c src hs (x ∷ []) i .1 (x, first, hx, admits-iff x i (above hx) hi .0 t)),
         λ t. let r = admission s c src hs (x ∷ []) i .0 (is-in-in i (admitted s src (x ∷ [])) .0 t) in admits-iff x i (above hx) hi .1 (⊎-elim (λ e. subst (λ z. Admits s src z i) e (r .3)) (λ q. absurd (in-empty q)) (in-cases (r .1))),
       )
 
-pub build-done : (s : Words) (src n : ℕ) (w₀ w₁ w₂ : Words) → length s ≤ 4096 → Checked s → src < many s header·definitions → n ≡ at w₀ 18560 → Prepared s src w₀ → Connected s n w₀ w₁ → Filled s n w₁ w₂ → Candidates s src w₂
+pub build-done : (s : Words) (src n : ℕ) (w₀ w₁ w₂ : Words) → length s ≤ 4096 → Checked s → src < many s header·definitions → n ≡ at w₀ index·definitions → Prepared s src w₀ → Connected s n w₀ w₁ → Filled s n w₁ w₂ → Candidates s src w₂
 build-done s src n w₀ w₁ w₂ l c h e p k f =
     let q = prepared-count s src n w₀ p e in
     candidates-built s src w₀ w₁ w₂ l c h p (subst (λ m. Connected s m w₀ w₁) q k) (subst (λ m. Filled s m w₁ w₂) q f)
 
 -- Tarjan's components, of what is computed: two nodes have each other's bit in the rows of reach exactly if they share a component,
-pub component-rows : (s : Words) (src : ℕ) (us : Words) → Candidates s src us → (x y : ℕ) → x < node-count s → y < node-count s → (on us (9344 + 12 * x) y && on us (9344 + 12 * y) x) ≡ same-component (graph s) x y
+pub component-rows : (s : Words) (src : ℕ) (us : Words) → Candidates s src us → (x y : ℕ) → x < node-count s → y < node-count s → (on us (rows·reach + 12 * x) y && on us (rows·reach + 12 * y) x) ≡ same-component (graph s) x y
 unfolding same-component
 component-rows s src us k x y hx hy = ap₂ (λ a b. a && b) (k .reach x y hx hy) (k .reach y x hy hx)
 
 -- exactly if each reaches the other along edges.
-pub component-paths : (s : Words) (src : ℕ) (us : Words) → Checked s → Candidates s src us → (x y : ℕ) → x < node-count s → y < node-count s → T (on us (9344 + 12 * x) y && on us (9344 + 12 * y) x) ↔ Together s x y
+pub component-paths : (s : Words) (src : ℕ) (us : Words) → Checked s → Candidates s src us → (x y : ℕ) → x < node-count s → y < node-count s → T (on us (rows·reach + 12 * x) y && on us (rows·reach + 12 * y) x) ↔ Together s x y
 component-paths s src us c k x y hx hy = subst (λ b. T b ↔ Together s x y) (sym (component-rows s src us k x y hx hy)) (components s c x y hx hy)
 
 -- What is built stands as long as the words that hold it do.
-pub candidates-same : (s : Words) (src : ℕ) (us vs : Words) → length s ≤ 4096 → Checked s → ((p : ℕ) → p < 34948 → at vs p ≡ at us p) → Candidates s src us → Candidates s src vs
+pub candidates-same : (s : Words) (src : ℕ) (us vs : Words) → length s ≤ 4096 → Checked s → ((p : ℕ) → p < candidates·length → at vs p ≡ at us p) → Candidates s src us → Candidates s src vs
 unfolding on node-count
 candidates-same s src us vs l c same k = record {
   indexes = indexes-same s us vs l (λ p h b. same p b) (k .indexes);
-  reach = λ x y hx hy. ap (λ w. bit w (y % 32)) (same (9344 + 12 * x + y / 32) (omega (arith, valid s (passed s c .values) .definition-count))) ∙ k .reach x y hx hy;
-  sets = λ x i hx hi. ap (λ w. bit w (i % 32)) (same (13952 + 12 * x + i / 32) (omega (arith, valid s (passed s c .values) .definition-count))) ∙ k .sets x i hx hi;
+  reach = λ x y hx hy. ap (λ w. bit w (y % 32)) (same (rows·reach + 12 * x + y / 32) (omega (arith, valid s (passed s c .values) .definition-count))) ∙ k .reach x y hx hy;
+  sets = λ x i hx hi. ap (λ w. bit w (i % 32)) (same (rows·sets + 12 * x + i / 32) (omega (arith, valid s (passed s c .values) .definition-count))) ∙ k .sets x i hx hi;
 }

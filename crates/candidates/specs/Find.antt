@@ -21,6 +21,7 @@ use Rattle.rules.specs.CheckedSheet.{valid}
 use Rattle.rules.specs.Candidates.{node-count, admitted, get-candidates}
 use Rattle.rules.specs.Admission.{Admits, SomeAdmits}
 use Rattle.rules.specs.AdmissionLaws.{admits-in, admission, candidates, admitted-rises, candidates-rise}
+use Rattle.candidates.specs.Layout.{rows·sets, index·impls}
 use Rattle.candidates.specs.Bits.{on}
 use Rattle.candidates.specs.Index.{Indexes}
 use Rattle.candidates.specs.Build.{Candidates}
@@ -74,7 +75,7 @@ module _ (f : ℕ → Bool) (from n r : ℕ) (xs : Words) (rising : Rising xs) (
 
 -- The set of some node among these has impl i.
 unfoldable pub in-some : Words → Words → ℕ → Bool
-in-some ws nodes i = any (λ n. on ws (13952 + 12 * n) i) nodes
+in-some ws nodes i = any (λ n. on ws (rows·sets + 12 * n) i) nodes
 
 -- Impl i is of a trait, and basic or not as asked.
 unfoldable pub same : Bool → Bool → Bool
@@ -104,7 +105,7 @@ pub record Standing (s : Words) (src : ℕ) (ws nodes : Words) : Type 0 where
 few-impls : (s : Words) → Checked s → many s header·impls ≤ 384
 few-impls s c = omega (arith, valid s (passed s c .values) .impl-count)
 
-set-admits : (s : Words) (src : ℕ) (ws : Words) → Checked s → src < many s header·definitions → Candidates s src ws → (n i : ℕ) → n < node-count s → i < many s header·impls → T (on ws (13952 + 12 * n) i) ↔ Admits s src n i
+set-admits : (s : Words) (src : ℕ) (ws : Words) → Checked s → src < many s header·definitions → Candidates s src ws → (n i : ℕ) → n < node-count s → i < many s header·impls → T (on ws (rows·sets + 12 * n) i) ↔ Admits s src n i
 set-admits s src ws c h k n i hn hi = subst (λ b. T b ↔ Admits s src n i) (sym (k .sets n i hn (omega (arith, few-impls s c)))) (there, back)
   where
     there : T (is-in i (admitted s src (n ∷ []))) → Admits s src n i
@@ -117,13 +118,13 @@ some-admits : (s : Words) (src : ℕ) (ws nodes : Words) → Standing s src ws n
 unfolding in-some
 some-admits s src ws nodes d i hi = (there, back)
   where
-    a : T (any (λ n. on ws (13952 + 12 * n) i) nodes) ↔ ((n : ℕ) × In n nodes × T (on ws (13952 + 12 * n) i))
-    a = any-in (λ n. on ws (13952 + 12 * n) i) nodes
+    a : T (any (λ n. on ws (rows·sets + 12 * n) i) nodes) ↔ ((n : ℕ) × In n nodes × T (on ws (rows·sets + 12 * n) i))
+    a = any-in (λ n. on ws (rows·sets + 12 * n) i) nodes
 
-    there : T (any (λ n. on ws (13952 + 12 * n) i) nodes) → SomeAdmits s src nodes i
+    there : T (any (λ n. on ws (rows·sets + 12 * n) i) nodes) → SomeAdmits s src nodes i
     there t = let r = a .0 t in let l = d .nodes-in (r .0) (r .1) in (r .0, r .1, l, set-admits s src ws (d .checked) (d .source) (d .sets) (r .0) i l hi .0 (r .2))
 
-    back : SomeAdmits s src nodes i → T (any (λ n. on ws (13952 + 12 * n) i) nodes)
+    back : SomeAdmits s src nodes i → T (any (λ n. on ws (rows·sets + 12 * n) i) nodes)
     back r = a .1 (r .0, r .1, set-admits s src ws (d .checked) (d .source) (d .sets) (r .0) i (r .2) hi .1 (r .3))
 
 -- Candidates are the impls that pass the test.
@@ -171,7 +172,7 @@ pub record NextAdmitted (s ws : Words) (node from r : ℕ) : Type 0 where
   pub found : (src : ℕ) → Standing s src ws (node ∷ []) → r < many s header·impls → from-on from (admitted s src (node ∷ [])) ≡ r ∷ from-on (r + 1) (admitted s src (node ∷ []))
   pub none : (src : ℕ) → Standing s src ws (node ∷ []) → many s header·impls ≤ r → from-on from (admitted s src (node ∷ [])) ≡ []
 
-admitted-are : (s : Words) (src : ℕ) (ws : Words) (node : ℕ) → Standing s src ws (node ∷ []) → (i : ℕ) → In i (admitted s src (node ∷ [])) ↔ ((i < many s header·impls) × T (on ws (13952 + 12 * node) i))
+admitted-are : (s : Words) (src : ℕ) (ws : Words) (node : ℕ) → Standing s src ws (node ∷ []) → (i : ℕ) → In i (admitted s src (node ∷ [])) ↔ ((i < many s header·impls) × T (on ws (rows·sets + 12 * node) i))
 admitted-are s src ws node d i = (there, back)
   where
     a : In i (admitted s src (node ∷ [])) ↔ SomeAdmits s src (node ∷ []) i
@@ -180,20 +181,20 @@ admitted-are s src ws node d i = (there, back)
     l : node < node-count s
     l = d .nodes-in node first
 
-    there : In i (admitted s src (node ∷ [])) → (i < many s header·impls) × T (on ws (13952 + 12 * node) i)
+    there : In i (admitted s src (node ∷ [])) → (i < many s header·impls) × T (on ws (rows·sets + 12 * node) i)
     there m =
         let q = a .0 m in
         let h = admits-in s (d .checked) src (d .source) (q .0) i (q .2) (q .3) in
         (h, set-admits s src ws (d .checked) (d .source) (d .sets) node i l h .1 (⊎-elim (λ e. subst (λ z. Admits s src z i) e (q .3)) (λ n. absurd (in-empty n)) (in-cases (q .1))))
 
-    back : (i < many s header·impls) × T (on ws (13952 + 12 * node) i) → In i (admitted s src (node ∷ []))
+    back : (i < many s header·impls) × T (on ws (rows·sets + 12 * node) i) → In i (admitted s src (node ∷ []))
     back m = a .1 (node, first, l, set-admits s src ws (d .checked) (d .source) (d .sets) node i l (m .0) .0 (m .1))
 
-next-admitted : (s ws : Words) (node from r : ℕ) → First (λ i. on ws (13952 + 12 * node) i) from (many s header·impls) r → NextAdmitted s ws node from r
+next-admitted : (s ws : Words) (node from r : ℕ) → First (λ i. on ws (rows·sets + 12 * node) i) from (many s header·impls) r → NextAdmitted s ws node from r
 next-admitted s ws node from r g = record {
   up = g .up;
-  found = λ src d. next-found (λ i. on ws (13952 + 12 * node) i) from (many s header·impls) r (admitted s src (node ∷ [])) (admitted-rises s src (node ∷ [])) (admitted-are s src ws node d) g;
-  none = λ src d. next-none (λ i. on ws (13952 + 12 * node) i) from (many s header·impls) r (admitted s src (node ∷ [])) (admitted-rises s src (node ∷ [])) (admitted-are s src ws node d) g;
+  found = λ src d. next-found (λ i. on ws (rows·sets + 12 * node) i) from (many s header·impls) r (admitted s src (node ∷ [])) (admitted-rises s src (node ∷ [])) (admitted-are s src ws node d) g;
+  none = λ src d. next-none (λ i. on ws (rows·sets + 12 * node) i) from (many s header·impls) r (admitted s src (node ∷ [])) (admitted-rises s src (node ∷ [])) (admitted-are s src ws node d) g;
 }
 
 -- What is left of the nodes decides.
@@ -203,19 +204,19 @@ pub record Left (ws nodes : Words) (i k : ℕ) : Type 0 where
 pub left-start : (ws nodes : Words) (i : ℕ) → Left ws nodes i 0
 left-start ws nodes i = record { same-as = refl }
 
-some-cons : (ws : Words) (n : ℕ) (nodes : Words) (i : ℕ) (b : Bool) → on ws (13952 + 12 * n) i ≡ b → in-some ws (n ∷ nodes) i ≡ (b || in-some ws nodes i)
+some-cons : (ws : Words) (n : ℕ) (nodes : Words) (i : ℕ) (b : Bool) → on ws (rows·sets + 12 * n) i ≡ b → in-some ws (n ∷ nodes) i ≡ (b || in-some ws nodes i)
 unfolding in-some any
 some-cons ws n nodes i true e = rw (e, in-some, any) refl
 some-cons ws n nodes i false e = rw (e, in-some, any) refl
 
-pub left-found : (ws nodes : Words) (i k n : ℕ) (r : Bool) → k < length nodes → n ≡ getD nodes k 0 → r ≡ on ws (13952 + 12 * n) i → r ≡ true → Left ws nodes i k → true ≡ in-some ws nodes i
+pub left-found : (ws nodes : Words) (i k n : ℕ) (r : Bool) → k < length nodes → n ≡ getD nodes k 0 → r ≡ on ws (rows·sets + 12 * n) i → r ≡ true → Left ws nodes i k → true ≡ in-some ws nodes i
 left-found ws nodes i k n r h e f g l =
-    sym (l .same-as ∙ ap (λ z. in-some ws z i) (drop-cons nodes k 0 h) ∙ some-cons ws (getD nodes k 0) (drop (suc k) nodes) i true (ap (λ z. on ws (13952 + 12 * z) i) (sym e) ∙ sym f ∙ g))
+    sym (l .same-as ∙ ap (λ z. in-some ws z i) (drop-cons nodes k 0 h) ∙ some-cons ws (getD nodes k 0) (drop (suc k) nodes) i true (ap (λ z. on ws (rows·sets + 12 * z) i) (sym e) ∙ sym f ∙ g))
 
-pub left-on : (ws nodes : Words) (i k n : ℕ) (r : Bool) → k < length nodes → n ≡ getD nodes k 0 → r ≡ on ws (13952 + 12 * n) i → r ≡ false → Left ws nodes i k → Left ws nodes i (k + 1)
+pub left-on : (ws nodes : Words) (i k n : ℕ) (r : Bool) → k < length nodes → n ≡ getD nodes k 0 → r ≡ on ws (rows·sets + 12 * n) i → r ≡ false → Left ws nodes i k → Left ws nodes i (k + 1)
 left-on ws nodes i k n r h e f g l = record {
   same-as =
-      l .same-as ∙ ap (λ z. in-some ws z i) (drop-cons nodes k 0 h) ∙ some-cons ws (getD nodes k 0) (drop (suc k) nodes) i false (ap (λ z. on ws (13952 + 12 * z) i) (sym e) ∙ sym f ∙ g)
+      l .same-as ∙ ap (λ z. in-some ws z i) (drop-cons nodes k 0 h) ∙ some-cons ws (getD nodes k 0) (drop (suc k) nodes) i false (ap (λ z. on ws (rows·sets + 12 * z) i) (sym e) ∙ sym f ∙ g)
       ∙ ap (λ c. in-some ws (drop c nodes) i) (sym (add-one k));
 }
 
@@ -289,18 +290,18 @@ module _ (s ws nodes : Words) (t : ℕ) (b : Bool) (from : ℕ) where
   pub candidate-found : (i : ℕ) (r : Bool) → r ≡ tested s ws nodes t b i → r ≡ true → Looking (tested s ws nodes t b) from i → NextCandidate s ws nodes t b from i
   candidate-found i r e g l = next-candidate s ws nodes t b from i (looking-found (tested s ws nodes t b) from (many s header·impls) i r e g l)
 
-  pub candidate-end : (i n : ℕ) → Indexes s ws → n ≡ at ws 22657 → n ≤ i → Looking (tested s ws nodes t b) from i → NextCandidate s ws nodes t b from i
+  pub candidate-end : (i n : ℕ) → Indexes s ws → n ≡ at ws index·impls → n ≤ i → Looking (tested s ws nodes t b) from i → NextCandidate s ws nodes t b from i
   candidate-end i n x e h l = next-candidate s ws nodes t b from i (looking-end (tested s ws nodes t b) from (many s header·impls) i (omega (arith, e ∙ x .impls .count)) l)
 
 module _ (ws : Words) (node from : ℕ) where
-  pub admitted-start : Looking (on ws (13952 + 12 * node)) from from
-  admitted-start = looking-start (on ws (13952 + 12 * node)) from
+  pub admitted-start : Looking (on ws (rows·sets + 12 * node)) from from
+  admitted-start = looking-start (on ws (rows·sets + 12 * node)) from
 
-  pub admitted-on : (i : ℕ) (r : Bool) → r ≡ on ws (13952 + 12 * node) i → r ≡ false → Looking (on ws (13952 + 12 * node)) from i → Looking (on ws (13952 + 12 * node)) from (i + 1)
-  admitted-on = looking-on (on ws (13952 + 12 * node)) from
+  pub admitted-on : (i : ℕ) (r : Bool) → r ≡ on ws (rows·sets + 12 * node) i → r ≡ false → Looking (on ws (rows·sets + 12 * node)) from i → Looking (on ws (rows·sets + 12 * node)) from (i + 1)
+  admitted-on = looking-on (on ws (rows·sets + 12 * node)) from
 
-  pub admitted-found : (s : Words) (i : ℕ) (r : Bool) → r ≡ on ws (13952 + 12 * node) i → r ≡ true → Looking (on ws (13952 + 12 * node)) from i → NextAdmitted s ws node from i
-  admitted-found s i r e g l = next-admitted s ws node from i (looking-found (on ws (13952 + 12 * node)) from (many s header·impls) i r e g l)
+  pub admitted-found : (s : Words) (i : ℕ) (r : Bool) → r ≡ on ws (rows·sets + 12 * node) i → r ≡ true → Looking (on ws (rows·sets + 12 * node)) from i → NextAdmitted s ws node from i
+  admitted-found s i r e g l = next-admitted s ws node from i (looking-found (on ws (rows·sets + 12 * node)) from (many s header·impls) i r e g l)
 
-  pub admitted-end : (s : Words) (i n : ℕ) → Indexes s ws → n ≡ at ws 22657 → n ≤ i → Looking (on ws (13952 + 12 * node)) from i → NextAdmitted s ws node from i
-  admitted-end s i n x e h l = next-admitted s ws node from i (looking-end (on ws (13952 + 12 * node)) from (many s header·impls) i (omega (arith, e ∙ x .impls .count)) l)
+  pub admitted-end : (s : Words) (i n : ℕ) → Indexes s ws → n ≡ at ws index·impls → n ≤ i → Looking (on ws (rows·sets + 12 * node)) from i → NextAdmitted s ws node from i
+  admitted-end s i n x e h l = next-admitted s ws node from i (looking-end (on ws (rows·sets + 12 * node)) from (many s header·impls) i (omega (arith, e ∙ x .impls .count)) l)

@@ -15,6 +15,7 @@ use Rattle.rules.specs.Lists.{Words}
 use Rattle.rules.specs.Layout.{header·definitions, header·traits, header·impls, header·imports}
 use Rattle.rules.specs.Sheet.{at, chain, chain-of, records, many, field, trait-def, inherent-params, import-def}
 use Rattle.rules.specs.WordLaws.{count-start, count-end, count-on, count-full}
+use Rattle.candidates.specs.Layout.{rows·end, index·definitions, index·impls, index·traits, index·imports, candidates·length}
 
 -- Outside the words that may be written.
 abbrev pub Outside : ℕ → ℕ → ℕ → Type 0
@@ -143,15 +144,15 @@ looked-is s h base ws id x = go (ltb id (at ws base)) refl
 
 -- The four indexes stand in the workspace.
 pub record Indexes (s ws : Words) : Type 0 where
-  pub definitions : Indexed s header·definitions 18560 ws
-  pub impls : Indexed s header·impls 22657 ws
-  pub traits : Indexed s header·traits 26754 ws
-  pub imports : Indexed s header·imports 30851 ws
+  pub definitions : Indexed s header·definitions index·definitions ws
+  pub impls : Indexed s header·impls index·impls ws
+  pub traits : Indexed s header·traits index·traits ws
+  pub imports : Indexed s header·imports index·imports ws
 
 -- They were written, and nothing below them.
 pub record IndexedAll (s ws us : Words) : Type 0 where
   pub indexes : Indexes s us
-  pub others : (p : ℕ) → p < 18560 → at us p ≡ at ws p
+  pub others : (p : ℕ) → p < rows·end → at us p ≡ at ws p
 
 indexed-keep : (s : Words) (h base : ℕ) (us vs : Words) → length s ≤ 4096 → ((p : ℕ) → base ≤ p → p < base + 4097 → at vs p ≡ at us p) → Indexed s h base us → Indexed s h base vs
 unfolding many records
@@ -161,7 +162,7 @@ indexed-keep s h base us vs l same x = record {
 }
 
 -- They stand as long as their words do.
-pub indexes-same : (s us vs : Words) → length s ≤ 4096 → ((p : ℕ) → 18560 ≤ p → p < 34948 → at vs p ≡ at us p) → Indexes s us → Indexes s vs
+pub indexes-same : (s us vs : Words) → length s ≤ 4096 → ((p : ℕ) → rows·end ≤ p → p < candidates·length → at vs p ≡ at us p) → Indexes s us → Indexes s vs
 indexes-same s us vs l same x = record {
   definitions = indexed-keep s _ _ us vs l (λ p h k. same p h (omega arith)) (x .definitions);
   impls = indexed-keep s _ _ us vs l (λ p h k. same p (omega arith) (omega arith)) (x .impls);
@@ -169,16 +170,16 @@ indexes-same s us vs l same x = record {
   imports = indexed-keep s _ _ us vs l (λ p h k. same p (omega arith) k) (x .imports);
 }
 
-pub indexes-keep : (s us vs : Words) → length s ≤ 4096 → ((p : ℕ) → 18560 ≤ p → at vs p ≡ at us p) → Indexes s us → Indexes s vs
+pub indexes-keep : (s us vs : Words) → length s ≤ 4096 → ((p : ℕ) → rows·end ≤ p → at vs p ≡ at us p) → Indexes s us → Indexes s vs
 indexes-keep s us vs l same x = indexes-same s us vs l (λ p h k. same p h) x
 
-pub indexed-all : (s w₀ w₁ w₂ w₃ w₄ : Words) → length s ≤ 4096 → Indexing s header·definitions 18560 w₀ w₁ → Indexing s header·impls 22657 w₁ w₂ → Indexing s header·traits 26754 w₂ w₃ → Indexing s header·imports 30851 w₃ w₄
+pub indexed-all : (s w₀ w₁ w₂ w₃ w₄ : Words) → length s ≤ 4096 → Indexing s header·definitions index·definitions w₀ w₁ → Indexing s header·impls index·impls w₁ w₂ → Indexing s header·traits index·traits w₂ w₃ → Indexing s header·imports index·imports w₃ w₄
     → IndexedAll s w₀ w₄
 indexed-all s w₀ w₁ w₂ w₃ w₄ l a b c d = record {
   indexes = record {
-    definitions = indexed-keep s header·definitions 18560 w₁ w₄ l (λ p h k. d .others p (inl (omega arith)) ∙ c .others p (inl (omega arith)) ∙ b .others p (inl (omega arith))) (a .indexed);
-    impls = indexed-keep s header·impls 22657 w₂ w₄ l (λ p h k. d .others p (inl (omega arith)) ∙ c .others p (inl (omega arith))) (b .indexed);
-    traits = indexed-keep s header·traits 26754 w₃ w₄ l (λ p h k. d .others p (inl (omega arith))) (c .indexed);
+    definitions = indexed-keep s header·definitions index·definitions w₁ w₄ l (λ p h k. d .others p (inl (omega arith)) ∙ c .others p (inl (omega arith)) ∙ b .others p (inl (omega arith))) (a .indexed);
+    impls = indexed-keep s header·impls index·impls w₂ w₄ l (λ p h k. d .others p (inl (omega arith)) ∙ c .others p (inl (omega arith))) (b .indexed);
+    traits = indexed-keep s header·traits index·traits w₃ w₄ l (λ p h k. d .others p (inl (omega arith))) (c .indexed);
     imports = d .indexed;
   };
   others = λ p h. d .others p (inl (omega arith)) ∙ c .others p (inl (omega arith)) ∙ b .others p (inl (omega arith)) ∙ a .others p (inl h);
@@ -188,26 +189,26 @@ field-is : (s : Words) (h base : ℕ) (ws : Words) (id k p r : ℕ) → Indexed 
 unfolding field
 field-is s h base ws id k p r x e f = f ∙ ap (λ q. at s (q + k)) (e ∙ looked-is s h base ws id x)
 
-pub definition-is : (s ws : Words) (id k p r : ℕ) → Indexes s ws → p ≡ looked ws 18560 id → r ≡ at s (p + k) → r ≡ field s header·definitions id k
-definition-is s ws id k p r x = field-is s header·definitions 18560 ws id k p r (x .definitions)
+pub definition-is : (s ws : Words) (id k p r : ℕ) → Indexes s ws → p ≡ looked ws index·definitions id → r ≡ at s (p + k) → r ≡ field s header·definitions id k
+definition-is s ws id k p r x = field-is s header·definitions index·definitions ws id k p r (x .definitions)
 
-pub impl-word-is : (s ws : Words) (id k p r : ℕ) → Indexes s ws → p ≡ looked ws 22657 id → r ≡ at s (p + k) → r ≡ field s header·impls id k
-impl-word-is s ws id k p r x = field-is s header·impls 22657 ws id k p r (x .impls)
+pub impl-word-is : (s ws : Words) (id k p r : ℕ) → Indexes s ws → p ≡ looked ws index·impls id → r ≡ at s (p + k) → r ≡ field s header·impls id k
+impl-word-is s ws id k p r x = field-is s header·impls index·impls ws id k p r (x .impls)
 
-pub trait-def-is : (s ws : Words) (id p r : ℕ) → Indexes s ws → p ≡ looked ws 26754 id → r ≡ at s (p + 1) → r ≡ trait-def s id
+pub trait-def-is : (s ws : Words) (id p r : ℕ) → Indexes s ws → p ≡ looked ws index·traits id → r ≡ at s (p + 1) → r ≡ trait-def s id
 unfolding trait-def
-trait-def-is s ws id p r x = field-is s header·traits 26754 ws id 1 p r (x .traits)
+trait-def-is s ws id p r x = field-is s header·traits index·traits ws id 1 p r (x .traits)
 
-pub inherent-is : (s ws : Words) (id p r : ℕ) → Indexes s ws → p ≡ looked ws 26754 id → r ≡ at s (p + 3) → r ≡ inherent-params s id
+pub inherent-is : (s ws : Words) (id p r : ℕ) → Indexes s ws → p ≡ looked ws index·traits id → r ≡ at s (p + 3) → r ≡ inherent-params s id
 unfolding inherent-params
-inherent-is s ws id p r x = field-is s header·traits 26754 ws id 3 p r (x .traits)
+inherent-is s ws id p r x = field-is s header·traits index·traits ws id 3 p r (x .traits)
 
-pub definitions-are : (s ws : Words) (r : ℕ) → Indexes s ws → r ≡ at ws 18560 → r ≡ many s header·definitions
+pub definitions-are : (s ws : Words) (r : ℕ) → Indexes s ws → r ≡ at ws index·definitions → r ≡ many s header·definitions
 definitions-are s ws r x e = e ∙ x .definitions .count
 
-pub impls-are : (s ws : Words) (r : ℕ) → Indexes s ws → r ≡ at ws 22657 → r ≡ many s header·impls
+pub impls-are : (s ws : Words) (r : ℕ) → Indexes s ws → r ≡ at ws index·impls → r ≡ many s header·impls
 impls-are s ws r x e = e ∙ x .impls .count
 
-pub import-def-is : (s ws : Words) (id p r : ℕ) → Indexes s ws → p ≡ looked ws 30851 id → r ≡ at s (p + 1) → r ≡ import-def s id
+pub import-def-is : (s ws : Words) (id p r : ℕ) → Indexes s ws → p ≡ looked ws index·imports id → r ≡ at s (p + 1) → r ≡ import-def s id
 unfolding import-def
-import-def-is s ws id p r x = field-is s header·imports 30851 ws id 1 p r (x .imports)
+import-def-is s ws id p r x = field-is s header·imports index·imports ws id 1 p r (x .imports)

@@ -1,3 +1,4 @@
+pub mod Layout
 pub mod Bits
 pub mod Spread
 pub mod Index

@@ -1,4 +1,4 @@
--- The rows of the edges: row x at 128 says to which nodes an edge leads from node x, row x at 4736 to which an edge leads whose vis lets the source in.
+-- The rows of the edges: row x at `rows·links` says to which nodes an edge leads from node x, row x at `rows·open` to which an edge leads whose vis lets the source in.
 use Prim.Native.Nat.{ℕ, zero, suc, _+_, _*_, _-_, _/_, _%_, _^_, _≤_, _<_}
 use mathlib.Core.Path.{_≡_, refl, sym, _∙_, ap, ap₂, subst}
 use mathlib.Core.Bool.{Bool, true, false, _||_, _&&_}
@@ -18,6 +18,7 @@ use Rattle.rules.specs.Layout.{header·definitions, header·prelude, header·im
 use Rattle.rules.specs.Sheet.{at, chain, chain-of, field, parent, trait-vis, def-trait, bindings, named-members, implicit-members, trait-def, import-def, impl-flag, impl-trait}
 use Rattle.rules.specs.Candidates.{Edge, direct, within-def, within-ancestors, get-member, member-edges, binding-edges, for-each-child, edges}
 use Rattle.rules.specs.Components.{edges-direct, edges-within, edges-ancestors}
+use Rattle.candidates.specs.Layout.{rows·links, rows·open, rows·reach, rows·end, candidates·length}
 use Rattle.candidates.specs.Bits.{bit, on, bit-or, bit-power, with-bit}
 use Rattle.candidates.specs.Index.{Indexes, indexes-keep}
 use Rattle.candidates.specs.Source.{seen}
@@ -73,19 +74,19 @@ lets sees es y = any (λ e. eqb (e .1) y && sees (e .0)) es
 
 -- Outside row x of either.
 pub record Off (x p : ℕ) : Type 0 where
-  pub links : (p < 128 + 12 * x) ⊎ (128 + 12 * x + 12 ≤ p)
-  pub opens : (p < 4736 + 12 * x) ⊎ (4736 + 12 * x + 12 ≤ p)
+  pub links : (p < rows·links + 12 * x) ⊎ (rows·links + 12 * x + 12 ≤ p)
+  pub opens : (p < rows·open + 12 * x) ⊎ (rows·open + 12 * x + 12 ≤ p)
 
 -- Edges of node x were added to its rows, and nothing else was changed.
 pub record Adds (x : ℕ) (es : List Edge) (ws us : Words) : Type 0 where
-  pub links : (y : ℕ) → y < 384 → on us (128 + 12 * x) y ≡ (on ws (128 + 12 * x) y || to es y)
-  pub opens : (y : ℕ) → y < 384 → on us (4736 + 12 * x) y ≡ (on ws (4736 + 12 * x) y || lets (seen ws) es y)
+  pub links : (y : ℕ) → y < 384 → on us (rows·links + 12 * x) y ≡ (on ws (rows·links + 12 * x) y || to es y)
+  pub opens : (y : ℕ) → y < 384 → on us (rows·open + 12 * x) y ≡ (on ws (rows·open + 12 * x) y || lets (seen ws) es y)
   pub others : (p : ℕ) → Off x p → at us p ≡ at ws p
 
 low-off : (x p : ℕ) → p < 128 → Off x p
 low-off x p h = record { links = inl (omega arith); opens = inl (omega arith) }
 
-pub high-off : (x p : ℕ) → x < 384 → 9344 ≤ p → Off x p
+pub high-off : (x p : ℕ) → x < 384 → rows·reach ≤ p → Off x p
 high-off x p h k = record { links = inr (omega arith); opens = inr (omega arith) }
 
 -- The source's marks stay.
@@ -129,17 +130,17 @@ lets-same sees views es y h = any-same (λ e. eqb (e .1) y && sees (e .0)) (λ e
 
 pub adds-none : (x : ℕ) (ws : Words) → Adds x [] ws ws
 unfolding to lets any
-adds-none x ws = record { links = λ y h. or-false (on ws (128 + 12 * x) y); opens = λ y h. or-false (on ws (4736 + 12 * x) y); others = λ p o. refl }
+adds-none x ws = record { links = λ y h. or-false (on ws (rows·links + 12 * x) y); opens = λ y h. or-false (on ws (rows·open + 12 * x) y); others = λ p o. refl }
 
 pub adds-on : (x : ℕ) (es fs : List Edge) (ws us vs : Words) → Adds x es ws us → Adds x fs us vs → Adds x (es ++ fs) ws vs
 unfolding to lets
 adds-on x es fs ws us vs a b = record {
   links = λ y h.
-      b .links y h ∙ ap (λ c. c || to fs y) (a .links y h) ∙ or-assoc (on ws (128 + 12 * x) y) (to es y) (to fs y)
-      ∙ ap (λ c. on ws (128 + 12 * x) y || c) (sym (any-append (λ e. eqb (e .1) y) es fs));
+      b .links y h ∙ ap (λ c. c || to fs y) (a .links y h) ∙ or-assoc (on ws (rows·links + 12 * x) y) (to es y) (to fs y)
+      ∙ ap (λ c. on ws (rows·links + 12 * x) y || c) (sym (any-append (λ e. eqb (e .1) y) es fs));
   opens = λ y h.
-      b .opens y h ∙ ap₂ (λ c d. c || d) (a .opens y h) (lets-same (seen us) (seen ws) fs y (adds-seen x es ws us a)) ∙ or-assoc (on ws (4736 + 12 * x) y) (lets (seen ws) es y) (lets (seen ws) fs y)
-      ∙ ap (λ c. on ws (4736 + 12 * x) y || c) (sym (any-append (λ e. eqb (e .1) y && seen ws (e .0)) es fs));
+      b .opens y h ∙ ap₂ (λ c d. c || d) (a .opens y h) (lets-same (seen us) (seen ws) fs y (adds-seen x es ws us a)) ∙ or-assoc (on ws (rows·open + 12 * x) y) (lets (seen ws) es y) (lets (seen ws) fs y)
+      ∙ ap (λ c. on ws (rows·open + 12 * x) y || c) (sym (any-append (λ e. eqb (e .1) y && seen ws (e .0)) es fs));
   others = λ p o. b .others p o ∙ a .others p o;
 }
 
@@ -150,7 +151,7 @@ adds-keeps s x es ws us l h a i = indexes-keep s ws us l (λ p k. a .others p (h
 pub record Linking (x : ℕ) (s ws : Words) : Type 0 where
   pub node : x < 384
   pub short : length s ≤ 4096
-  pub fits : 34948 ≤ length ws
+  pub fits : candidates·length ≤ length ws
   pub indexes : Indexes s ws
 
 pub linking-on : (x : ℕ) (es : List Edge) (s ws us : Words) → length us ≡ length ws → Linking x s ws → Adds x es ws us → Linking x s us
@@ -190,34 +191,34 @@ and-false false = refl
 
 pub link-past : (x v y : ℕ) (ws : Words) → 384 ≤ y → Adds x ((v, y) ∷ []) ws ws
 link-past x v y ws h = record {
-  links = λ z k. or-false (on ws (128 + 12 * x) z) ∙ ap (λ c. on ws (128 + 12 * x) z || c) (sym (to-one v y z ∙ ne-eqb y z (λ e. omega arith)));
-  opens = λ z k. or-false (on ws (4736 + 12 * x) z) ∙ ap (λ c. on ws (4736 + 12 * x) z || c) (sym (lets-one (seen ws) v y z ∙ ap (λ c. c && seen ws v) (ne-eqb y z (λ e. omega arith))));
+  links = λ z k. or-false (on ws (rows·links + 12 * x) z) ∙ ap (λ c. on ws (rows·links + 12 * x) z || c) (sym (to-one v y z ∙ ne-eqb y z (λ e. omega arith)));
+  opens = λ z k. or-false (on ws (rows·open + 12 * x) z) ∙ ap (λ c. on ws (rows·open + 12 * x) z || c) (sym (lets-one (seen ws) v y z ∙ ap (λ c. c && seen ws v) (ne-eqb y z (λ e. omega arith))));
   others = λ p o. refl;
 }
 
-module _ (x v y : ℕ) (ws us : Words) (hx : x < 384) (hy : y < 384) (fits : 18560 ≤ length ws) (e : us ≡ with-bit ws (128 + 12 * x) y) where
-  linked-row : (z : ℕ) → on us (128 + 12 * x) z ≡ (on ws (128 + 12 * x) z || to ((v, y) ∷ []) z)
-  linked-row z = ap (λ l. on l (128 + 12 * x) z) e ∙ set-row ws (128 + 12 * x) y (omega arith) z ∙ ap (λ c. on ws (128 + 12 * x) z || c) (eqb-sym z y ∙ sym (to-one v y z))
+module _ (x v y : ℕ) (ws us : Words) (hx : x < 384) (hy : y < 384) (fits : rows·end ≤ length ws) (e : us ≡ with-bit ws (rows·links + 12 * x) y) where
+  linked-row : (z : ℕ) → on us (rows·links + 12 * x) z ≡ (on ws (rows·links + 12 * x) z || to ((v, y) ∷ []) z)
+  linked-row z = ap (λ l. on l (rows·links + 12 * x) z) e ∙ set-row ws (rows·links + 12 * x) y (omega arith) z ∙ ap (λ c. on ws (rows·links + 12 * x) z || c) (eqb-sym z y ∙ sym (to-one v y z))
 
-  open-row : (z : ℕ) → z < 384 → on us (4736 + 12 * x) z ≡ on ws (4736 + 12 * x) z
-  open-row z h = ap (λ l. on l (4736 + 12 * x) z) e ∙ set-elsewhere ws (128 + 12 * x) y (omega arith) (4736 + 12 * x) z (inr (omega arith)) hy h
+  open-row : (z : ℕ) → z < 384 → on us (rows·open + 12 * x) z ≡ on ws (rows·open + 12 * x) z
+  open-row z h = ap (λ l. on l (rows·open + 12 * x) z) e ∙ set-elsewhere ws (rows·links + 12 * x) y (omega arith) (rows·open + 12 * x) z (inr (omega arith)) hy h
 
   rest : (p : ℕ) → Off x p → at us p ≡ at ws p
-  rest p o = ap (λ l. at l p) e ∙ set-other ws (128 + 12 * x) y (omega arith) p (λ q. ⊎-elim (λ l. omega (arith, l, q)) (λ l. omega (arith, l, q)) (o .links))
+  rest p o = ap (λ l. at l p) e ∙ set-other ws (rows·links + 12 * x) y (omega arith) p (λ q. ⊎-elim (λ l. omega (arith, l, q)) (λ l. omega (arith, l, q)) (o .links))
 
   pub link-shut : (r : Bool) → r ≡ seen ws v → r ≡ false → Adds x ((v, y) ∷ []) ws us
   link-shut r f g = record {
     links = λ z h. linked-row z;
-    opens = λ z h. open-row z h ∙ or-false (on ws (4736 + 12 * x) z) ∙ ap (λ c. on ws (4736 + 12 * x) z || c) (sym (lets-one (seen ws) v y z ∙ ap (λ c. eqb y z && c) (sym f ∙ g) ∙ and-false (eqb y z)));
+    opens = λ z h. open-row z h ∙ or-false (on ws (rows·open + 12 * x) z) ∙ ap (λ c. on ws (rows·open + 12 * x) z || c) (sym (lets-one (seen ws) v y z ∙ ap (λ c. eqb y z && c) (sym f ∙ g) ∙ and-false (eqb y z)));
     others = rest;
   }
 
-  pub link-open : (r : Bool) (vs : Words) → length us ≡ length ws → r ≡ seen ws v → r ≡ true → vs ≡ with-bit us (4736 + 12 * x) y → Adds x ((v, y) ∷ []) ws vs
+  pub link-open : (r : Bool) (vs : Words) → length us ≡ length ws → r ≡ seen ws v → r ≡ true → vs ≡ with-bit us (rows·open + 12 * x) y → Adds x ((v, y) ∷ []) ws vs
   link-open r vs n f g k = record {
-    links = λ z h. ap (λ l. on l (128 + 12 * x) z) k ∙ set-elsewhere us (4736 + 12 * x) y (omega arith) (128 + 12 * x) z (inl (omega arith)) hy h ∙ linked-row z;
+    links = λ z h. ap (λ l. on l (rows·links + 12 * x) z) k ∙ set-elsewhere us (rows·open + 12 * x) y (omega arith) (rows·links + 12 * x) z (inl (omega arith)) hy h ∙ linked-row z;
     opens = λ z h.
-        ap (λ l. on l (4736 + 12 * x) z) k ∙ set-row us (4736 + 12 * x) y (omega arith) z ∙ ap₂ (λ c d. c || d) (open-row z h) (eqb-sym z y ∙ sym (and-true (eqb y z)) ∙ ap (λ c. eqb y z && c) (sym (sym f ∙ g)) ∙ sym (lets-one (seen ws) v y z));
-    others = λ p o. ap (λ l. at l p) k ∙ set-other us (4736 + 12 * x) y (omega arith) p (λ q. ⊎-elim (λ l. omega (arith, l, q)) (λ l. omega (arith, l, q)) (o .opens)) ∙ rest p o;
+        ap (λ l. on l (rows·open + 12 * x) z) k ∙ set-row us (rows·open + 12 * x) y (omega arith) z ∙ ap₂ (λ c d. c || d) (open-row z h) (eqb-sym z y ∙ sym (and-true (eqb y z)) ∙ ap (λ c. eqb y z && c) (sym (sym f ∙ g)) ∙ sym (lets-one (seen ws) v y z));
+    others = λ p o. ap (λ l. at l p) k ∙ set-other us (rows·open + 12 * x) y (omega arith) p (λ q. ⊎-elim (λ l. omega (arith, l, q)) (λ l. omega (arith, l, q)) (o .opens)) ∙ rest p o;
   }
 
 -- The edge of a vis into the definition of a trait?.
@@ -396,17 +397,17 @@ linking-over x y z es s ws us e h k l a = linking-down x z s us k (record {
 pub record LinkingAll (n : ℕ) (s ws : Words) : Type 0 where
   pub few : n ≤ 128
   pub short : length s ≤ 4096
-  pub fits : 34948 ≤ length ws
+  pub fits : candidates·length ≤ length ws
   pub indexes : Indexes s ws
-  pub clear : (p : ℕ) → 128 ≤ p → p < 18560 → at ws p ≡ 0
+  pub clear : (p : ℕ) → rows·links ≤ p → p < rows·end → at ws p ≡ 0
 
 -- The rows of the nodes below n hold their edges; those of the others are clear.
 pub record Built (s : Words) (n : ℕ) (ws us : Words) : Type 0 where
-  pub links : (x y : ℕ) → x < n → y < 384 → on us (128 + 12 * x) y ≡ to (edges s x) y
-  pub opens : (x y : ℕ) → x < n → y < 384 → on us (4736 + 12 * x) y ≡ lets (seen ws) (edges s x) y
-  pub fresh-links : (x y : ℕ) → n ≤ x → x < 384 → y < 384 → on us (128 + 12 * x) y ≡ false
-  pub fresh-opens : (x y : ℕ) → n ≤ x → x < 384 → y < 384 → on us (4736 + 12 * x) y ≡ false
-  pub others : (p : ℕ) → (p < 128) ⊎ (9344 ≤ p) → at us p ≡ at ws p
+  pub links : (x y : ℕ) → x < n → y < 384 → on us (rows·links + 12 * x) y ≡ to (edges s x) y
+  pub opens : (x y : ℕ) → x < n → y < 384 → on us (rows·open + 12 * x) y ≡ lets (seen ws) (edges s x) y
+  pub fresh-links : (x y : ℕ) → n ≤ x → x < 384 → y < 384 → on us (rows·links + 12 * x) y ≡ false
+  pub fresh-opens : (x y : ℕ) → n ≤ x → x < 384 → y < 384 → on us (rows·open + 12 * x) y ≡ false
+  pub others : (p : ℕ) → (p < rows·links) ⊎ (rows·reach ≤ p) → at us p ≡ at ws p
 
 pub bit-zero : (k : ℕ) → bit 0 k ≡ false
 unfolding bit
@@ -420,22 +421,22 @@ pub built-start : (n : ℕ) (s ws : Words) → LinkingAll n s ws → Built s (3 
 built-start n s ws l = record {
   links = λ x y h. absurd (not-suc-le-zero h);
   opens = λ x y h. absurd (not-suc-le-zero h);
-  fresh-links = λ x y h k j. off-clear ws (128 + 12 * x) y (l .clear (128 + 12 * x + y / 32) (omega arith) (omega arith));
-  fresh-opens = λ x y h k j. off-clear ws (4736 + 12 * x) y (l .clear (4736 + 12 * x + y / 32) (omega arith) (omega arith));
+  fresh-links = λ x y h k j. off-clear ws (rows·links + 12 * x) y (l .clear (rows·links + 12 * x + y / 32) (omega arith) (omega arith));
+  fresh-opens = λ x y h k j. off-clear ws (rows·open + 12 * x) y (l .clear (rows·open + 12 * x + y / 32) (omega arith) (omega arith));
   others = λ p o. refl;
 }
 
-row-off : (x z y : ℕ) → x < 384 → z < 384 → y < 384 → z ≢ x → Off x (128 + 12 * z + y / 32)
+row-off : (x z y : ℕ) → x < 384 → z < 384 → y < 384 → z ≢ x → Off x (rows·links + 12 * z + y / 32)
 row-off x z y hx hz hy ne = go (x - z) refl
   where
-    go : (d : ℕ) → x - z ≡ d → Off x (128 + 12 * z + y / 32)
+    go : (d : ℕ) → x - z ≡ d → Off x (rows·links + 12 * z + y / 32)
     go zero e = record { links = inr (omega (arith, ne)); opens = inl (omega arith) }
     go (suc d) e = record { links = inl (omega arith); opens = inl (omega arith) }
 
-open-off : (x z y : ℕ) → x < 384 → z < 384 → y < 384 → z ≢ x → Off x (4736 + 12 * z + y / 32)
+open-off : (x z y : ℕ) → x < 384 → z < 384 → y < 384 → z ≢ x → Off x (rows·open + 12 * z + y / 32)
 open-off x z y hx hz hy ne = go (x - z) refl
   where
-    go : (d : ℕ) → x - z ≡ d → Off x (4736 + 12 * z + y / 32)
+    go : (d : ℕ) → x - z ≡ d → Off x (rows·open + 12 * z + y / 32)
     go zero e = record { links = inr (omega arith); opens = inr (omega (arith, ne)) }
     go (suc d) e = record { links = inr (omega arith); opens = inl (omega arith) }
 
@@ -445,28 +446,28 @@ unfolding on
 built-node s n ws us vs h b a = record {
   links = λ x y k j. links x y j (eqb x n) refl k;
   opens = λ x y k j. opens x y j (eqb x n) refl k;
-  fresh-links = λ x y k i j. ap (λ w. bit w (y % 32)) (a .others (128 + 12 * x + y / 32) (row-off n x y h i j (λ e. omega (arith, e)))) ∙ b .fresh-links x y (omega arith) i j;
-  fresh-opens = λ x y k i j. ap (λ w. bit w (y % 32)) (a .others (4736 + 12 * x + y / 32) (open-off n x y h i j (λ e. omega (arith, e)))) ∙ b .fresh-opens x y (omega arith) i j;
+  fresh-links = λ x y k i j. ap (λ w. bit w (y % 32)) (a .others (rows·links + 12 * x + y / 32) (row-off n x y h i j (λ e. omega (arith, e)))) ∙ b .fresh-links x y (omega arith) i j;
+  fresh-opens = λ x y k i j. ap (λ w. bit w (y % 32)) (a .others (rows·open + 12 * x + y / 32) (open-off n x y h i j (λ e. omega (arith, e)))) ∙ b .fresh-opens x y (omega arith) i j;
   others = λ p o. a .others p (⊎-elim (λ l. low-off n p l) (λ l. high-off n p h l) o) ∙ b .others p o;
 }
   where
     marks : (v : ℕ) → seen us v ≡ seen ws v
     marks = seen-same ws us (λ p k. b .others p (inl k))
 
-    links : (x y : ℕ) → y < 384 → (c : Bool) → eqb x n ≡ c → x < suc n → on vs (128 + 12 * x) y ≡ to (edges s x) y
+    links : (x y : ℕ) → y < 384 → (c : Bool) → eqb x n ≡ c → x < suc n → on vs (rows·links + 12 * x) y ≡ to (edges s x) y
     links x y j true e k =
-        subst (λ z. on vs (128 + 12 * z) y ≡ to (edges s z) y) (sym (eqb-true x n e)) (a .links y j ∙ ap (λ c. c || to (edges s n) y) (b .fresh-links n y (omega arith) h j))
+        subst (λ z. on vs (rows·links + 12 * z) y ≡ to (edges s z) y) (sym (eqb-true x n e)) (a .links y j ∙ ap (λ c. c || to (edges s n) y) (b .fresh-links n y (omega arith) h j))
     links x y j false e k =
         let ne = eqb-false x n e in
-        ap (λ w. bit w (y % 32)) (a .others (128 + 12 * x + y / 32) (row-off n x y h (omega arith) j ne)) ∙ b .links x y (omega (arith, ne)) j
+        ap (λ w. bit w (y % 32)) (a .others (rows·links + 12 * x + y / 32) (row-off n x y h (omega arith) j ne)) ∙ b .links x y (omega (arith, ne)) j
 
-    opens : (x y : ℕ) → y < 384 → (c : Bool) → eqb x n ≡ c → x < suc n → on vs (4736 + 12 * x) y ≡ lets (seen ws) (edges s x) y
+    opens : (x y : ℕ) → y < 384 → (c : Bool) → eqb x n ≡ c → x < suc n → on vs (rows·open + 12 * x) y ≡ lets (seen ws) (edges s x) y
     opens x y j true e k =
-        subst (λ z. on vs (4736 + 12 * z) y ≡ lets (seen ws) (edges s z) y) (sym (eqb-true x n e))
+        subst (λ z. on vs (rows·open + 12 * z) y ≡ lets (seen ws) (edges s z) y) (sym (eqb-true x n e))
         (a .opens y j ∙ ap₂ (λ c d. c || d) (b .fresh-opens n y (omega arith) h j) (lets-same (seen us) (seen ws) (edges s n) y marks))
     opens x y j false e k =
         let ne = eqb-false x n e in
-        ap (λ w. bit w (y % 32)) (a .others (4736 + 12 * x + y / 32) (open-off n x y h (omega arith) j ne)) ∙ b .opens x y (omega (arith, ne)) j
+        ap (λ w. bit w (y % 32)) (a .others (rows·open + 12 * x + y / 32) (open-off n x y h (omega arith) j ne)) ∙ b .opens x y (omega (arith, ne)) j
 
 -- One definition more.
 pub built-more : (s : Words) (n d : ℕ) (ws us vs : Words) → n ≤ 128 → d < n → Built s (3 * d) ws us → LinksDefinition s d us vs → Built s (3 * (d + 1)) ws vs

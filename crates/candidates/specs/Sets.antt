@@ -1,4 +1,4 @@
--- The rows of what each node binds itself: row x at 13952, a bit for each impl.
+-- The rows of what each node binds itself: row x at rows·sets, a bit for each impl.
 use Prim.Native.Nat.{ℕ, zero, suc, _+_, _*_, _-_, _/_, _%_, _≤_, _<_}
 use mathlib.Core.Path.{_≡_, refl, sym, _∙_, ap, ap₂, subst}
 use mathlib.Core.Bool.{Bool, true, false, not, _||_, _&&_}
@@ -14,6 +14,7 @@ use Rattle.rules.specs.Layout.{header·definitions, header·impls, binding·vis
 use Rattle.rules.specs.Sheet.{at, chain, chain-of, field, bindings, impl-flag, impl-trait}
 use Rattle.rules.specs.Candidates.{may-enter}
 use Rattle.rules.specs.Admission.{binding-node}
+use Rattle.candidates.specs.Layout.{rows·sets, rows·end, candidates·length}
 use Rattle.candidates.specs.Bits.{bit, on, with-bit}
 use Rattle.candidates.specs.Index.{Indexes, indexes-keep}
 use Rattle.candidates.specs.Source.{seen}
@@ -27,13 +28,13 @@ entry s sees d b x i = ((eqb (at s (b + binding·impl)) i && sees (at s (b + bin
 pub record Binding (d : ℕ) (s ws : Words) : Type 0 where
   pub low : d < 128
   pub short : length s ≤ 4096
-  pub fits : 34948 ≤ length ws
+  pub fits : candidates·length ≤ length ws
   pub indexes : Indexes s ws
 
 -- The impls of some bindings of definition d were entered, and nothing else was changed.
 pub record Enters (s : Words) (d : ℕ) (bs ws us : Words) : Type 0 where
-  pub sets : (x i : ℕ) → x < 384 → i < 384 → on us (13952 + 12 * x) i ≡ (on ws (13952 + 12 * x) i || any (λ b. entry s (seen ws) d b x i) bs)
-  pub others : (p : ℕ) → (p < 13952) ⊎ (18560 ≤ p) → at us p ≡ at ws p
+  pub sets : (x i : ℕ) → x < 384 → i < 384 → on us (rows·sets + 12 * x) i ≡ (on ws (rows·sets + 12 * x) i || any (λ b. entry s (seen ws) d b x i) bs)
+  pub others : (p : ℕ) → (p < rows·sets) ⊎ (rows·end ≤ p) → at us p ≡ at ws p
 
 or-false : (b : Bool) → b ≡ (b || false)
 or-false true = refl
@@ -92,7 +93,7 @@ any-one p b = go (p b) refl
 
 enters-nothing : (s : Words) (d b : ℕ) (ws : Words) → ((x i : ℕ) → i < 384 → entry s (seen ws) d b x i ≡ false) → Enters s d (b ∷ []) ws ws
 enters-nothing s d b ws h = record {
-  sets = λ x i hx hi. or-false (on ws (13952 + 12 * x) i) ∙ ap (λ c. on ws (13952 + 12 * x) i || c) (sym (any-one (λ c. entry s (seen ws) d c x i) b ∙ h x i hi));
+  sets = λ x i hx hi. or-false (on ws (rows·sets + 12 * x) i) ∙ ap (λ c. on ws (rows·sets + 12 * x) i || c) (sym (any-one (λ c. entry s (seen ws) d c x i) b ∙ h x i hi));
   others = λ p o. refl;
 }
 
@@ -125,11 +126,11 @@ module _ (s : Words) (d b j i : ℕ) (ws : Words) (e : j ≡ at s (b + 2)) (f : 
       go x k false q = ap (λ c. ((c && seen ws (at s (b + 1))) && may-enter s k) && eqb x (binding-node (impl-flag s flag·named k) d)) (impl-is k ∙ q)
 
   pub bind-entered : (v y : ℕ) (r m : Bool) (us : Words) → Binding d s ws → i < 384 → v ≡ at s (b + 1) → r ≡ seen ws v → r ≡ true → m ≡ may-enter s i → m ≡ true → y ≡ binding-node (impl-flag s flag·named i) d
-      → us ≡ with-bit ws (13952 + 12 * y) i → Enters s d (b ∷ []) ws us
+      → us ≡ with-bit ws (rows·sets + 12 * y) i → Enters s d (b ∷ []) ws us
   unfolding entry
   bind-entered v y r m us l hi g o z n t k u = record {
-    sets = λ x c hx hc. ap (λ w. on w (13952 + 12 * x) c) u ∙ row x c hx hc (equal-or x y);
-    others = λ p q. ap (λ w. at w p) u ∙ set-other ws (13952 + 12 * y) i (omega (arith, l .fits, low)) p (λ a. ⊎-elim (λ h. omega (arith, h, a)) (λ h. omega (arith, h, a, low)) q);
+    sets = λ x c hx hc. ap (λ w. on w (rows·sets + 12 * x) c) u ∙ row x c hx hc (equal-or x y);
+    others = λ p q. ap (λ w. at w p) u ∙ set-other ws (rows·sets + 12 * y) i (omega (arith, l .fits, low)) p (λ a. ⊎-elim (λ h. omega (arith, h, a)) (λ h. omega (arith, h, a, low)) q);
   }
     where
       low : y < 384
@@ -149,22 +150,22 @@ module _ (s : Words) (d b j i : ℕ) (ws : Words) (e : j ≡ at s (b + 2)) (f : 
           ∙ and-false ((eqb (at s (b + 2)) c && seen ws (at s (b + 1))) && may-enter s c))
       other x c false q h = sym (ap (λ a. ((a && seen ws (at s (b + 1))) && may-enter s c) && eqb x (binding-node (impl-flag s flag·named c) d)) (impl-is c ∙ q))
 
-      row : (x c : ℕ) → x < 384 → c < 384 → (x ≡ y) ⊎ (x ≢ y) → on (with-bit ws (13952 + 12 * y) i) (13952 + 12 * x) c ≡ (on ws (13952 + 12 * x) c || any (λ a. entry s (seen ws) d a x c) (b ∷ []))
+      row : (x c : ℕ) → x < 384 → c < 384 → (x ≡ y) ⊎ (x ≢ y) → on (with-bit ws (rows·sets + 12 * y) i) (rows·sets + 12 * x) c ≡ (on ws (rows·sets + 12 * x) c || any (λ a. entry s (seen ws) d a x c) (b ∷ []))
       row x c hx hc (inl q) =
-          ap (λ w. on (with-bit ws (13952 + 12 * y) i) (13952 + 12 * w) c) q ∙ set-row ws (13952 + 12 * y) i (omega (arith, l .fits, low)) c
-          ∙ ap₂ (λ w a. on ws (13952 + 12 * w) c || a) (sym q) (same x c (eqb i c) refl (eq-eqb x y q) ∙ sym (any-one (λ a. entry s (seen ws) d a x c) b))
+          ap (λ w. on (with-bit ws (rows·sets + 12 * y) i) (rows·sets + 12 * w) c) q ∙ set-row ws (rows·sets + 12 * y) i (omega (arith, l .fits, low)) c
+          ∙ ap₂ (λ w a. on ws (rows·sets + 12 * w) c || a) (sym q) (same x c (eqb i c) refl (eq-eqb x y q) ∙ sym (any-one (λ a. entry s (seen ws) d a x c) b))
       row x c hx hc (inr q) =
-          set-elsewhere ws (13952 + 12 * y) i (omega (arith, l .fits, low)) (13952 + 12 * x) c (apart (y - x) refl) hi hc ∙ or-false (on ws (13952 + 12 * x) c)
-          ∙ ap (λ a. on ws (13952 + 12 * x) c || a) (other x c (eqb i c) refl (ne-eqb x y q) ∙ sym (any-one (λ a. entry s (seen ws) d a x c) b))
+          set-elsewhere ws (rows·sets + 12 * y) i (omega (arith, l .fits, low)) (rows·sets + 12 * x) c (apart (y - x) refl) hi hc ∙ or-false (on ws (rows·sets + 12 * x) c)
+          ∙ ap (λ a. on ws (rows·sets + 12 * x) c || a) (other x c (eqb i c) refl (ne-eqb x y q) ∙ sym (any-one (λ a. entry s (seen ws) d a x c) b))
         where
-          apart : (w : ℕ) → y - x ≡ w → (13952 + 12 * x + 12 ≤ 13952 + 12 * y) ⊎ (13952 + 12 * y + 12 ≤ 13952 + 12 * x)
+          apart : (w : ℕ) → y - x ≡ w → (rows·sets + 12 * x + 12 ≤ rows·sets + 12 * y) ⊎ (rows·sets + 12 * y + 12 ≤ rows·sets + 12 * x)
           apart zero a = inr (omega (arith, q))
           apart (suc w) a = inl (omega arith)
 
 -- Bindings one after the other.
 enters-none : (s : Words) (d : ℕ) (ws : Words) → Enters s d [] ws ws
 unfolding any
-enters-none s d ws = record { sets = λ x i hx hi. or-false (on ws (13952 + 12 * x) i); others = λ p o. refl }
+enters-none s d ws = record { sets = λ x i hx hi. or-false (on ws (rows·sets + 12 * x) i); others = λ p o. refl }
 
 enters-seen : (s : Words) (d : ℕ) (bs ws us : Words) → Enters s d bs ws us → (v : ℕ) → seen us v ≡ seen ws v
 enters-seen s d bs ws us a = seen-same ws us (λ p h. a .others p (inl (omega arith)))
@@ -178,8 +179,8 @@ enters-on s d bs cs ws us vs a b = record {
   sets = λ x i hx hi.
       b .sets x i hx hi
       ∙ ap₂ (λ p q. p || q) (a .sets x i hx hi) (any-same (λ c. entry s (seen us) d c x i) (λ c. entry s (seen ws) d c x i) cs (λ c. entry-same s (seen us) (seen ws) d c x i (enters-seen s d bs ws us a)))
-      ∙ or-assoc (on ws (13952 + 12 * x) i) (any (λ c. entry s (seen ws) d c x i) bs) (any (λ c. entry s (seen ws) d c x i) cs)
-      ∙ ap (λ q. on ws (13952 + 12 * x) i || q) (sym (any-append (λ c. entry s (seen ws) d c x i) bs cs));
+      ∙ or-assoc (on ws (rows·sets + 12 * x) i) (any (λ c. entry s (seen ws) d c x i) bs) (any (λ c. entry s (seen ws) d c x i) cs)
+      ∙ ap (λ q. on ws (rows·sets + 12 * x) i || q) (sym (any-append (λ c. entry s (seen ws) d c x i) bs cs));
   others = λ p o. b .others p o ∙ a .others p o;
 }
 
@@ -221,20 +222,20 @@ definition-bound s d h₀ h ws us e f a = subst (λ c. Enters s d (chain s c) ws
 pub record BindingAll (n : ℕ) (s ws : Words) : Type 0 where
   pub few : n ≤ 128
   pub short : length s ≤ 4096
-  pub fits : 34948 ≤ length ws
+  pub fits : candidates·length ≤ length ws
   pub indexes : Indexes s ws
-  pub clear : (p : ℕ) → 13952 ≤ p → p < 18560 → at ws p ≡ 0
+  pub clear : (p : ℕ) → rows·sets ≤ p → p < rows·end → at ws p ≡ 0
 
 -- The rows of the nodes of the first n definitions hold what those bind; those of the others are clear.
 pub record Bound (s : Words) (n : ℕ) (ws us : Words) : Type 0 where
-  pub sets : (x i : ℕ) → x < 3 * n → i < 384 → on us (13952 + 12 * x) i ≡ any (λ b. entry s (seen ws) (x / 3) b x i) (bindings s (x / 3))
-  pub fresh : (x i : ℕ) → 3 * n ≤ x → x < 384 → i < 384 → on us (13952 + 12 * x) i ≡ false
-  pub others : (p : ℕ) → (p < 13952) ⊎ (18560 ≤ p) → at us p ≡ at ws p
+  pub sets : (x i : ℕ) → x < 3 * n → i < 384 → on us (rows·sets + 12 * x) i ≡ any (λ b. entry s (seen ws) (x / 3) b x i) (bindings s (x / 3))
+  pub fresh : (x i : ℕ) → 3 * n ≤ x → x < 384 → i < 384 → on us (rows·sets + 12 * x) i ≡ false
+  pub others : (p : ℕ) → (p < rows·sets) ⊎ (rows·end ≤ p) → at us p ≡ at ws p
 
 pub bound-start : (n : ℕ) (s ws : Words) → BindingAll n s ws → Bound s 0 ws ws
 bound-start n s ws l = record {
   sets = λ x i h. absurd (not-suc-le-zero h);
-  fresh = λ x i h k j. off-clear ws (13952 + 12 * x) i (l .clear (13952 + 12 * x + i / 32) (omega arith) (omega arith));
+  fresh = λ x i h k j. off-clear ws (rows·sets + 12 * x) i (l .clear (rows·sets + 12 * x + i / 32) (omega arith) (omega arith));
   others = λ p o. refl;
 }
 
@@ -263,13 +264,13 @@ bound-more s n d ws us vs l h b a = record {
     marks : (v : ℕ) → seen us v ≡ seen ws v
     marks = seen-same ws us (λ p k. b .others p (inl (omega arith)))
 
-    go : (x i : ℕ) → x < 3 * (d + 1) → i < 384 → (x / 3 ≡ d) ⊎ (x / 3 ≢ d) → on vs (13952 + 12 * x) i ≡ any (λ c. entry s (seen ws) (x / 3) c x i) (bindings s (x / 3))
+    go : (x i : ℕ) → x < 3 * (d + 1) → i < 384 → (x / 3 ≡ d) ⊎ (x / 3 ≢ d) → on vs (rows·sets + 12 * x) i ≡ any (λ c. entry s (seen ws) (x / 3) c x i) (bindings s (x / 3))
     go x i k j (inl q) =
         a .sets x i (omega arith) j
         ∙ ap₂ (λ p r. p || r) (b .fresh x i (omega arith) (omega arith) j) (any-same (λ c. entry s (seen us) d c x i) (λ c. entry s (seen ws) d c x i) (bindings s d) (λ c. entry-same s (seen us) (seen ws) d c x i marks))
         ∙ ap (λ e. any (λ c. entry s (seen ws) e c x i) (bindings s e)) (sym q)
     go x i k j (inr q) =
-        a .sets x i (omega arith) j ∙ ap (λ p. on us (13952 + 12 * x) i || p) (any-none (λ c. entry s (seen us) d c x i) (bindings s d) (λ c. elsewhere s (seen us) d c x i q)) ∙ sym (or-false (on us (13952 + 12 * x) i))
+        a .sets x i (omega arith) j ∙ ap (λ p. on us (rows·sets + 12 * x) i || p) (any-none (λ c. entry s (seen us) d c x i) (bindings s d) (λ c. elsewhere s (seen us) d c x i q)) ∙ sym (or-false (on us (rows·sets + 12 * x) i))
         ∙ b .sets x i (omega (arith, q)) j
 
 pub bound-done : (s : Words) (n d : ℕ) (ws us : Words) → d ≤ n → n ≤ d → Bound s d ws us → Bound s n ws us

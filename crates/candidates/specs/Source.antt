@@ -22,6 +22,7 @@ use Rattle.rules.specs.Candidates.{ancestors, ancestors-of, visible}
 use Rattle.rules.specs.Admission.{Ancestor, itself, of-parent}
 use Rattle.rules.specs.AncestorLaws.{ancestors-in, parent-below}
 use Rattle.words.specs.Buffers.{cleared}
+use Rattle.candidates.specs.Layout.{index·definitions}
 use Rattle.candidates.specs.Index.{Indexes, indexes-keep}
 
 -- Definition a is marked.
@@ -65,7 +66,7 @@ pub record Climbed (s : Words) (src : ℕ) (ws us : Words) : Type 0 where
   pub marks : (a : ℕ) → a < 128 → marked us a ≡ (marked ws a || is-in a (ancestors s src))
   pub others : (p : ℕ) → 128 ≤ p → at us p ≡ at ws p
 
-pub climb-start : (s : Words) (src : ℕ) (ws : Words) (left : ℕ) → left ≡ at ws 18560 → Indexes s ws → Climbing s src ws ws src left
+pub climb-start : (s : Words) (src : ℕ) (ws : Words) (left : ℕ) → left ≡ at ws index·definitions → Indexes s ws → Climbing s src ws ws src left
 unfolding ancestors
 climb-start s src ws left e x = record { marks = λ a h. ap (λ n. marked ws a || is-in a (ancestors-of n s src)) (e ∙ x .definitions .count); others = λ p h. refl }
 

@@ -1,4 +1,4 @@
--- Rows that spread along a relation: n rows of 384 bits at place m say which node leads to which, and each of the n rows at m + 9216 takes what the rows that its node leads to have.
+-- Rows that spread along a relation: n rows of 384 bits at place m say which node leads to which, and each of the n rows at m + rows·behind takes what the rows that its node leads to have.
 -- What is there in the end is what walks along the relation reach.
 use Prim.Native.Nat.{ℕ, zero, suc, _+_, _*_, _-_, _/_, _%_, _^_, _≤_, _<_}
 use mathlib.Core.Path.{_≡_, refl, sym, _∙_, ap, ap₂, subst}
@@ -17,6 +17,7 @@ use lib.Seq.{getD-set-same, getD-set-other}
 use borrow.Author.Tests.{eqb-true, eqb-false, eq-eqb, ne-eqb}
 use Rattle.rules.specs.Lists.{Words}
 use Rattle.rules.specs.Sheet.{at}
+use Rattle.candidates.specs.Layout.{rows·links, rows·open, rows·reach, rows·sets, rows·end, rows·behind}
 use Rattle.candidates.specs.Bits.{bit, on, bit-or, join-words, Moved, moved-none, slack, Joined}
 
 -- Node x leads to node y; node x has j.
@@ -24,7 +25,7 @@ unfoldable pub leads : ℕ → Words → ℕ → ℕ → Bool
 leads m ws x y = on ws (m + 12 * x) y
 
 unfoldable pub has : ℕ → Words → ℕ → ℕ → Bool
-has m ws x j = on ws (m + 9216 + 12 * x) j
+has m ws x j = on ws (m + rows·behind + 12 * x) j
 
 -- A walk along a relation of n nodes.
 pub data Walk (R : ℕ → ℕ → Bool) (n : ℕ) : ℕ → ℕ → Type 0 where
@@ -88,7 +89,7 @@ module _ (a b : ℕ) (ws : Words) (apart : (a + 12 ≤ b) ⊎ (b + 12 ≤ a)) (f
 
 -- Outside the rows that spread.
 abbrev pub Outside : ℕ → ℕ → ℕ → Type 0
-Outside n m p = (p < m + 9216) ⊎ (m + 9216 + 12 * n ≤ p)
+Outside n m p = (p < m + rows·behind) ⊎ (m + rows·behind + 12 * n ≤ p)
 
 -- Rows that have what they had, and what walks lead to.
 pub record Grown (n m : ℕ) (ws us : Words) : Type 0 where
@@ -140,12 +141,12 @@ equal-or z x = go (eqb z x) refl
     go false e = inr (eqb-false z x e)
 
 -- Row x joined with row y, to which a walk leads from x.
-module _ (n m x y : ℕ) (ws us : Words) (l : n ≤ 384) (hx : x < n) (hy : y < n) (ne : y ≢ x) (fits : m + 9216 + 12 * n ≤ length ws) (walk : Walk (leads m ws) n x y) where
+module _ (n m x y : ℕ) (ws us : Words) (l : n ≤ 384) (hx : x < n) (hy : y < n) (ne : y ≢ x) (fits : m + rows·behind + 12 * n ≤ length ws) (walk : Walk (leads m ws) n x y) where
   abbrev a : ℕ
-  a = m + 9216 + 12 * x
+  a = m + rows·behind + 12 * x
 
   abbrev b : ℕ
-  b = m + 9216 + 12 * y
+  b = m + rows·behind + 12 * y
 
   apart : (a + 12 ≤ b) ⊎ (b + 12 ≤ a)
   apart = go (x - y) refl
@@ -163,23 +164,23 @@ module _ (n m x y : ℕ) (ws us : Words) (l : n ≤ 384) (hx : x < n) (hy : y < 
     sound = sound;
   })
     where
-      other : (z : ℕ) → z ≢ x → (m + 9216 + 12 * z + 12 ≤ a) ⊎ (a + 12 ≤ m + 9216 + 12 * z)
+      other : (z : ℕ) → z ≢ x → (m + rows·behind + 12 * z + 12 ≤ a) ⊎ (a + 12 ≤ m + rows·behind + 12 * z)
       other z q = go (x - z) refl
         where
-          go : (d : ℕ) → x - z ≡ d → (m + 9216 + 12 * z + 12 ≤ a) ⊎ (a + 12 ≤ m + 9216 + 12 * z)
+          go : (d : ℕ) → x - z ≡ d → (m + rows·behind + 12 * z + 12 ≤ a) ⊎ (a + 12 ≤ m + rows·behind + 12 * z)
           go zero e = inr (omega (arith, q))
           go (suc d) e = inl (omega arith)
 
-      keeps : (z j : ℕ) → z < n → j < 384 → T (on ws (m + 9216 + 12 * z) j) → T (on (join-words 12 a b ws) (m + 9216 + 12 * z) j)
+      keeps : (z j : ℕ) → z < n → j < 384 → T (on ws (m + rows·behind + 12 * z) j) → T (on (join-words 12 a b ws) (m + rows·behind + 12 * z) j)
       keeps z j hz hj u = ⊎-elim at-row elsewhere (equal-or z x)
         where
-          at-row : z ≡ x → T (on (join-words 12 a b ws) (m + 9216 + 12 * z) j)
-          at-row q = subst (λ w. T (on (join-words 12 a b ws) (m + 9216 + 12 * w) j)) (sym q) (subst T (sym (on-joined a b ws apart (omega arith) j hj)) (or-left (on ws a j) (on ws b j) (subst (λ w. T (on ws (m + 9216 + 12 * w) j)) q u)))
+          at-row : z ≡ x → T (on (join-words 12 a b ws) (m + rows·behind + 12 * z) j)
+          at-row q = subst (λ w. T (on (join-words 12 a b ws) (m + rows·behind + 12 * w) j)) (sym q) (subst T (sym (on-joined a b ws apart (omega arith) j hj)) (or-left (on ws a j) (on ws b j) (subst (λ w. T (on ws (m + rows·behind + 12 * w) j)) q u)))
 
-          elsewhere : z ≢ x → T (on (join-words 12 a b ws) (m + 9216 + 12 * z) j)
-          elsewhere q = subst T (sym (on-others a b ws apart (omega arith) (m + 9216 + 12 * z) j (other z q) hj)) u
+          elsewhere : z ≢ x → T (on (join-words 12 a b ws) (m + rows·behind + 12 * z) j)
+          elsewhere q = subst T (sym (on-others a b ws apart (omega arith) (m + rows·behind + 12 * z) j (other z q) hj)) u
 
-      sound : (z j : ℕ) → z < n → j < 384 → T (on (join-words 12 a b ws) (m + 9216 + 12 * z) j) → Comes n m ws z j
+      sound : (z j : ℕ) → z < n → j < 384 → T (on (join-words 12 a b ws) (m + rows·behind + 12 * z) j) → Comes n m ws z j
       sound z j hz hj u = ⊎-elim at-row elsewhere (equal-or z x)
         where
           from : T (on ws a j) ⊎ T (on ws b j) → Comes n m ws x j
@@ -187,10 +188,10 @@ module _ (n m x y : ℕ) (ws us : Words) (l : n ≤ 384) (hx : x < n) (hy : y < 
           from (inr v) = record { end = y; below = hy; walk = walk; there = v }
 
           at-row : z ≡ x → Comes n m ws z j
-          at-row q = subst (λ w. Comes n m ws w j) (sym q) (from (or-cases (on ws a j) (on ws b j) (subst T (on-joined a b ws apart (omega arith) j hj) (subst (λ w. T (on (join-words 12 a b ws) (m + 9216 + 12 * w) j)) q u))))
+          at-row q = subst (λ w. Comes n m ws w j) (sym q) (from (or-cases (on ws a j) (on ws b j) (subst T (on-joined a b ws apart (omega arith) j hj) (subst (λ w. T (on (join-words 12 a b ws) (m + rows·behind + 12 * w) j)) q u))))
 
           elsewhere : z ≢ x → Comes n m ws z j
-          elsewhere q = record { end = z; below = hz; walk = stay; there = subst T (on-others a b ws apart (omega arith) (m + 9216 + 12 * z) j (other z q) hj) u }
+          elsewhere q = record { end = z; below = hz; walk = stay; there = subst T (on-others a b ws apart (omega arith) (m + rows·behind + 12 * z) j (other z q) hj) u }
 
 -- Two moves are a move.
 pub moved-on : (ws us vs : Words) (a b : Bool) → Moved ws us a → Moved us vs b → Moved ws vs (a || b)
@@ -216,8 +217,8 @@ pub record Taken (n m x y : ℕ) (ws us : Words) (changed : Bool) : Type 0 where
 pub taken-none : (n m x : ℕ) (ws : Words) → Taken n m x 0 ws ws false
 taken-none n m x ws = record { grown = grown-none n m ws; moved = moved-none ws; closed = λ e z j h k l t u. absurd (not-suc-le-zero h) }
 
-pub taken-join : (n m x y : ℕ) (ws us vs : Words) (changed r : Bool) → n ≤ 384 → x < n → y < n → y ≢ x → m + 9216 + 12 * n ≤ length us → on us (m + 12 * x) y ≡ true
-    → Taken n m x y ws us changed → Joined us vs r (m + 9216 + 12 * x) (m + 9216 + 12 * y) → Taken n m x (y + 1) ws vs (changed || r)
+pub taken-join : (n m x y : ℕ) (ws us vs : Words) (changed r : Bool) → n ≤ 384 → x < n → y < n → y ≢ x → m + rows·behind + 12 * n ≤ length us → on us (m + 12 * x) y ≡ true
+    → Taken n m x y ws us changed → Joined us vs r (m + rows·behind + 12 * x) (m + rows·behind + 12 * y) → Taken n m x (y + 1) ws vs (changed || r)
 unfolding leads has
 taken-join n m x y ws us vs changed r l hx hy ne fits t k i = record {
   grown = grown-on n m ws us vs l (k .grown) (grown-joined n m x y us vs l hx hy ne fits (step (subst T (sym t) tt) hy stay) (i .is));
@@ -234,10 +235,10 @@ taken-join n m x y ws us vs changed r l hx hy ne fits t k i = record {
         here : z ≡ y → T (has m ws x j)
         here q =
             let s : us ≡ ws = k .moved .still (e .0) in
-            let w : T (on us (m + 9216 + 12 * y) j) = subst (λ c. T (on us (m + 9216 + 12 * c) j)) q (subst (λ c. T (on c (m + 9216 + 12 * z) j)) (sym s) v) in
-            let o = on-joined (m + 9216 + 12 * x) (m + 9216 + 12 * y) us (apart n m x y us vs l hx hy ne fits (step (subst T (sym t) tt) hy stay)) (omega arith) j hj in
-            let g : T (on (join-words 12 (m + 9216 + 12 * x) (m + 9216 + 12 * y) us) (m + 9216 + 12 * x) j) = subst T (sym o) (or-right (on us (m + 9216 + 12 * x) j) (on us (m + 9216 + 12 * y) j) w) in
-            subst (λ c. T (on c (m + 9216 + 12 * x) j)) (sym (i .is) ∙ i .moved .still (e .1) ∙ s) g
+            let w : T (on us (m + rows·behind + 12 * y) j) = subst (λ c. T (on us (m + rows·behind + 12 * c) j)) q (subst (λ c. T (on c (m + rows·behind + 12 * z) j)) (sym s) v) in
+            let o = on-joined (m + rows·behind + 12 * x) (m + rows·behind + 12 * y) us (apart n m x y us vs l hx hy ne fits (step (subst T (sym t) tt) hy stay)) (omega arith) j hj in
+            let g : T (on (join-words 12 (m + rows·behind + 12 * x) (m + rows·behind + 12 * y) us) (m + rows·behind + 12 * x) j) = subst T (sym o) (or-right (on us (m + rows·behind + 12 * x) j) (on us (m + rows·behind + 12 * y) j) w) in
+            subst (λ c. T (on c (m + rows·behind + 12 * x) j)) (sym (i .is) ∙ i .moved .still (e .1) ∙ s) g
 
 pub taken-self : (n m x y : ℕ) (ws us : Words) (changed : Bool) → y ≡ x → Taken n m x y ws us changed → Taken n m x (y + 1) ws us changed
 taken-self n m x y ws us changed q k = record {
@@ -250,7 +251,7 @@ taken-self n m x y ws us changed q k = record {
 pub record Room (n m x : ℕ) (ws : Words) : Type 0 where
   pub few : n ≤ 384
   pub node : x < n
-  pub fits : m + 9216 + 12 * n ≤ length ws
+  pub fits : m + rows·behind + 12 * n ≤ length ws
 
 -- Node x takes what node y has: whatever was taken before, it is one node more.
 pub record Takes (n m x y : ℕ) (us vs : Words) (r : Bool) : Type 0 where
@@ -267,7 +268,7 @@ pub takes-self : (n m x y : ℕ) (us : Words) → y ≡ x → Takes n m x y us u
 takes-self n m x y us e = record { size = refl; grown = grown-none n m us; moved = moved-none us; more = λ ws changed k. subst (Taken n m x (y + 1) ws us) (or-false changed) (taken-self n m x y ws us changed e k) }
 
 pub takes-join : (n m x y : ℕ) (us vs : Words) (r : Bool) → Room n m x us → y < n → y ≢ x → on us (m + 12 * x) y ≡ true → length vs ≡ length us
-    → Joined us vs r (m + 9216 + 12 * x) (m + 9216 + 12 * y) → Takes n m x y us vs r
+    → Joined us vs r (m + rows·behind + 12 * x) (m + rows·behind + 12 * y) → Takes n m x y us vs r
 unfolding leads
 takes-join n m x y us vs r o hy ne t s i = record {
   size = s;
@@ -464,7 +465,7 @@ first-past us p y n j h c = record { up = c .up; none = c .none; here = λ q. ab
 -- There is room for the rows.
 pub record Rows (n m : ℕ) (ws : Words) : Type 0 where
   pub few : n ≤ 384
-  pub fits : m + 9216 + 12 * n ≤ length ws
+  pub fits : m + rows·behind + 12 * n ≤ length ws
 
 pub rows-same : (n m : ℕ) (ws us : Words) → length us ≡ length ws → Rows n m ws → Rows n m us
 rows-same n m ws us e o = record { few = o .few; fits = omega (arith, o .fits) }
@@ -536,37 +537,37 @@ visited-more n m ws us vs o = visited-on n m ws us vs (o .few)
 
 -- Nodes that have each other's bit in the rows of reach: a walk leads from one to the other, now and however the rows grow.
 pub record Kin (n m : ℕ) (ws : Words) : Type 0 where
-  pub at : (us : Words) → Grown n m ws us → (x z : ℕ) → x < n → z < n → T (on us (9344 + 12 * x) z) → T (on us (9344 + 12 * z) x) → Walk (leads m us) n x z
+  pub at : (us : Words) → Grown n m ws us → (x z : ℕ) → x < n → z < n → T (on us (rows·reach + 12 * x) z) → T (on us (rows·reach + 12 * z) x) → Walk (leads m us) n x z
 
 walk-over : {n : ℕ} (m : ℕ) (ws us : Words) → n ≤ 384 → ((p : ℕ) → Outside n m p → at us p ≡ at ws p) → {x y : ℕ} → x < n → Walk (leads m ws) n x y → Walk (leads m us) n x y
 walk-over m ws us l same h w = walk-same m us ws l (λ p o. sym (same p o)) h w
 
 -- Where every node has itself alone, walks lead to what it has.
-pub kin-selves : (n : ℕ) (ws : Words) → n ≤ 384 → ((x j : ℕ) → x < n → j < 384 → on ws (9344 + 12 * x) j ≡ eqb j x) → Kin n 128 ws
+pub kin-selves : (n : ℕ) (ws : Words) → n ≤ 384 → ((x j : ℕ) → x < n → j < 384 → on ws (rows·reach + 12 * x) j ≡ eqb j x) → Kin n rows·links ws
 unfolding has
 kin-selves n ws l own = record {
   at = λ us g x z hx hz t u.
       let m = g .sound x z hx (omega arith) t in
       let e : z ≡ m .end = eqb→eq z (m .end) (subst T (own (m .end) z (m .below) (omega arith)) (m .there)) in
-      walk-over 128 ws us l (g .same) hx (subst (Walk (leads 128 ws) n x) (sym e) (m .walk));
+      walk-over rows·links ws us l (g .same) hx (subst (Walk (leads rows·links ws) n x) (sym e) (m .walk));
 }
 
 -- The same of the open edges, as long as they and the rows of reach stand.
 pub record Kindred (n : ℕ) (ws : Words) : Type 0 where
-  pub at : (x z : ℕ) → x < n → z < n → T (on ws (9344 + 12 * x) z) → T (on ws (9344 + 12 * z) x) → Walk (leads 4736 ws) n x z
+  pub at : (x z : ℕ) → x < n → z < n → T (on ws (rows·reach + 12 * x) z) → T (on ws (rows·reach + 12 * z) x) → Walk (leads rows·open ws) n x z
 
-pub kin-open : (n : ℕ) (ws us : Words) → n ≤ 384 → ((q : ℕ) → (q < 13952) ⊎ (18560 ≤ q) → at us q ≡ at ws q) → Kindred n ws → Kin n 4736 us
+pub kin-open : (n : ℕ) (ws us : Words) → n ≤ 384 → ((q : ℕ) → (q < rows·sets) ⊎ (rows·end ≤ q) → at us q ≡ at ws q) → Kindred n ws → Kin n rows·open us
 unfolding on leads
 kin-open n ws us l same k = record {
   at = λ vs g x z hx hz t u.
-      let row : (y j : ℕ) → y < n → j < 384 → on vs (9344 + 12 * y) j ≡ on ws (9344 + 12 * y) j = λ y j hy hj.
-      ap (λ w. bit w (j % 32)) (g .same (9344 + 12 * y + j / 32) (inl (omega arith)) ∙ same (9344 + 12 * y + j / 32) (inl (omega arith))) in
-      walk-over 4736 us vs l (g .same) hx (over hx (k .at x z hx hz (subst T (row x z hx (omega arith)) t) (subst T (row z x hz (omega arith)) u)));
+      let row : (y j : ℕ) → y < n → j < 384 → on vs (rows·reach + 12 * y) j ≡ on ws (rows·reach + 12 * y) j = λ y j hy hj.
+      ap (λ w. bit w (j % 32)) (g .same (rows·reach + 12 * y + j / 32) (inl (omega arith)) ∙ same (rows·reach + 12 * y + j / 32) (inl (omega arith))) in
+      walk-over rows·open us vs l (g .same) hx (over hx (k .at x z hx hz (subst T (row x z hx (omega arith)) t) (subst T (row z x hz (omega arith)) u)));
 }
   where
-    over : {x y : ℕ} → x < n → Walk (leads 4736 ws) n x y → Walk (leads 4736 us) n x y
+    over : {x y : ℕ} → x < n → Walk (leads rows·open ws) n x y → Walk (leads rows·open us) n x y
     over hx stay = stay
-    over hx (step {x} {y} t h p) = step (subst T (sym (ap (λ w. bit w (y % 32)) (same (4736 + 12 * x + y / 32) (inl (omega arith))))) t) h (over h p)
+    over hx (step {x} {y} t h p) = step (subst T (sym (ap (λ w. bit w (y % 32)) (same (rows·open + 12 * x + y / 32) (inl (omega arith))))) t) h (over h p)
 
 pub kin-grown : (n m : ℕ) (ws us : Words) → n ≤ 384 → Grown n m ws us → Kin n m ws → Kin n m us
 kin-grown n m ws us l g k = record { at = λ vs h. k .at vs (grown-on n m ws us vs l g h) }
@@ -577,8 +578,8 @@ kin-visited n m ws us o v = kin-grown n m ws us (o .few) (v .grown)
 pub room-rows : (n m x : ℕ) (ws : Words) → Room n m x ws → Rows n m ws
 room-rows n m x ws o = record { few = o .few; fits = o .fits }
 
-pub pulled : (n m x z : ℕ) (us vs : Words) (a b r : Bool) → Room n m x us → Kin n m us → z < n → z ≢ x → a ≡ on us (9344 + 12 * x) z → a ≡ true → b ≡ on us (9344 + 12 * z) x → b ≡ true
-    → Joined us vs r (m + 9216 + 12 * x) (m + 9216 + 12 * z) → Visited n m us vs
+pub pulled : (n m x z : ℕ) (us vs : Words) (a b r : Bool) → Room n m x us → Kin n m us → z < n → z ≢ x → a ≡ on us (rows·reach + 12 * x) z → a ≡ true → b ≡ on us (rows·reach + 12 * z) x → b ≡ true
+    → Joined us vs r (m + rows·behind + 12 * x) (m + rows·behind + 12 * z) → Visited n m us vs
 pulled n m x z us vs a b r o k hz ne ea ta eb tb i = record {
   grown = grown-joined n m x z us vs (o .few) (o .node) hz ne (o .fits) (k .at us (grown-none n m us) x z (o .node) hz (subst T (sym (sym ea ∙ ta)) tt) (subst T (sym (sym eb ∙ tb)) tt)) (i .is);
   less = moved-less us vs r (i .moved);

@@ -6,11 +6,8 @@ ghost use Rattle.candidates.specs.Index.{Indexes};
 ghost use Rattle.candidates.specs.Find.{in-some, wanted, tested, NextCandidate, NextAdmitted};
 use crate::index::impl_word;
 use crate::index::wide;
+use crate::layout;
 use crate::rows::on;
-
-const SETS: usize = 13952;
-
-const IMPLS: usize = 22657;
 
 // The set of some node among these has impl i.
 fn in_some(ws: &[u32], nodes: &[u32], i: usize) -> bool
@@ -18,7 +15,7 @@ fn in_some(ws: &[u32], nodes: &[u32], i: usize) -> bool
 {
     let mut k = 0;
     while k < nodes.len() {
-        if on(ws, SETS + 12 * wide(nodes[k]), i) {
+        if on(ws, layout::SETS + 12 * wide(nodes[k]), i) {
             return true;
         }
         k += 1;
@@ -65,7 +62,7 @@ pub fn next_candidate(
     requires { ⌜ Indexes (now s) (now ws) × (basic < 2) ⌝ }
     ensures { λ r. ⌜ NextCandidate (now (s .entry)) (now (ws .entry)) (now (nodes .entry)) t (eqb basic 1) from r ⌝ }
 {
-    let n = words::next(ws, IMPLS);
+    let n = words::next(ws, layout::IMPLS);
     let mut i = from;
     while i < n {
         if candidate(s, ws, nodes, t, basic, i) {
@@ -81,10 +78,10 @@ pub fn next_admitted(s: &[u32], ws: &[u32], node: usize, from: usize) -> usize
     requires { ⌜ Indexes (now s) (now ws) × (node < 384) ⌝ }
     ensures { λ r. ⌜ NextAdmitted (now (s .entry)) (now (ws .entry)) node from r ⌝ }
 {
-    let n = words::next(ws, IMPLS);
+    let n = words::next(ws, layout::IMPLS);
     let mut i = from;
     while i < n {
-        if on(ws, SETS + 12 * node, i) {
+        if on(ws, layout::SETS + 12 * node, i) {
             return i;
         }
         i += 1;

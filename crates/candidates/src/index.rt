@@ -5,15 +5,9 @@ ghost use Prim.Native.Nat.{_+_, _≤_, _<_};
 ghost use lib.ListN.{length};
 ghost use Rattle.rules.specs.Layout.{header·definitions, header·impls};
 ghost use Rattle.rules.specs.Sheet.{many, field, trait-def, inherent-params, import-def};
+ghost use Rattle.candidates.specs.Layout.{candidates·length};
 ghost use Rattle.candidates.specs.Index.{Places, Indexing, looked, Indexes, IndexedAll};
-
-pub const DEFINITIONS: usize = 18560;
-
-const IMPLS: usize = 22657;
-
-const TRAITS: usize = 26754;
-
-const IMPORTS: usize = 30851;
+use crate::layout;
 
 pub fn wide(w: u32) -> usize
     ensures { λ r. ⌜ (r ≡ w) × (r < 4294967296) ⌝ }
@@ -61,13 +55,13 @@ fn look(ws: &[u32], base: usize, id: usize) -> usize
 
 // Writes the four indexes.
 pub fn index_all(s: &[u32], ws: &mut [u32])
-    requires { ⌜ (length (now s) ≤ 4096) × (34948 ≤ length (now ws)) ⌝ }
+    requires { ⌜ (length (now s) ≤ 4096) × (candidates·length ≤ length (now ws)) ⌝ }
     ensures { λ _. ⌜ IndexedAll (now (s .entry)) (now (ws .entry)) (now (ws .exit)) ⌝ }
 {
-    index(s, 1, ws, DEFINITIONS);
-    index(s, 4, ws, IMPLS);
-    index(s, 3, ws, TRAITS);
-    index(s, 10, ws, IMPORTS);
+    index(s, 1, ws, layout::DEFINITIONS);
+    index(s, 4, ws, layout::IMPLS);
+    index(s, 3, ws, layout::TRAITS);
+    index(s, 10, ws, layout::IMPORTS);
 }
 
 // How many definitions there are.
@@ -75,7 +69,7 @@ pub fn definitions(s: &[u32], ws: &[u32]) -> usize
     requires { ⌜ Indexes (now s) (now ws) ⌝ }
     ensures { λ r. ⌜ r ≡ many (now (s .entry)) header·definitions ⌝ }
 {
-    words::next(ws, DEFINITIONS)
+    words::next(ws, layout::DEFINITIONS)
 }
 
 // How many impls there are.
@@ -83,7 +77,7 @@ pub fn impls(s: &[u32], ws: &[u32]) -> usize
     requires { ⌜ Indexes (now s) (now ws) ⌝ }
     ensures { λ r. ⌜ r ≡ many (now (s .entry)) header·impls ⌝ }
 {
-    words::next(ws, IMPLS)
+    words::next(ws, layout::IMPLS)
 }
 
 // Word k of definition d.
@@ -91,7 +85,7 @@ pub fn definition(s: &[u32], ws: &[u32], d: usize, k: usize) -> u32
     requires { ⌜ Indexes (now s) (now ws) ⌝ }
     ensures { λ r. ⌜ r ≡ field (now (s .entry)) header·definitions d k ⌝ }
 {
-    words::offset(s, look(ws, DEFINITIONS, d), k)
+    words::offset(s, look(ws, layout::DEFINITIONS, d), k)
 }
 
 // Word k of impl i.
@@ -99,7 +93,7 @@ pub fn impl_word(s: &[u32], ws: &[u32], i: usize, k: usize) -> u32
     requires { ⌜ Indexes (now s) (now ws) ⌝ }
     ensures { λ r. ⌜ r ≡ field (now (s .entry)) header·impls i k ⌝ }
 {
-    words::offset(s, look(ws, IMPLS, i), k)
+    words::offset(s, look(ws, layout::IMPLS, i), k)
 }
 
 // The definition of a trait.
@@ -107,7 +101,7 @@ pub fn trait_def(s: &[u32], ws: &[u32], t: usize) -> u32
     requires { ⌜ Indexes (now s) (now ws) ⌝ }
     ensures { λ r. ⌜ r ≡ trait-def (now (s .entry)) t ⌝ }
 {
-    words::offset(s, look(ws, TRAITS, t), 1)
+    words::offset(s, look(ws, layout::TRAITS, t), 1)
 }
 
 // How many of a trait's arguments are inherent.
@@ -115,7 +109,7 @@ pub fn inherent(s: &[u32], ws: &[u32], t: usize) -> u32
     requires { ⌜ Indexes (now s) (now ws) ⌝ }
     ensures { λ r. ⌜ r ≡ inherent-params (now (s .entry)) t ⌝ }
 {
-    words::offset(s, look(ws, TRAITS, t), 3)
+    words::offset(s, look(ws, layout::TRAITS, t), 3)
 }
 
 // The definition? of an import.
@@ -123,5 +117,5 @@ pub fn import_def(s: &[u32], ws: &[u32], i: usize) -> u32
     requires { ⌜ Indexes (now s) (now ws) ⌝ }
     ensures { λ r. ⌜ r ≡ import-def (now (s .entry)) i ⌝ }
 {
-    words::offset(s, look(ws, IMPORTS, i), 1)
+    words::offset(s, look(ws, layout::IMPORTS, i), 1)
 }

@@ -6,6 +6,7 @@ ghost use lib.ListN.{length};
 ghost use Rattle.rules.specs.Layout.{header·definitions};
 ghost use Rattle.rules.specs.Sheet.{many};
 ghost use Rattle.rules.specs.CheckLaws.{Checked};
+ghost use Rattle.candidates.specs.Layout.{candidates·length};
 ghost use Rattle.candidates.specs.Links.{LinkingAll};
 ghost use Rattle.candidates.specs.Spread.{Kindred};
 ghost use Rattle.candidates.specs.Sets.{BindingAll};
@@ -14,6 +15,7 @@ ghost use Rattle.candidates.specs.Build.{Prepared, Connected, Filled, Ca
 pub mod find;
 pub mod index;
 mod inner;
+pub mod layout;
 mod links;
 mod order;
 mod rows;
@@ -22,10 +24,10 @@ mod source;
 
 // Clears the rows, writes the indexes and marks the source's ancestors.
 fn prepare(s: &[u32], ws: &mut [u32], src: usize)
-    requires { ⌜ (length (now s) ≤ 4096) × (34948 ≤ length (now ws)) ⌝ }
+    requires { ⌜ (length (now s) ≤ 4096) × (candidates·length ≤ length (now ws)) ⌝ }
     ensures { λ _. ⌜ Prepared (now (s .entry)) src (now (ws .exit)) ⌝ }
 {
-    words::clear(ws, 18560);
+    words::clear(ws, layout::ROWS_END);
     index::index_all(s, ws);
     source::source(s, ws, src);
 }
@@ -37,7 +39,7 @@ fn connect(s: &[u32], ws: &mut [u32], n: usize)
 {
     links::link_all(s, ws, n);
     inner::selves(ws, 3 * n);
-    rows::spread(ws, 3 * n, 128);
+    rows::spread(ws, 3 * n, layout::LINKS);
     inner::inner(ws, 3 * n);
 }
 
@@ -47,16 +49,16 @@ fn fill(s: &[u32], ws: &mut [u32], n: usize)
     ensures { λ _. ⌜ Filled (now (s .entry)) n (now (ws .entry)) (now (ws .exit)) ⌝ }
 {
     sets::bind_all(s, ws, n);
-    rows::spread(ws, 3 * n, 4736);
+    rows::spread(ws, 3 * n, layout::OPEN);
 }
 
 // The candidate sets of all nodes for a source.
 pub fn build(s: &[u32], ws: &mut [u32], src: usize)
-    requires { ⌜ Checked (now s) × (length (now s) ≤ 4096) × (src < many (now s) header·definitions) × (34948 ≤ length (now ws)) ⌝ }
+    requires { ⌜ Checked (now s) × (length (now s) ≤ 4096) × (src < many (now s) header·definitions) × (candidates·length ≤ length (now ws)) ⌝ }
     ensures { λ _. ⌜ Candidates (now (s .entry)) src (now (ws .exit)) ⌝ }
 {
     prepare(s, ws, src);
-    let n = words::next(ws, 18560);
+    let n = words::next(ws, layout::DEFINITIONS);
     connect(s, ws, n);
     fill(s, ws, n);
 }

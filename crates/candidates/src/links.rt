@@ -8,31 +8,29 @@ ghost use lib.Dec.{eqb};
 ghost use Rattle.rules.specs.Lists.{concat-map};
 ghost use Rattle.rules.specs.Sheet.{chain};
 ghost use Rattle.rules.specs.Candidates.{member-edges, binding-edges, edges};
+ghost use Rattle.candidates.specs.Layout.{rows·end};
 ghost use Rattle.candidates.specs.Links.{Linking, LinkingAll, Adds, trait-edges, LinksDefinition, Built};
 use crate::index::definition;
 use crate::index::impl_word;
 use crate::index::import_def;
 use crate::index::trait_def;
 use crate::index::wide;
+use crate::layout;
 use crate::rows::set_bit;
 use crate::source::visible;
 
-const LINKS: usize = 128;
-
-const OPEN: usize = 4736;
-
 // Adds an edge from node x, of a vis, to node y.
 fn link(ws: &mut [u32], x: usize, vis: u32, y: usize)
-    requires { ⌜ (x < 384) × (18560 ≤ length (now ws)) ⌝ }
+    requires { ⌜ (x < 384) × (rows·end ≤ length (now ws)) ⌝ }
     ensures { λ _. ⌜ Adds x ((vis, y) ∷ []) (now (ws .entry)) (now (ws .exit)) ⌝ }
 {
     let open = visible(ws, vis);
     if 384 <= y {
         return;
     }
-    set_bit(ws, LINKS + 12 * x, y);
+    set_bit(ws, layout::LINKS + 12 * x, y);
     if open {
-        set_bit(ws, OPEN + 12 * x, y);
+        set_bit(ws, layout::OPEN + 12 * x, y);
     }
 }
 

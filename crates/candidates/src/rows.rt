@@ -6,9 +6,8 @@ ghost use lib.ListN.{length};
 ghost use Rattle.rules.specs.Sheet.{at};
 ghost use Rattle.candidates.specs.Bits.{bit, on, with-bit, Joined};
 ghost use Rattle.candidates.specs.Spread.{NextOn, Kin, Way, Childs, Visited, Rows, Room, Takes, Taken, Passed, Spread};
+use crate::layout;
 use crate::order;
-
-const REACH: usize = 9344;
 
 // Bit b of a word is 1.
 fn bit(w: u32, b: usize) -> bool
@@ -95,7 +94,7 @@ fn take(ws: &mut [u32], n: usize, m: usize, x: usize, y: usize) -> bool
     if y == x {
         return false;
     }
-    join(ws, m + 9216 + 12 * x, m + 9216 + 12 * y)
+    join(ws, m + layout::BEHIND + 12 * x, m + layout::BEHIND + 12 * y)
 }
 
 // Row x takes what the rows have to which its node leads; whether that changed it.
@@ -124,9 +123,9 @@ fn pull(ws: &mut [u32], n: usize, m: usize, x: usize, z: usize)
     if z == x {
         return;
     }
-    if on(ws, REACH + 12 * x, z) {
-        if on(ws, REACH + 12 * z, x) {
-            join(ws, m + 9216 + 12 * x, m + 9216 + 12 * z);
+    if on(ws, layout::REACH + 12 * x, z) {
+        if on(ws, layout::REACH + 12 * z, x) {
+            join(ws, m + layout::BEHIND + 12 * x, m + layout::BEHIND + 12 * z);
         }
     }
 }
@@ -249,7 +248,7 @@ fn pass(ws: &mut [u32], n: usize, m: usize) -> bool
     changed
 }
 
-// What the n rows behind m + 9216 have spreads along the relation of the rows behind m. Depth-first order and Tarjan's numbers are there for speed:
+// What the n rows at m + BEHIND have spreads along the relation of the rows at m. Depth-first order and Tarjan's numbers are there for speed:
 // with them one turn is enough. That nothing more changes is found by a pass over all rows, and nothing of the order is relied upon.
 pub fn spread(ws: &mut [u32], n: usize, m: usize)
     requires { ⌜ Rows n m (now ws) × Kin n m (now ws) ⌝ }

@@ -11,10 +11,9 @@ ghost use Rattle.candidates.specs.Sets.{Binding, BindingAll, Enters, Bou
 use crate::index::definition;
 use crate::index::impl_word;
 use crate::index::wide;
+use crate::layout;
 use crate::rows::set_bit;
 use crate::source::visible;
-
-const SETS: usize = 13952;
 
 // "Manual, unsafe and Error impls never enter."
 fn may_enter(s: &[u32], ws: &[u32], i: usize) -> bool
@@ -56,7 +55,7 @@ fn bind(s: &[u32], ws: &mut [u32], d: usize, b: usize)
     if open {
         if may_enter(s, ws, i) {
             let x = binding_node(s, ws, d, i);
-            set_bit(ws, SETS + 12 * x, i);
+            set_bit(ws, layout::SETS + 12 * x, i);
         }
     }
 }

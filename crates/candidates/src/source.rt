@@ -2,11 +2,12 @@
 ghost use mathlib.Core.Path.{_≡_};
 ghost use Prim.Native.Nat.{_≤_, _<_};
 ghost use lib.ListN.{length};
+ghost use Rattle.candidates.specs.Layout.{candidates·length};
 ghost use Rattle.candidates.specs.Index.{Indexes};
 ghost use Rattle.candidates.specs.Source.{Marked, Climbed, Sourced, seen};
-use crate::index::DEFINITIONS;
 use crate::index::definition;
 use crate::index::wide;
+use crate::layout;
 
 // Marks a definition.
 fn mark(ws: &mut [u32], d: usize)
@@ -20,11 +21,11 @@ fn mark(ws: &mut [u32], d: usize)
 
 // Marks the ancestors of a definition.
 fn climb(s: &[u32], ws: &mut [u32], src: usize)
-    requires { ⌜ (length (now s) ≤ 4096) × (34948 ≤ length (now ws)) × Indexes (now s) (now ws) ⌝ }
+    requires { ⌜ (length (now s) ≤ 4096) × (candidates·length ≤ length (now ws)) × Indexes (now s) (now ws) ⌝ }
     ensures { λ _. ⌜ Climbed (now (s .entry)) src (now (ws .entry)) (now (ws .exit)) ⌝ }
 {
     let mut d = src;
-    let mut left = words::next(ws, DEFINITIONS);
+    let mut left = words::next(ws, layout::DEFINITIONS);
     while left != 0 {
         mark(ws, d);
         let p = wide(definition(s, ws, d, 1));
@@ -38,7 +39,7 @@ fn climb(s: &[u32], ws: &mut [u32], src: usize)
 
 // Marks the ancestors of the source, and no other definition.
 pub fn source(s: &[u32], ws: &mut [u32], src: usize)
-    requires { ⌜ (length (now s) ≤ 4096) × (34948 ≤ length (now ws)) × Indexes (now s) (now ws) ⌝ }
+    requires { ⌜ (length (now s) ≤ 4096) × (candidates·length ≤ length (now ws)) × Indexes (now s) (now ws) ⌝ }
     ensures { λ _. ⌜ Sourced (now (s .entry)) src (now (ws .entry)) (now (ws .exit)) ⌝ }
 {
     words::clear(ws, 128);

@@ -1,15 +1,15 @@
 -- The parts of a flex call's end: the last import of a result that may be absent, joins of types that may be, and the answer's trees.
-use Prim.Native.Nat.{ℕ, zero, suc, _+_, _-_, _*_, _/_, _≤_, _<_}
+use Prim.Native.Nat.{ℕ, _+_, _-_, _/_, _≤_, _<_}
 use mathlib.Core.Path.{_≡_, refl, sym, _∙_, ap, ap₂, subst}
 use mathlib.Core.Bool.{Bool, true, false, true≢false}
-use mathlib.Core.List.{List, [], _∷_, _++_, map}
+use mathlib.Core.List.{List, [], _∷_, map}
 use mathlib.Core.Option.{none}
 use mathlib.Core.Logic.{_≢_}
 use native.Mathlib.Nat.{le-refl}
 use native.Mathlib.Omega.{arith}
 use mir.Syntax.{w32}
 use mir.Val.{Fits}
-use lib.ListN.{length, getD, take, drop, replicate}
+use lib.ListN.{length, take, drop}
 use lib.Seq.{take-suc, getD-take}
 use Rattle.rules.specs.Lists.{Words}
 use Rattle.rules.specs.Limits.{limit·nodes}
@@ -19,17 +19,16 @@ use Rattle.rules.specs.Types as rules
 use Rattle.rules.specs.Solutions.{AllIn}
 use Rattle.rules.specs.Transfer.{type-of-word, import-types}
 use Rattle.rules.specs.Run.{got}
-use Rattle.rules.specs.Search.{Trees, end, Result, tree-size}
+use Rattle.rules.specs.Search.{end, Result}
 use Rattle.rules.specs.Answer.{answer}
 use Rattle.rules.specs.Calls.{first-tree, is-found, import-result, unify-first, answer-after}
 use Rattle.rules.specs.Neat.{Neat, Brought, Joined, low-none, types-brought, unify-neat}
 use Rattle.table.specs.Packing.{types-of, Packed, Good}
-use Rattle.table.specs.Nodes.{types-few}
 use Rattle.transfer.specs.Imports.{types-in, Inside, Imports}
 use Rattle.transfer.specs.Callers.{inside-from, imports-brought}
-use Rattle.trees.specs.Forests.{Fit, Holds, Held}
+use Rattle.trees.specs.Forests.{Holds, Held}
 use Rattle.trees.specs.Changes.{Copies}
-use Rattle.slots.specs.Slots.{slot·trees, Slot}
+use Rattle.slots.specs.Slots.{Slot}
 use Rattle.slots.specs.Copies.{Filled}
 use Rattle.unify.specs.declared.UnifyResult.{UnifyResult}
 use Rattle.unify.specs.declared.UnifyResult.the-variants.{Success, Failure, Indeterminate}

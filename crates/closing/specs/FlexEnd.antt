@@ -1,5 +1,5 @@
 -- The end of a flex call put together: the last imports (14), their join (26), the closing join, and the answer.
-use Prim.Native.Nat.{ℕ, _+_, _-_, _/_, _≤_, _<_}
+use Prim.Native.Nat.{ℕ, _-_, _/_, _≤_, _<_}
 use mathlib.Core.Path.{_≡_, refl, sym, _∙_, ap, ap₂, subst}
 use mathlib.Core.Bool.{Bool, true, false, _||_, true≢false}
 use mathlib.Core.List.{List, [], _∷_, _++_}
@@ -116,11 +116,11 @@ pub record ClosesJoined (s : Words) (ts : Types) (t : ℕ) (f : Bool) (x : ℕ) 
   pub closes : (fs gs : List Result) → First f fork a fs → First d drop b gs → Closed (flex-joining s ts (type-of-word t) (when f (type-of-word x)) (when d (type-of-word y)) inv self n fs gs) buf out r
 
 -- What comes to a refusal, or to an answer.
-closed-refused : (o : Out Words) (buf : Words) (n : ℕ) → n ≢ 0 → o ≡ refused n → Closed o buf buf n
+pub closed-refused : (o : Out Words) (buf : Words) (n : ℕ) → n ≢ 0 → o ≡ refused n → Closed o buf buf n
 unfolding answer-after
 closed-refused o buf n z e = record { answers = λ h. absurd (z h); refuses = λ h. e; after = sym (ap (λ (p : Out Words). answer-after p buf) e) }
 
-closed-got : (o : Out Words) (buf out ws : Words) → o ≡ got ws → out ≡ answer-after (got ws) buf → Closed o buf out 0
+pub closed-got : (o : Out Words) (buf out ws : Words) → o ≡ got ws → out ≡ answer-after (got ws) buf → Closed o buf out 0
 closed-got o buf out ws e h = record { answers = λ z. record { words = ws; is = e }; refuses = λ z. absurd (z refl); after = h ∙ sym (ap (λ (p : Out Words). answer-after p buf) e) }
 
 module _ (s ws us : Words) (t : ℕ) (f : Bool) (x : ℕ) (fork : Words) (a : ℕ) (d : Bool) (y : ℕ) (drop : Words) (b : ℕ) (inv self : Bool) (n : ℕ) (r : Bool) (k : JoinsFirst s (types-of ws) (when f (type-of-word x)) (when d (type-of-word y)) us r) where

@@ -8,24 +8,23 @@ use mathlib.Core.Logic.{_≢_}
 use native.Mathlib.Omega.{arith}
 use borrow.Author.Tests.{lt-ltb, le-ltb}
 use lib.Dec.{ltb}
-use lib.ListN.{length, getD, take, drop, replicate, length-take}
+use lib.ListN.{length, take, drop, replicate, length-take}
 use Rattle.rules.specs.Lists.{Words}
 use Rattle.rules.specs.Limits.{limit·nodes}
 use Rattle.rules.specs.Sheet.{at}
 use Rattle.rules.specs.Types.{Ty, Types, Unified, ImplType, unify-impl-type}
-use Rattle.rules.specs.Solutions.{AllIn}
 use Rattle.rules.specs.Transfer.{type-of-word, import-types, import-impl-type, export-impl-type}
 use Rattle.rules.specs.Run.{Out, got, refused}
-use Rattle.rules.specs.Search.{Trees, end, Result, tree-size}
+use Rattle.rules.specs.Search.{end, Result, tree-size}
 use Rattle.rules.specs.Answer.{answer}
 use Rattle.rules.specs.Calls.{question-types, impl-query, impl-outcome, answer-after}
 use Rattle.rules.specs.Neat.{Neat, in-more, Brought, Joined, low-none, unify-query-neat}
-use Rattle.table.specs.Packing.{types-of, Packed, Good}
+use Rattle.table.specs.Packing.{types-of, Packed}
 use Rattle.table.specs.Nodes.{types-few}
 use Rattle.transfer.specs.Imports.{types-in, Inside, Imports}
 use Rattle.transfer.specs.Callers.{inside-from, imports-brought}
 use Rattle.trees.specs.Forests.{Fit, Holds}
-use Rattle.slots.specs.Slots.{slot·trees, Slot}
+use Rattle.slots.specs.Slots.{Slot}
 use Rattle.slots.specs.Copies.{Filled}
 use Rattle.unify.specs.Results.{Leaves}
 use Rattle.unify.specs.Lists.{Nodes}

@@ -1,15 +1,14 @@
 -- The last import of a result, and the closing join: what they leave is a neat table still.
-use Prim.Native.Nat.{ℕ, _+_, _-_, _≤_, _<_}
-use mathlib.Core.Path.{_≡_, refl, sym, _∙_, ap, subst}
+use Prim.Native.Nat.{ℕ, _-_, _≤_}
+use mathlib.Core.Path.{_≡_, sym, ap, subst}
 use mathlib.Core.Bool.{Bool, true, false}
-use mathlib.Core.List.{List, [], _∷_, map}
-use mathlib.Core.Option.{Option, none}
+use mathlib.Core.List.{map}
+use mathlib.Core.Option.{none}
 use native.Mathlib.Omega.{arith}
 use lib.ListN.{length, take, drop, length-take, length-drop}
 use lib.Seq.{take-all}
 use Rattle.rules.specs.Lists.{Words}
-use Rattle.rules.specs.Types.{Ty, Types, Unified, ImplType, unify-impl-type}
-use Rattle.rules.specs.Solutions.{AllIn}
+use Rattle.rules.specs.Types.{Unified, unify-impl-type}
 use Rattle.rules.specs.Readings.{readable-ranked}
 use Rattle.rules.specs.Transfer.{type-of-word, import-types}
 use Rattle.rules.specs.Neat.{Neat}

@@ -12,7 +12,7 @@ ghost use Rattle.rules.specs.Types.{unify-impl-type as impl-type-unified};
 ghost use Rattle.rules.specs.Solutions.{AllIn};
 ghost use Rattle.rules.specs.Neat.{Neat};
 ghost use Rattle.rules.specs.Transfer.{type-of-word, import-types};
-ghost use Rattle.table.specs.Packing.{types-of, Packed, Good};
+ghost use Rattle.table.specs.Packing.{types-of, Packed};
 ghost use Rattle.transfer.specs.Imports.{types-in, Inside, Imports};
 ghost use Rattle.trees.specs.Forests.{trees·length};
 ghost use Rattle.slots.specs.Copies.{Filled};
@@ -24,8 +24,17 @@ ghost use Rattle.closing.specs.Rows.{Row, Exported, Writes};
 ghost use Rattle.closing.specs.Impl.{WritesImpl, ClosesImpl};
 ghost use Rattle.closing.specs.Flex.{when, failed, Offers, FilledIf, Brings, JoinsFirst, TreesOf, WritesFlex};
 ghost use Rattle.closing.specs.FlexEnd.{picked, closing-join, Joining, ClosesJoined, Caller, ClosesFound};
+ghost use Rattle.closing.specs.FlexResults.{several-of, bi-flexible, inverted-of, chosen, ClosesFlex};
+ghost use Rattle.closing.specs.Ends.{IfOne, IfFound, EndsResults, EndsImpl};
 use queries::Query;
+use slots::Asked;
 use unify::UnifyResult;
+
+// What a call comes to behind its checks: 0 where it is answered, or the number of its refusal; and the count after.
+pub struct Ended {
+    pub number: u32,
+    pub count: u32,
+}
 
 // The words of a slice from a place on.
 fn tail(s: &[u32], a: usize) -> &[u32]
@@ -252,6 +261,73 @@ pub fn close_impl(
         return 0;
     }
     14
+}
+
+// What n results of an impl call come to: 20 where there is none, 21 where there are several, or the end of the call with the one in slot 1.
+fn end_results(
+    sheet: &[u32],
+    query: Query,
+    asked: Query,
+    n: usize,
+    found: &[u32],
+    table: &mut [u32],
+    out: &mut [u32],
+    map: &mut [u32],
+    answer: &mut [u32],
+) -> u32
+    requires { ⌜ Packed (now table) ⌝ }
+    requires { ⌜ Asks (types-of (now table)) query ⌝ }
+    requires { ⌜ IfOne n asked (now found) ⌝ }
+    requires { ⌜ 1537 ≤ length (now out) ⌝ }
+    requires { ⌜ 256 ≤ length (now map) ⌝ }
+    requires { ⌜ limit·answer ≤ length (now answer) ⌝ }
+    ensures { λ r. ⌜ EndsResults (now (sheet .entry)) (types-of (now (table .entry))) (query-of query) (query-of asked) n (now (found .entry)) (now (answer .entry)) (now (answer .exit)) r ⌝ }
+{
+    if n == 0 {
+        return 20;
+    }
+    if n != 1 {
+        return 21;
+    }
+    close_impl(
+        sheet,
+        query,
+        asked,
+        found,
+        slots::SLOT,
+        table,
+        out,
+        map,
+        answer,
+    )
+}
+
+// What the search of an impl call comes to: the number of its refusal, or what its results come to, which stand in slots 1 to 4.
+pub fn end_impl(
+    sheet: &[u32],
+    query: Query,
+    asked: Query,
+    searched: Asked,
+    found: &[u32],
+    table: &mut [u32],
+    out: &mut [u32],
+    map: &mut [u32],
+    answer: &mut [u32],
+) -> u32
+    requires { ⌜ Packed (now table) ⌝ }
+    requires { ⌜ Asks (types-of (now table)) query ⌝ }
+    requires { ⌜ IfFound searched asked (now found) ⌝ }
+    requires { ⌜ 1537 ≤ length (now out) ⌝ }
+    requires { ⌜ 256 ≤ length (now map) ⌝ }
+    requires { ⌜ limit·answer ≤ length (now answer) ⌝ }
+    ensures { λ r. ⌜ EndsImpl (now (sheet .entry)) (types-of (now (table .entry))) (query-of query) (query-of asked) searched (now (found .entry)) (now (answer .entry)) (now (answer .exit)) r ⌝ }
+{
+    match searched {
+        Asked::Refused { number, count } => number,
+        Asked::Found { count, n } => {
+            end_results(sheet, query, asked, n, found, table, out, map, answer)
+        }
+    }
 }
 
 // The last import of the exported type t from the first result of a flex question, if there is one (`has`): 0 where there is no room, else 1 and a type word.
@@ -542,6 +618,152 @@ fn close_found(
         own,
         table,
         n,
+        out,
+        map,
+        answer,
+    )
+}
+
+// Whether one of the four flex questions has more than one result.
+fn several(n0: usize, n1: usize, n2: usize, n3: usize) -> bool
+    ensures { λ r. ⌜ r ≡ several-of n0 n1 n2 n3 ⌝ }
+{
+    let r = either(1 < n2, 1 < n3);
+    let q = either(1 < n1, r);
+    either(1 < n0, q)
+}
+
+// Whether there are results both ways, of a type that is not its own inverse.
+fn both_ways(n0: usize, n1: usize, n2: usize, n3: usize, own: bool) -> bool
+    ensures { λ r. ⌜ r ≡ bi-flexible n0 n1 n2 n3 own ⌝ }
+{
+    let pos = either(0 < n0, 0 < n1);
+    let neg = either(0 < n2, 0 < n3);
+    if pos {
+        if neg {
+            return !own;
+        }
+        return false;
+    }
+    false
+}
+
+// Whether only the inverted type has results.
+fn is_inverted(n0: usize, n1: usize, n2: usize, n3: usize) -> bool
+    ensures { λ r. ⌜ r ≡ inverted-of n0 n1 n2 n3 ⌝ }
+{
+    let pos = either(0 < n0, 0 < n1);
+    let neg = either(0 < n2, 0 < n3);
+    if pos { false } else { neg }
+}
+
+// Whether a question has results: the inverted one of two, or the other.
+fn has_result(inverted: bool, n: usize, m: usize) -> bool
+    ensures { λ r. ⌜ r ≡ chosen inverted n m ⌝ }
+{
+    if inverted { 0 < m } else { 0 < n }
+}
+
+// The results of one way, upright or inverted.
+fn close_side(
+    sheet: &[u32],
+    t: u32,
+    e: u32,
+    n0: usize,
+    n1: usize,
+    n2: usize,
+    n3: usize,
+    own: bool,
+    fork: &[u32],
+    a: usize,
+    drop: &[u32],
+    b: usize,
+    table: &mut [u32],
+    out: &mut [u32],
+    map: &mut [u32],
+    answer: &mut [u32],
+) -> u32
+    requires { ⌜ Offers (chosen (inverted-of n0 n1 n2 n3) n0 n2) (now fork) a e ⌝ }
+    requires { ⌜ Offers (chosen (inverted-of n0 n1 n2 n3) n1 n3) (now drop) b e ⌝ }
+    requires { ⌜ Caller (now table) t ⌝ }
+    requires { ⌜ 1537 ≤ length (now out) ⌝ }
+    requires { ⌜ 256 ≤ length (now map) ⌝ }
+    requires { ⌜ limit·answer ≤ length (now answer) ⌝ }
+    ensures { λ r. ⌜ ClosesFound (now (sheet .entry)) (types-of (now (table .entry))) t e (chosen (inverted-of n0 n1 n2 n3) n0 n2) (now (fork .entry)) a (chosen (inverted-of n0 n1 n2 n3) n1 n3) (now (drop .entry)) b (inverted-of n0 n1 n2 n3) own (now (answer .entry)) (now (answer .exit)) r ⌝ }
+{
+    let i = is_inverted(n0, n1, n2, n3);
+    let f = has_result(i, n0, n2);
+    let d = has_result(i, n1, n3);
+    close_found(
+        sheet,
+        t,
+        e,
+        f,
+        fork,
+        a,
+        d,
+        drop,
+        b,
+        i,
+        own,
+        table,
+        out,
+        map,
+        answer,
+    )
+}
+
+// What the results of the four flex questions, n0 to n3 of them, come to: 21, 25, 14, 26, or 0 and the answer's words. t is the type as asked, over the
+// caller's types, and e what was exported of it. The first results of the fork and the drop question that count, upright or inverted, stand in the slots
+// at a and at b, where there are such.
+pub fn close_flex(
+    sheet: &[u32],
+    t: u32,
+    e: u32,
+    n0: usize,
+    n1: usize,
+    n2: usize,
+    n3: usize,
+    fork: &[u32],
+    a: usize,
+    drop: &[u32],
+    b: usize,
+    table: &mut [u32],
+    out: &mut [u32],
+    map: &mut [u32],
+    answer: &mut [u32],
+) -> u32
+    requires { ⌜ Offers (chosen (inverted-of n0 n1 n2 n3) n0 n2) (now fork) a e ⌝ }
+    requires { ⌜ Offers (chosen (inverted-of n0 n1 n2 n3) n1 n3) (now drop) b e ⌝ }
+    requires { ⌜ Caller (now table) t ⌝ }
+    requires { ⌜ 1537 ≤ length (now out) ⌝ }
+    requires { ⌜ 256 ≤ length (now map) ⌝ }
+    requires { ⌜ limit·answer ≤ length (now answer) ⌝ }
+    ensures { λ r. ⌜ ClosesFlex (now (sheet .entry)) (types-of (now (table .entry))) t e n0 n1 n2 n3 (now (fork .entry)) a (now (drop .entry)) b (now (answer .entry)) (now (answer .exit)) r ⌝ }
+{
+    let many = several(n0, n1, n2, n3);
+    if many {
+        return 21;
+    }
+    let own = walks::self_inverse(sheet, table, map, t);
+    let clash = both_ways(n0, n1, n2, n3, own);
+    if clash {
+        return 25;
+    }
+    close_side(
+        sheet,
+        t,
+        e,
+        n0,
+        n1,
+        n2,
+        n3,
+        own,
+        fork,
+        a,
+        drop,
+        b,
+        table,
         out,
         map,
         answer,

@@ -6,7 +6,8 @@ use mathlib.Core.Logic.{_≢_, inl}
 use mathlib.Core.List.{List, [], _∷_, _++_, map}
 use native.Mathlib.Omega.{arith}
 use lib.Dec.{eqb, ltb}
-use lib.ListN.{length, getD, drop}
+use native.Mathlib.Nat.{le-refl}
+use lib.ListN.{length, getD, drop, replicate, length-replicate}
 use Rattle.rules.specs.Lists.{Words}
 use Rattle.rules.specs.Layout.{header·impls}
 use Rattle.rules.specs.Sheet.{at, many}
@@ -42,26 +43,15 @@ use Rattle.admitted.specs.Found.{Stands, Finds, Gives, ids, nodes-of, found-sto
 use Rattle.queries.specs.declared.Query.{Query}
 use Rattle.queries.specs.declared.Queries.{Queries}
 use Rattle.queries.specs.Queries.{query-of, query-in, queries-of, queries-next, queries-none}
-use Rattle.finder.specs.declared.Finder.{Finder}
-use Rattle.finder.specs.Asking.{finder-of, Sound, Searching, Front, Asking, Tail, Begins, Opens, front-table, asking-table, tail-asking}
-use Rattle.finder.specs.Loops.{Stepping, stepping-start, stepping-few, stepping-low, stepping-same, stepping-end, stepping-on, stepping-refused}
+use Rattle.steps.specs.declared.Finder.{Finder}
+use Rattle.steps.specs.Asking.{finder-of, Sound, Scratch, Searching, Front, Asking, Tail, Begins, Opens, front-table, asking-table, tail-asking}
+use Rattle.steps.specs.Loops.{Stepping, stepping-start, stepping-few, stepping-low, stepping-same, stepping-end, stepping-on, stepping-refused}
 use Rattle.finder.specs.Singles.{One, question-ones}
 use Rattle.finder.specs.Steps.{ask-below, candidates-left, question-over, question-deep, question-start}
-use Rattle.finder.specs.Tails.{sub-one, tail-none, tail-next, tail-last, Resting, Rested, Keeps, rest-turn, rest-end}
-use Rattle.finder.specs.Built.{NoneLeft}
+use Rattle.finder.specs.Tails.{sub-one, tail-next, tail-last, Resting, Rested, Keeps, rest-turn, rest-end}
+use Rattle.steps.specs.Built.{NoneLeft}
+use Rattle.steps.specs.Next.{NextId}
 use Rattle.finder.specs.Members.{CandidateStep, ResultStep, candidate-stops, candidate-none, candidate-sub, candidate-steps, result-sub, result-element, result-steps}
-
--- The next candidate, or a number past every impl.
-pub record NextId (s ws : Words) (f : Sets) (from r : ℕ) : Type 0 where
-  pub up : r < 384 → (from ≤ r) × (r < many s header·impls)
-  pub found : r < 384 → (src : ℕ) → Standing s src ws (nodes-of f) → from-on from (ids s src f) ≡ r ∷ from-on (r + 1) (ids s src f)
-  pub none : 384 ≤ r → (src : ℕ) → Standing s src ws (nodes-of f) → from-on from (ids s src f) ≡ []
-
-pub next-impl : (s ws : Words) (f : Sets) (from id : ℕ) (r : Candidate) → many s header·impls ≤ 384 → Gives s ws f from r → r ≡ Impl id → NextId s ws f from id
-next-impl s ws f from id r few g e = record { up = λ h. g .up id e; found = λ h. g .found id e; none = λ h. absurd (omega (arith, g .up id e .1)) }
-
-pub next-none : (s ws : Words) (f : Sets) (from : ℕ) (r : Candidate) → Gives s ws f from r → r ≡ End → NextId s ws f from 384
-next-none s ws f from r g e = record { up = λ h. absurd (omega arith); found = λ h. absurd (omega arith); none = λ h. g .none e }
 
 pub few-impls : (s sets : Words) (f : Finder) → Searching s sets f → many s header·impls ≤ 384
 few-impls s sets f h = omega (arith, valid s (passed s (h .stands .checked) .values) .impl-count)
@@ -502,3 +492,10 @@ module _ (L d : ℕ) (s sets : Words) (f : Finder) (search : Searching s sets f)
 
     pub asked-goes : (r : Asked) (out : Words) → Collects L (sub-one (ask-below d (finder-of s f)) (drop (from + 1) (queries-of qs))) m c (putMid 8970 (length us - 8970) us ys) r out → Answers (within (ltb L) (find-subimpls (ask-below d (finder-of s f)) (types-of ws) (drop from (queries-of qs))) count) r out
     asked-goes r out x = sub-goes L d (finder-of s f) (search .sound) ws us ys _ qs from count first t h room copied gone came-back c m p r out x
+
+-- New slices for an import.
+pub scratch-new : Scratch (replicate 4096 0) (replicate 4096 0)
+scratch-new = record { places-long = long; map-long = long }
+  where
+    long : 4096 ≤ length (replicate {A = ℕ} 4096 0)
+    long = subst (λ n. 4096 ≤ n) (sym (length-replicate {0} {A = ℕ} 4096 0)) (le-refl 4096)

@@ -21,7 +21,7 @@ use Rattle.slots.specs.Adding.{under, behind, Element}
 use Rattle.slots.specs.Turns.{Answers, answers-refused, answers-found, adding, Going, Stepped, Turned, turn, going-same, going-end, collect-next, collect-none}
 use Rattle.slots.specs.Parts.{part, part-table, Lent}
 use Rattle.slots.specs.Settling.{Sub, Settles, JoinSettles, sub-answered, settled}
-use Rattle.finder.specs.Asking.{Front, Opened}
+use Rattle.steps.specs.Asking.{Front, Opened}
 use Rattle.finder.specs.Tails.{sub-one, Keeps}
 
 -- The words of a question's part with d levels left, and of a part of sub-questions, of which l are left.

@@ -28,11 +28,6 @@ use Rattle.finder.specs.Singles.{One}
 abbrev pub sub-one : (Types → ImplType → Run (List Result)) → List ImplType → Result → Run (List Result)
 sub-one ask qs r = find-subimpls ask (r .0) qs >>= λ us. done (map (behind (r .1)) us)
 
--- None are left: the table itself, with no trees.
-pub tail-none : (ask : Types → ImplType → Run (List Result)) (ts : Types) → find-subimpls ask ts [] ≡ done ((ts, end) ∷ [])
-unfolding find-subimpls
-tail-none ask ts = refl
-
 -- One before others.
 pub tail-next : (ask : Types → ImplType → Run (List Result)) (ts : Types) (q : ImplType) (qs : List ImplType) → find-subimpls ask ts (q ∷ qs) ≡ (ask ts q >>= λ rs. collect (sub-one ask qs) rs [])
 unfolding find-subimpls

@@ -7,95 +7,27 @@ ghost use Rattle.rules.specs.Layout.{header·impls};
 ghost use Rattle.rules.specs.Sheet.{many};
 ghost use Rattle.rules.specs.Run.{within};
 ghost use Rattle.rules.specs.Search.{find-subimpls, try-candidate, question as question-run};
-ghost use Rattle.table.specs.Packing.{types-of, Packed};
-ghost use Rattle.slots.specs.Copies.{Beside};
+ghost use Rattle.table.specs.Packing.{types-of};
 ghost use Rattle.slots.specs.Gathering.{Row};
 ghost use Rattle.slots.specs.Turns.{Answers, Stepped};
-ghost use Rattle.candidates.specs.Index.{Indexes};
-ghost use Rattle.admitted.specs.Found.{Stands, Finds};
 ghost use Rattle.queries.specs.Queries.{query-of, queries-of};
-ghost use Rattle.finder.specs.Asking.{finder-of, Sound, Searching, Asking, Tail, Begins, Opens};
+ghost use Rattle.steps.specs.Asking.{finder-of, Sound, Searching, Asking, Tail, Begins, Opens};
 ghost use Rattle.finder.specs.Steps.{ask-below, candidates-left};
 ghost use Rattle.finder.specs.Tails.{sub-one};
 ghost use Rattle.finder.specs.Members.{CandidateStep, ResultStep};
-ghost use Rattle.finder.specs.Cycle.{NextId, ElementAt, Elements, Collects};
-ghost use Rattle.finder.specs.Built.{NoneLeft, LeafStep, SmallIds, Autos};
-use admitted::Candidate;
-use admitted::Found;
-use auto::Auto;
+ghost use Rattle.finder.specs.Cycle.{ElementAt, Elements, Collects};
 use queries::Queries;
 use queries::Query;
-use slots::Adding;
 use slots::Asked;
+use steps::Finder;
 
-// What a search keeps: its source and generics, and the step limit.
-pub struct Finder {
-    pub source: usize,
-    pub generics: usize,
-    pub limit: u32,
-}
-
-// Where a question's results end, and its first sub-questions begin; where the results of those stand; and where what is left behind a result is asked.
-const SUB: usize = 8970;
-
+// Where the results of a part's first sub-question stand; and where what is left behind a result is asked.
 const RESULTS: usize = 10764;
 
 const REST: usize = 17940;
 
-// Past every impl.
-const NONE: usize = 384;
-
-// In the place of how many sub-questions a candidate has: its table would pass its limit, or it does not unify with the question.
-const FULL: usize = 5;
-
-const UNFIT: usize = 6;
-
-// No sub-questions are left: the table itself, without trees.
-fn none_left(ws: &mut [u32], count: u32) -> Asked
-    requires { ⌜ Packed (now ws) ⌝ }
-    requires { ⌜ 8970 ≤ length (now ws) ⌝ }
-    requires { ⌜ count ≤ 4000000000 ⌝ }
-    ensures { λ r. ⌜ NoneLeft (now (ws .entry)) count r (now (ws .exit)) ⌝ }
-{
-    slots::copy_table_slot(ws, 0, slots::SLOT);
-    Asked::Found { count, n: 1 }
-}
-
-// Adds the types that stand in a slot with a leaf behind n.
-fn leaf_step(ws: &mut [u32], n: usize, from: usize, kind: u32, id: u32, count: u32) -> Asked
-    requires { ⌜ n ≤ 4 ⌝ }
-    requires { ⌜ Packed (drop from (now ws)) ⌝ }
-    requires { ⌜ Beside from (1794 + 1794 * n) ⌝ }
-    requires { ⌜ 8970 ≤ length (now ws) ⌝ }
-    requires { ⌜ kind < 8 ⌝ }
-    requires { ⌜ id < 4096 ⌝ }
-    requires { ⌜ count ≤ 4000000000 ⌝ }
-    ensures { λ r. ⌜ LeafStep (now (ws .entry)) n from kind id count r (now (ws .exit)) ⌝ }
-{
-    let one = slots::add_leaf(ws, n, from, kind, id);
-    match one {
-        Adding::Refused { number } => Asked::Refused { number, count },
-        Adding::Added => Asked::Found { count, n: n + 1 },
-    }
-}
-
-// Built-in fork and drop: adds what `find_auto_impls` finds.
-fn add_autos(sheet: &[u32], ws: &mut [u32], q: Query, count: u32) -> Asked
-    requires { ⌜ Packed (now ws) ⌝ }
-    requires { ⌜ 8970 ≤ length (now ws) ⌝ }
-    requires { ⌜ q .n ≤ 4 ⌝ }
-    requires { ⌜ SmallIds (now sheet) (types-of (now ws)) ⌝ }
-    requires { ⌜ count ≤ 4000000000 ⌝ }
-    ensures { λ r. ⌜ Autos (now (sheet .entry)) (now (ws .entry)) (query-of q) count r (now (ws .exit)) ⌝ }
-{
-    let args = [q.args[0], q.args[1], q.args[2], q.args[3]];
-    let n = q.n;
-    let found = auto::find_auto_impls(sheet, ws, q.tr, &args[..n]);
-    match found {
-        Auto::Nothing => Asked::Found { count, n: 0 },
-        Auto::Leaf { kind, id } => leaf_step(ws, 0, 0, kind, id, count),
-    }
-}
+// The words that an import from the sheet needs for the places of a table's records, and for its mapping.
+const SCRATCH: usize = 4096;
 
 // Built-in fork and drop, then the generics' impl parameters.
 fn begin(sheet: &[u32], ws: &mut [u32], f: Finder, basic: u32, q: Query, count: u32) -> Asked
@@ -106,7 +38,9 @@ fn begin(sheet: &[u32], ws: &mut [u32], f: Finder, basic: u32, q: Query, count: 
     requires { ⌜ count ≤ 4000000000 ⌝ }
     ensures { λ r. ⌜ Begins (finder-of (now (sheet .entry)) f) (eqb basic 1) (now (ws .entry)) (query-of q) count r (now (ws .exit)) ⌝ }
 {
-    Asked::Found { count, n: 0 }
+    let mut places = [0u32; SCRATCH];
+    let mut map = [0u32; SCRATCH];
+    steps::before_candidates(sheet, ws, &mut places, &mut map, f, basic, q, count)
 }
 
 // Opens a candidate behind slot 4: the table there is that of its sub-questions.
@@ -117,52 +51,13 @@ fn open_one(sheet: &[u32], ws: &mut [u32], f: Finder, q: Query, i: usize) -> Que
     requires { ⌜ i < many (now sheet) header·impls ⌝ }
     ensures { λ r. ⌜ Opens (now (sheet .entry)) (now (ws .entry)) (query-of q) i r (now (ws .exit)) ⌝ }
 {
-    let trs = [0, 0, 0, 0];
-    let counts = [0, 0, 0, 0];
-    let args = [0, 0, 0, 0, 0, 0, 0, 0, 0, 0, 0, 0, 0, 0, 0, 0];
-    Queries {
-        n: UNFIT,
-        trs,
-        counts,
-        args,
-    }
-}
-
-// `find_impl_candidates` for a question.
-fn find_candidates(
-    sheet: &[u32],
-    sets: &[u32],
-    ws: &[u32],
-    f: Finder,
-    basic: u32,
-    q: Query,
-) -> Found
-    requires { ⌜ Stands (now sheet) (f .source) (now sets) ⌝ }
-    requires { ⌜ q .n ≤ 4 ⌝ }
-    ensures { λ r. ⌜ Finds (now (sheet .entry)) (f .source) (types-of (now (ws .entry))) (query-of q) basic r ⌝ }
-{
-    let args = [q.args[0], q.args[1], q.args[2], q.args[3]];
-    let n = q.n;
-    admitted::find_impl_candidates(sheet, sets, f.source, ws, q.tr, &args[..n], basic)
-}
-
-// The next candidate from an id on, or NONE.
-fn next_id(s: &[u32], sets: &[u32], f: Found, from: usize) -> usize
-    requires { ⌜ Indexes (now s) (now sets) ⌝ }
-    requires { ⌜ many (now s) header·impls ≤ 384 ⌝ }
-    requires { ⌜ f .n ≤ 6 ⌝ }
-    requires { ⌜ f .basic < 2 ⌝ }
-    ensures { λ r. ⌜ NextId (now (s .entry)) (now (sets .entry)) f from r ⌝ }
-{
-    let one = admitted::next(s, sets, f, from);
-    match one {
-        Candidate::Impl { id } => id,
-        Candidate::End => NONE,
-    }
+    let mut places = [0u32; SCRATCH];
+    let mut map = [0u32; SCRATCH];
+    steps::open_candidate(sheet, ws, &mut places, &mut map, f, q, i)
 }
 
 // A question, with `depth` levels left for it and what it asks: `_find_impl`.
-fn question(
+pub fn question(
     sheet: &[u32],
     sets: &[u32],
     ws: &mut [u32],
@@ -221,7 +116,7 @@ fn candidates(
     requires { ⌜ n ≤ 4 ⌝ }
     ensures { λ r. ⌜ Stepped (f .limit) (candidates-left depth (finder-of (now (sheet .entry)) f) (eqb basic 1) (types-of (now (ws .entry))) (query-of q)) n count (now (ws .entry)) r (now (ws .exit)) ⌝ }
 {
-    let found = find_candidates(sheet, sets, ws, f, basic, q);
+    let found = steps::find_candidates(sheet, sets, ws, f, basic, q);
     if found.number != 0 {
         return Asked::Refused {
             number: found.number,
@@ -230,8 +125,8 @@ fn candidates(
     }
     let mut stand = n;
     let mut cur = count;
-    let mut id = next_id(sheet, sets, found, 0);
-    while id < NONE {
+    let mut id = steps::next_id(sheet, sets, found, 0);
+    while id < steps::NONE {
         let one = candidate(sheet, sets, ws, f, q, id, depth, stand, cur);
         match one {
             Asked::Refused { number, count } => {
@@ -242,7 +137,7 @@ fn candidates(
                 cur = count;
             }
         }
-        id = next_id(sheet, sets, found, id + 1);
+        id = steps::next_id(sheet, sets, found, id + 1);
     }
     Asked::Found {
         count: cur,
@@ -271,13 +166,13 @@ fn candidate(
     ensures { λ r. ⌜ CandidateStep (f .limit) (try-candidate (ask-below depth (finder-of (now (sheet .entry)) f)) (now (sheet .entry)) (types-of (now (ws .entry))) (query-of q) i) n count (now (ws .entry)) r (now (ws .exit)) ⌝ }
 {
     let qs = open_one(sheet, ws, f, q, i);
-    if qs.n == FULL {
+    if qs.n == steps::FULL {
         return Asked::Refused { number: 14, count };
     }
-    if qs.n == UNFIT {
+    if qs.n == steps::UNFIT {
         return Asked::Found { count, n };
     }
-    let asked = sub_questions(sheet, sets, &mut ws[SUB..], f, qs, 0, depth, count);
+    let asked = sub_questions(sheet, sets, &mut ws[steps::SUB..], f, qs, 0, depth, count);
     slots::settle_wrapped(ws, asked, n, RESULTS, i as u32)
 }
 
@@ -299,14 +194,14 @@ fn sub_questions(
     ensures { λ r. ⌜ Answers (within (ltb (f .limit)) (find-subimpls (ask-below depth (finder-of (now (sheet .entry)) f)) (types-of (now (ws .entry))) (drop from (queries-of qs))) count) r (now (ws .exit)) ⌝ }
 {
     if qs.n <= from {
-        return none_left(ws, count);
+        return steps::none_left(ws, count);
     }
     let q = queries::query_at(qs, from);
     if qs.n == from + 1 {
         return question(sheet, sets, ws, f, 0, q, depth, count);
     }
-    slots::copy_table_slot(ws, 0, SUB);
-    let first = question(sheet, sets, &mut ws[SUB..], f, 0, q, depth, count);
+    slots::copy_table_slot(ws, 0, steps::SUB);
+    let first = question(sheet, sets, &mut ws[steps::SUB..], f, 0, q, depth, count);
     match first {
         Asked::Refused { number, count } => Asked::Refused { number, count },
         Asked::Found { count, n } => { results(sheet, sets, ws, f, qs, from + 1, depth, n, count) }

@@ -16,7 +16,6 @@ use Rattle.rules.specs.CheckLaws.{Checked, passed}
 use Rattle.rules.specs.CheckedSheet.{valid}
 use Rattle.rules.specs.Candidates.{node-count, admitted, general-candidates}
 use Rattle.rules.specs.Listing.{decimal, line-text}
-use Rattle.candidates.specs.Index.{Indexes}
 use Rattle.candidates.specs.Build.{Candidates}
 use Rattle.candidates.specs.Find.{from-on, Standing, NextAdmitted}
 use Rattle.lines.specs.Text.{Puts, puts-none, puts-on, number-short}
@@ -48,23 +47,23 @@ from-on-all (x ∷ xs) = rw (leb·zero x, from-on, select) (ap (λ (l : Words). 
 pub lining-start : (s ws : Words) (node start : ℕ) (us : Words) → Lining s ws node start us us 0 start
 lining-start s ws node start us = record { to-come = λ src d zs q p. subst (λ l. Puts (entries l) start us zs q) (from-on-all (admitted s src (node ∷ []))) p }
 
-pub lining-more : (s ws : Words) (node start n : ℕ) (us vs ys : Words) (from p i q : ℕ) → Indexes s ws → n ≡ at ws 22657 → i < n → NextAdmitted s ws node from i → Puts (32 ∷ decimal i) p vs ys q → Lining s ws node start us vs from p
+pub lining-more : (s ws : Words) (node start n : ℕ) (us vs ys : Words) (from p i q : ℕ) → n ≡ many s header·impls → i < n → NextAdmitted s ws node from i → Puts (32 ∷ decimal i) p vs ys q → Lining s ws node start us vs from p
     → Lining s ws node start us ys (i + 1) q
 unfolding entries concat-map
-lining-more s ws node start n us vs ys from p i q x e h a b l = record {
+lining-more s ws node start n us vs ys from p i q e h a b l = record {
   to-come = λ src d zs z k.
       let rest : Words = from-on (i + 1) (admitted s src (node ∷ [])) in
-      l .to-come src d zs z (subst (λ is. Puts (entries is) p vs zs z) (sym (a .found src d (omega (arith, e ∙ x .impls .count)))) (puts-on (32 ∷ decimal i) (entries rest) p q z vs ys zs b k));
+      l .to-come src d zs z (subst (λ is. Puts (entries is) p vs zs z) (sym (a .found src d (omega (arith, e)))) (puts-on (32 ∷ decimal i) (entries rest) p q z vs ys zs b k));
 }
 
-pub lining-done : (s ws : Words) (node start n : ℕ) (us vs : Words) (from p i : ℕ) → Indexes s ws → n ≡ at ws 22657 → n ≤ i → NextAdmitted s ws node from i → Lining s ws node start us vs from p → PutsImpls s ws node start us vs p
+pub lining-done : (s ws : Words) (node start n : ℕ) (us vs : Words) (from p i : ℕ) → n ≡ many s header·impls → n ≤ i → NextAdmitted s ws node from i → Lining s ws node start us vs from p → PutsImpls s ws node start us vs p
 unfolding entries concat-map
-lining-done s ws node start n us vs from p i x e h a l = record {
-  impls = λ src d. l .to-come src d vs p (subst (λ is. Puts (entries is) p vs vs p) (sym (a .none src d (omega (arith, e ∙ x .impls .count)))) (puts-none p vs));
+lining-done s ws node start n us vs from p i e h a l = record {
+  impls = λ src d. l .to-come src d vs p (subst (λ is. Puts (entries is) p vs vs p) (sym (a .none src d (omega (arith, e)))) (puts-none p vs));
 }
 
-pub impl-low : (s ws : Words) (n i : ℕ) → Indexes s ws → n ≡ at ws 22657 → many s header·impls ≤ 128 → i < n → i < 128
-impl-low s ws n i x e l h = omega (arith, e ∙ x .impls .count)
+pub impl-low : (s : Words) (n i : ℕ) → n ≡ many s header·impls → many s header·impls ≤ 128 → i < n → i < 128
+impl-low s n i e l h = omega (arith, e)
 
 -- So many bytes of a buffer are the line of definition d.
 pub record Line (s : Words) (d : ℕ) (us : Words) (r : ℕ) : Type 0 where

@@ -7,6 +7,7 @@ ghost use Rattle.rules.specs.Listing.{decimal};
 ghost use Rattle.rules.specs.Layout.{header·definitions, header·impls};
 ghost use Rattle.rules.specs.Sheet.{many};
 ghost use Rattle.rules.specs.CheckLaws.{Checked};
+ghost use Rattle.candidates.specs.Layout.{candidates·length};
 ghost use Rattle.candidates.specs.Index.{Indexes};
 ghost use Rattle.lines.specs.Text.{Puts};
 ghost use Rattle.lines.specs.Lines.{PutsImpls, Line};
@@ -61,7 +62,7 @@ fn put_impls(s: &[u32], ws: &[u32], node: usize, out: &mut [u8], at: usize) -> u
     requires { ⌜ Indexes (now s) (now ws) × (node < 384) × (many (now s) header·impls ≤ 128) × (at + 512 ≤ length (now out)) ⌝ }
     ensures { λ r. ⌜ PutsImpls (now (s .entry)) (now (ws .entry)) node at (now (out .entry)) (now (out .exit)) r × (r ≤ at + 512) ⌝ }
 {
-    let n = words::next(ws, 22657);
+    let n = candidates::index::impls(s, ws);
     let mut from = 0;
     let mut next = at;
     loop {
@@ -76,7 +77,7 @@ fn put_impls(s: &[u32], ws: &[u32], node: usize, out: &mut [u8], at: usize) -> u
 
 // The line of a definition: its id, a colon, and the impls that its general set admits. So many bytes of the buffer hold it.
 pub fn list_line(s: &[u32], ws: &mut [u32], d: usize, out: &mut [u8]) -> usize
-    requires { ⌜ Checked (now s) × (length (now s) ≤ 4096) × (d < many (now s) header·definitions) × (34948 ≤ length (now ws)) × (520 ≤ length (now out)) ⌝ }
+    requires { ⌜ Checked (now s) × (length (now s) ≤ 4096) × (d < many (now s) header·definitions) × (candidates·length ≤ length (now ws)) × (520 ≤ length (now out)) ⌝ }
     ensures { λ r. ⌜ Line (now (s .entry)) d (now (out .exit)) r × (r ≤ length (now (out .exit))) ⌝ }
 {
     candidates::build(s, ws, d);

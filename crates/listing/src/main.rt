@@ -6,6 +6,7 @@ ghost use mathlib.Core.Path.{_≡_};
 ghost use Prim.Native.Nat.{_≤_, _<_};
 ghost use lib.ListN.{length};
 ghost use Rattle.rules.specs.CheckLaws.{Checked};
+ghost use Rattle.candidates.specs.Layout.{candidates·length};
 
 // The bytes of a sheet, and one more by which too many are seen.
 fn input() -> [u8; 16385]
@@ -40,7 +41,7 @@ fn refuse(n: usize)
 
 // Prints the line of a definition.
 fn print_line(s: &[u32], ws: &mut [u32], d: usize) -> bool
-    requires { ⌜ Checked (now s) × (length (now s) ≤ 4096) × (34948 ≤ length (now ws)) ⌝ }
+    requires { ⌜ Checked (now s) × (length (now s) ≤ 4096) × (candidates·length ≤ length (now ws)) ⌝ }
 {
     if words::chain_length(s, words::next(s, 1)) <= d {
         return false;
@@ -52,7 +53,7 @@ fn print_line(s: &[u32], ws: &mut [u32], d: usize) -> bool
 
 // Prints the lines of all definitions.
 fn print_lines(s: &[u32], ws: &mut [u32])
-    requires { ⌜ Checked (now s) × (length (now s) ≤ 4096) × (34948 ≤ length (now ws)) ⌝ }
+    requires { ⌜ Checked (now s) × (length (now s) ≤ 4096) × (candidates·length ≤ length (now ws)) ⌝ }
 {
     let mut d = 0;
     while d < 128 {

@@ -10,8 +10,8 @@ use native.Mathlib.Omega.{arith}
 use lib.Dec.{T, ltb→lt, lit<}
 use lib.ListN.{length}
 use Rattle.rules.specs.Lists.{Words}
-use Rattle.rules.specs.Limits.{limit·question, limit·nodes}
-use Rattle.rules.specs.Layout.{node·length, node·children, question·table, question·args, question·type, question·length}
+use Rattle.rules.specs.Limits.{limit·sheet, limit·question, limit·nodes}
+use Rattle.rules.specs.Layout.{node·length, question·table, question·args, question·type, question·length}
 use Rattle.rules.specs.Sheet.{at, chain, chain-of}
 use Rattle.rules.specs.Types.{ImplType}
 use Rattle.rules.specs.Transfer.{type-of-word, cell-types, table}
@@ -74,12 +74,12 @@ table-few q t h = omega (
   chain-few q _ (at q question·table) (chain-rule q node·length (lit< tt) _ (at q question·table) (head-in q question·table) .0 (head-chain question·length q node·length _ (at q question·table) t)),
 )
 
-module _ (a : Finder) (basic : ℕ) (q : Words) (passed : refusal (impl-checks a basic q) ≡ none) (short : length q ≤ limit·question) where
+module _ (a : Finder) (basic : ℕ) (q : Words) (passed : refusal (impl-checks a basic q) ≡ none) (sheet-short : length (a .sheet) ≤ limit·sheet) (short : length q ≤ limit·question) where
   -- An impl call: its table,
   pub impl-fitting : Fitting (question-types q)
   unfolding impl-checks of-sheet of-ids of-impl-question impl-question-keeps question-types
   impl-fitting = record {
-    neat = question-neat a q (impl-ready a basic q passed);
+    neat = question-neat a q (impl-ready a basic q sheet-short passed);
     few = table-few q (both (nodes-keep question·length q (at q question·table)) (cells-keep question·length q (at q question·args)) (not-not (impl-question-keeps q) (unrefused (impl-checks a basic q) passed 5)) .0) short;
   }
 
@@ -91,12 +91,12 @@ module _ (a : Finder) (basic : ℕ) (q : Words) (passed : refusal (impl-checks a
   pub impl-asks : (r : Query) → r .n ≤ 4 → query-of r ≡ impl-query q → Asks (question-types q) r
   impl-asks r h e = record { neat = impl-fitting .neat; few = h; inside = subst (λ (i : ImplType). AllIn (length (question-types q)) (i .1)) (sym e) impl-inside }
 
-module _ (a : Finder) (q : Words) (passed : refusal (flex-checks a q) ≡ none) (short : length q ≤ limit·question) where
+module _ (a : Finder) (q : Words) (passed : refusal (flex-checks a q) ≡ none) (sheet-short : length (a .sheet) ≤ limit·sheet) (short : length q ≤ limit·question) where
   -- A flex call: its table,
   pub flex-fitting : Fitting (question-types q)
   unfolding flex-checks of-sheet of-ids of-flex-question flex-question-keeps question-types
   flex-fitting = record {
-    neat = question-neat a q (flex-ready a q passed);
+    neat = question-neat a q (flex-ready a q sheet-short passed);
     few = table-few q (not-not (flex-question-keeps q) (unrefused (flex-checks a q) passed 5)) short;
   }
 

@@ -1,18 +1,18 @@
 -- A query exported: what the code is told of it, and the laws that it cites.
-use Prim.Native.Nat.{ℕ, zero, suc, _≤_, _<_}
+use Prim.Native.Nat.{ℕ, zero, suc, _/_, _≤_, _<_}
 use mathlib.Core.Path.{_≡_, refl, sym, _∙_, ap, ap₂, subst}
 use mathlib.Core.Bool.{Bool, true}
 use mathlib.Core.List.{List, [], _∷_, map}
 use native.Mathlib.Omega.{arith}
-use lib.ListN.{length, getD, take}
-use lib.Seq.{ext-getD}
+use lib.ListN.{length, take}
+use lib.Seq.{ext-getD, take-suc, getD-take}
 use Rattle.rules.specs.Lists.{Words}
 use Rattle.rules.specs.Sheet.{at}
 use Rattle.rules.specs.Types.{Ty, Types, ImplType, invert-if}
 use Rattle.rules.specs.Solutions.{AllIn}
 use Rattle.rules.specs.Calls.{impl-query}
 use Rattle.rules.specs.Answer.{word-of-type}
-use Rattle.rules.specs.Transfer.{type-of-word, cell-types, export-types, export-impl-type, import-types, import-impl-type}
+use Rattle.rules.specs.Transfer.{type-of-word, cell-types, export-types, export-impl-type, import-impl-type}
 use Rattle.rules.specs.Neat.{Neat, Brought}
 use Rattle.table.specs.Packing.{types-of, Packed}
 use Rattle.table.specs.Nodes.{types-few, type-word}
@@ -102,3 +102,48 @@ module _ (ws places : Words) (q : Query) (a : Asks (types-of ws) q) where
 
       b : Brought [] (types-in (q .n) vs) (types-of us)
       b = exports-brought (types-of ws) us (four (q .args)) vs (q .n) ok (a .neat) asked-in fits j
+
+-- A type of a table, exported: the rule's type, and its table.
+pub record ExportsType (ts : Types) (t : ℕ) (us : Words) (r : ℕ) : Type 0 where
+  pub packed : Packed us
+  pub neat : Neat (types-of us)
+  pub small : r < 512
+  pub inside : r / 2 < length (types-of us)
+  pub is : export-types ts (type-of-word t ∷ []) ≡ (type-of-word r ∷ [], types-of us)
+
+module _ (ws places : Words) (n : Neat (types-of ws)) where
+  pub type-neat : Neat (source true ws places)
+  type-neat = subst Neat (sym (packed-source ws places)) n
+
+  pub type-room : (ms : Words) → 256 ≤ length ms → length (source true ws places) ≤ length ms
+  type-room ms h = omega (arith, ap (λ (ts : Types). length ts) (packed-source ws places), types-few ws)
+
+  module _ (t : ℕ) (l : t / 2 < length (types-of ws)) where
+    type-in : Inside (types-of ws) (take 1 (t ∷ []))
+    unfolding types-in type-of-word
+    type-in = inside-from (types-of ws) 1 (t ∷ []) (l, tt)
+
+    pub type-inside : Inside (source true ws places) (take 1 (t ∷ []))
+    type-inside = subst (λ (ts : Types). Inside ts (take 1 (t ∷ []))) (sym (packed-source ws places)) type-in
+
+    pub type-exported : (us vs : Words) (r : ℕ) (ok : Bool) → r ≡ at vs 0 → Imports (export-types (source true ws places) (types-in 1 (t ∷ []))) us (t ∷ []) vs 1 ok → ExportsType (types-of ws) t us r
+    unfolding types-in type-of-word
+    type-exported us vs r ok e i = record {
+      packed = j .replaces .packed;
+      neat = b .neat;
+      small = omega (arith, getD-take 1 vs 0 0 (omega arith), j .replaces .small fits .small 0);
+      inside = subst (λ (l : List Ty). AllIn (length (types-of us)) l) gone (b .inside) .0;
+      is = j .comes .is fits ∙ ap {B = List Ty × Types} (λ (l : List Ty). (l, types-of us)) gone;
+    }
+      where
+        j : Imports (export-types (types-of ws) (types-in 1 (t ∷ []))) us (t ∷ []) vs 1 ok
+        j = subst (λ (ts : Types). Imports (export-types ts (types-in 1 (t ∷ []))) us (t ∷ []) vs 1 ok) (packed-source ws places) i
+
+        fits : ok ≡ true
+        fits = export-fits ws us (t ∷ []) vs 1 ok n type-in j
+
+        b : Brought [] (types-in 1 vs) (types-of us)
+        b = exports-brought (types-of ws) us (t ∷ []) vs 1 ok n type-in fits j
+
+        gone : types-in 1 vs ≡ type-of-word r ∷ []
+        gone = ap (map type-of-word) (take-suc vs 0 0 (omega (arith, j .replaces .len))) ∙ ap (λ x. type-of-word x ∷ []) (sym e)

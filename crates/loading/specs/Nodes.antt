@@ -1,8 +1,8 @@
 -- The records of a question's table as nodes: what the code is told of them, and the laws that it cites.
-use Prim.Native.Nat.{ℕ, zero, suc, _+_, _*_, _/_, _≤_, _<_, min}
+use Prim.Native.Nat.{ℕ, zero, suc, _+_, _≤_, _<_, min}
 use mathlib.Core.Path.{_≡_, refl, sym, _∙_, ap, subst}
 use mathlib.Core.Bool.{false}
-use mathlib.Core.List.{List, [], _∷_, _++_, map}
+use mathlib.Core.List.{[], _∷_, _++_, map}
 use mathlib.Core.Logic.{_≢_, _⊎_, inl, inr}
 use native.Mathlib.Nat.{not-suc-le-zero}
 use native.Mathlib.Decide.{ℕ-discrete}
@@ -14,15 +14,14 @@ use borrow.Author.Tests.{eq-eqb, ne-eqb}
 use Rattle.rules.specs.Lists.{Words}
 use Rattle.rules.specs.Limits.{limit·nodes}
 use Rattle.rules.specs.Sheet.{at, chain}
-use Rattle.rules.specs.Types.{Ty, TypeState, unknown, known, Types, new-node, state-at}
-use Rattle.rules.specs.Solutions.{rep, AllIn, ChildrenIn}
+use Rattle.rules.specs.Types.{Ty, TypeState, unknown, known, Types, new-node}
+use Rattle.rules.specs.Solutions.{AllIn, ChildrenIn}
 use Rattle.rules.specs.Pigeonholes.{lt-or}
 use Rattle.rules.specs.RootRank.{child-in}
-use Rattle.rules.specs.Slim.{SlimState, slim-at}
+use Rattle.rules.specs.Slim.{SlimState}
 use Rattle.rules.specs.Transfer.{type-of-word, cell-types, node-state, table}
-use Rattle.rules.specs.CheckedTables.{table-length, table-state, table-flat}
-use Rattle.rules.specs.Neat.{Neat, in-more}
-use Rattle.table.specs.Packing.{types-of, Packed, Pushes, Becomes, TypeWords}
+use Rattle.rules.specs.Neat.{Neat}
+use Rattle.table.specs.Packing.{types-of, Pushes, Becomes, TypeWords}
 use Rattle.transfer.specs.Leaves.{type-at}
 
 -- A table that words can hold: neat, and of at most 256 nodes.
@@ -114,7 +113,7 @@ module _ (q : Words) (p k : ℕ) (f : NodeFits q p) (d : Kind q p k) where
   known-here = state-known q p (λ e. d .some (d .is ∙ e))
 
   few-cells : length (cell-types q (at q (p + 4))) ≤ 8
-  few-cells = subst SlimState known-here (f .slim)
+  few-cells = subst SlimState known-here (f .slim) .0
 
   low-cells : AllIn limit·nodes (cell-types q (at q (p + 4)))
   low-cells = subst (ChildrenIn limit·nodes) known-here (f .inside)

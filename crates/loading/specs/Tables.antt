@@ -1,6 +1,6 @@
 -- A question's table, node by node: the first j records are pushed.
-use Prim.Native.Nat.{ℕ, suc, _+_, _≤_, _<_}
-use mathlib.Core.Path.{_≡_, refl, sym, _∙_, ap, subst}
+use Prim.Native.Nat.{ℕ, _+_, _≤_, _<_}
+use mathlib.Core.Path.{_≡_, sym, _∙_, ap, subst}
 use mathlib.Core.List.{[], _∷_, _++_}
 use native.Mathlib.Numerals.{add-one}
 use native.Mathlib.Omega.{arith}
@@ -10,7 +10,7 @@ use Rattle.rules.specs.Lists.{Words}
 use Rattle.rules.specs.Limits.{limit·nodes}
 use Rattle.rules.specs.Layout.{question·table}
 use Rattle.rules.specs.Sheet.{at, chain}
-use Rattle.rules.specs.Types.{TypeState, unknown, known, TypeNode, Types, new-node, node-at, state-at}
+use Rattle.rules.specs.Types.{TypeState, unknown, known, Types, new-node, node-at, state-at}
 use Rattle.rules.specs.Solutions.{ChildrenIn}
 use Rattle.rules.specs.Slim.{SlimState, slim-at}
 use Rattle.rules.specs.Transfer.{node-state, table}

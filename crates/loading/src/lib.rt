@@ -1,16 +1,17 @@
 // A question before its search: its table packed into words, node by node, and what is asked in a table of its own.
-ghost use Prim.Native.Nat.{_≤_, _<_};
+ghost use Prim.Native.Nat.{_/_, _≤_, _<_};
 ghost use mathlib.Core.List.{[], _∷_, _++_};
 ghost use lib.ListN.{length};
 ghost use Rattle.rules.specs.Limits.{limit·nodes};
 ghost use Rattle.rules.specs.Sheet.{chain};
 ghost use Rattle.rules.specs.Types.{new-node, invert-if};
 ghost use Rattle.rules.specs.Transfer.{type-of-word, node-state};
+ghost use Rattle.rules.specs.Neat.{Neat};
 ghost use Rattle.rules.specs.Calls.{question-types, impl-query};
 ghost use Rattle.table.specs.Packing.{types-of, Packed, Becomes};
 ghost use Rattle.loading.specs.Nodes.{Cells, NodeFits, Kind, Fitting};
 ghost use Rattle.queries.specs.Queries.{query-of};
-ghost use Rattle.loading.specs.Exports.{Reads, Asks, Exports};
+ghost use Rattle.loading.specs.Exports.{Reads, Asks, Exports, ExportsType};
 use chart::layout;
 use queries::Query;
 
@@ -114,4 +115,17 @@ pub fn export_question(table: &[u32], query: Query, dst: &mut [u32], map: &mut [
         n,
         args,
     }
+}
+
+// `export` of a type: its word in a table of its own.
+pub fn export_type(table: &[u32], t: u32, dst: &mut [u32], map: &mut [u32]) -> u32
+    requires { ⌜ Neat (types-of (now table)) ⌝ }
+    requires { ⌜ t / 2 < length (types-of (now table)) ⌝ }
+    requires { ⌜ 1537 ≤ length (now dst) ⌝ }
+    requires { ⌜ 256 ≤ length (now map) ⌝ }
+    ensures { λ r. ⌜ ExportsType (types-of (now (table .entry))) t (now (dst .exit)) r ⌝ }
+{
+    let mut ts = [t];
+    transfer::export_types(true, table, &table[..0], dst, map, &mut ts, 1);
+    ts[0]
 }

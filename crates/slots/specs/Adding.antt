@@ -124,12 +124,22 @@ adds-written ws us n g h w = record {
       (slots-more us slot·length n fs g e (slots-kept ws us slot·length fs (w .len) (λ i p q. w .low i (omega arith)) s) (w .slot));
 }
 
--- Slots 1 to 4 are beside those behind them, and beside slot 0.
+-- Slots 1 to 4 are beside those behind them.
 pub beside-result : (a n : ℕ) → 8970 ≤ a → n ≤ 4 → n ≢ 4 → Beside a (1794 + 1794 * n)
 beside-result a n h l e = record { either = inr (omega arith) }
 
-pub beside-first : (n : ℕ) → Beside 0 (1794 + 1794 * n)
-beside-first n = record { either = inl (omega arith) }
+-- A slot is beside the one behind n results, where there is one.
+pub record Aside (a n : ℕ) : Type 0 where
+  pub at : n ≢ 4 → Beside a (1794 + 1794 * n)
+
+pub aside-beside : (a n : ℕ) → Aside a n → n ≢ 4 → Beside a (1794 + 1794 * n)
+aside-beside a n h e = h .at e
+
+pub aside-first : (n : ℕ) → Aside 0 n
+aside-first n = record { at = λ e. record { either = inl (omega arith) } }
+
+pub aside-behind : (a n : ℕ) → 8970 ≤ a → n ≤ 4 → Aside a n
+aside-behind a n h l = record { at = beside-result a n h l }
 
 -- As it stands.
 pub plain-full : (ws : Words) (n from : ℕ) → n ≡ 4 → Gives plain ws ws n from (Refused 16)

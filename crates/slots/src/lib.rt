@@ -9,7 +9,7 @@ ghost use Rattle.table.specs.Packing.{types-of, Packed};
 ghost use Rattle.trees.specs.Carries.{Carries, Clear};
 ghost use Rattle.slots.specs.Slots.{Slot, Slots, Written};
 ghost use Rattle.slots.specs.Copies.{Beside, Filled, Tabled, Doubles};
-ghost use Rattle.slots.specs.Adding.{Adds, Gives, plain, under, Element, Joined, Joins};
+ghost use Rattle.slots.specs.Adding.{Aside, Adds, Gives, plain, under, Element, Joined, Joins};
 ghost use Rattle.slots.specs.Gathering.{Row, Gathers, JoinGathers};
 ghost use Rattle.slots.specs.Settling.{Sub, Settles, JoinSettles};
 
@@ -175,7 +175,7 @@ pub fn add_joined(ws: &mut [u32], n: usize, element: usize, from: usize) -> Addi
 pub fn add_leaf(ws: &mut [u32], n: usize, from: usize, kind: u32, id: u32) -> Adding
     requires { ⌜ n ≤ 4 ⌝ }
     requires { ⌜ Packed (drop from (now ws)) ⌝ }
-    requires { ⌜ Beside from (1794 + 1794 * n) ⌝ }
+    requires { ⌜ Aside from n ⌝ }
     requires { ⌜ 8970 ≤ length (now ws) ⌝ }
     requires { ⌜ kind < 8 ⌝ }
     requires { ⌜ id < 4096 ⌝ }

@@ -87,11 +87,11 @@ module _ (ws us : Words) (r : ℕ) (g : Sound ws) where
         (λ l. subst (λ (xs : Words). Neat (types-of xs)) (sym (p .full l)) (g .neat)) (lt-or r 256);
   }
 
-  pub sound-known : (cs : Words) (c k d : ℕ) (i : Bool) → c ≡ length (types-of ws) → Below c cs → length cs ≤ 8 → Pushes ws us (known i k d (map type-of-word cs)) r → Sound us
-  sound-known cs c k d i e b few p = record {
+  pub sound-known : (cs : Words) (c k d : ℕ) (i : Bool) → c ≡ length (types-of ws) → Below c cs → length cs ≤ 8 → (k ≡ 8 → d < 4096) → Pushes ws us (known i k d (map type-of-word cs)) r → Sound us
+  sound-known cs c k d i e b few low p = record {
     packed = p .packed;
     neat = ⊎-elim
-        (λ l. subst Neat (sym (p .room l ∙ ap (λ k′. types-of ws ++ (new-node k′ (known i k d (map type-of-word cs)) ∷ [])) (p .number))) (pushed-neat (types-of ws) (known i k d (map type-of-word cs)) (g .neat) (there ws cs c e b) (omega (arith, mapped cs))))
+        (λ l. subst Neat (sym (p .room l ∙ ap (λ k′. types-of ws ++ (new-node k′ (known i k d (map type-of-word cs)) ∷ [])) (p .number))) (pushed-neat (types-of ws) (known i k d (map type-of-word cs)) (g .neat) (there ws cs c e b) (omega (arith, mapped cs), low)))
         (λ l. subst (λ (xs : Words). Neat (types-of xs)) (sym (p .full l)) (g .neat)) (lt-or r 256);
   }
     where

@@ -51,6 +51,16 @@ passed : (q : Bool) → not q ≡ false → q ≡ true
 passed true e = refl
 passed false e = absurd (true≢false e)
 
+-- `id_fits`.
+pub record IdFits (k d : ℕ) (b : Bool) : Type 0 where
+  pub at : b ≡ true → k ≡ 8 → d < 4096
+
+pub id-low : (k d : ℕ) (b : Bool) → (b ≡ true → d < 4096) → IdFits k d b
+id-low k d b h = record { at = λ e p. h e }
+
+pub id-free : (k d : ℕ) → k ≢ 8 → IdFits k d true
+id-free k d h = record { at = λ e p. absurd (h p) }
+
 -- A type that passed the test is a node of its table, whose count c is.
 pub node-there : (ws : Words) (c t : ℕ) → c ≡ length (types-of ws) → t / 2 < c → t / 2 < length (types-of ws)
 node-there ws c t e h = omega arith
@@ -63,8 +73,8 @@ module _ (ws xs : Words) (c : ℕ) (q : Bool) (e : c ≡ length (types-of ws)) (
   pub tested-words : TypeWords xs
   tested-words = below-words ws xs c e (t .holds (passed q p))
 
-pub known-pushed : (ws us cs : Words) (r c k d : ℕ) (i q : Bool) → Sound ws → c ≡ length (types-of ws) → Tested c cs q → not q ≡ false → length cs ≤ 8 → Pushes ws us (known i k d (map type-of-word cs)) r → Sound us
-known-pushed ws us cs r c k d i q g e t p few u = sound-known ws us r g cs c k d i e (t .holds (passed q p)) few u
+pub known-pushed : (ws us cs : Words) (r c k d : ℕ) (i q : Bool) → Sound ws → c ≡ length (types-of ws) → Tested c cs q → not q ≡ false → length cs ≤ 8 → (b : Bool) → IdFits k d b → not b ≡ false → Pushes ws us (known i k d (map type-of-word cs)) r → Sound us
+known-pushed ws us cs r c k d i q g e t p few b low z u = sound-known ws us r g cs c k d i e (t .holds (passed q p)) few (low .at (passed b z)) u
 
 -- `both_below`.
 pub both-not : (ws xs ys : Words) → BothTested ws xs ys false

@@ -5,6 +5,7 @@ ghost use mathlib.Core.Bool.{true};
 ghost use Prim.Native.Nat.{_<_, _≤_};
 ghost use lib.ListN.{length, take};
 ghost use Rattle.table.specs.Packing.{types-of};
+ghost use Rattle.type_cases.specs.Steps.{IdFits};
 ghost use Rattle.type_cases.specs.Sound.{Sound, Tested, BothTested, Fitting, Loaded};
 use unify::UnifyResult;
 use walks::Module;
@@ -32,6 +33,11 @@ const NODES: u32 = 9;
 
 // The most types in a row.
 const ROW: usize = 8;
+
+// A closure's kind; its id is that of a record of a sheet, below 4,096.
+const CLOSURE: u32 = 8;
+
+const IDS: u32 = 4096;
 
 // The smaller of two lengths.
 pub fn at_most(n: usize, most: usize) -> usize
@@ -98,6 +104,16 @@ fn unknown(o: &[u32], ws: &mut [u32]) -> bool
     n == words::word(o, 2)
 }
 
+// A closure's id is that of a record.
+fn id_fits(kind: u32, id: u32) -> bool
+    ensures { λ r. ⌜ IdFits kind id r ⌝ }
+{
+    if kind == CLOSURE {
+        return id < IDS;
+    }
+    true
+}
+
 // Adds a type of a kind.
 fn known(o: &[u32], ws: &mut [u32]) -> bool
     requires { ⌜ Sound (now ws) ⌝ }
@@ -105,6 +121,10 @@ fn known(o: &[u32], ws: &mut [u32]) -> bool
 {
     let kind = words::word(o, 2);
     if kind == 0 {
+        return false;
+    }
+    let id = words::word(o, 4);
+    if !id_fits(kind, id) {
         return false;
     }
     let m = row(o, 5);
@@ -117,7 +137,7 @@ fn known(o: &[u32], ws: &mut [u32]) -> bool
         return false;
     }
     let inverted = words::word(o, 3) == 1;
-    let n = table::new_known(ws, inverted, kind, words::word(o, 4), cs);
+    let n = table::new_known(ws, inverted, kind, id, cs);
     n == words::word(o, 6 + m)
 }
 

@@ -1,7 +1,7 @@
 use Rattle.finder.specs.Cycle.{Trying, tail-asked, Collecting, few-impls, question-limit, question-depth, question-refused, begun-low, begun-few, begun-row, question-goes, begun-asking, sets-refused, trying-start, trying-refused, trying-on, trying-end, collecting-start, collecting-few, collecting-low, collecting-element, collecting-on, collecting-refused, collecting-end, element-filled, element-tail, sub-none, sub-last-of, first-asked, asked-refused, asked-low, asked-few, asked-elements, asked-goes, searching-sound, searching-stands, searching-indexed, opened-full, opened-unfit, opened-tail, opened-few, opened-sub, opened-long, opened-part, opened-steps, rest-long, rest-element, rest-sub, rest-steps, beside-rest, beside-sub, trying-asking, trying-up, trying-long, trying-low, trying-few, trying-less, begun-long, collecting-long, rest-part, first-part, sub-long}
 use Rattle.finder.specs.Tails.{sub-one}
 use Rattle.finder.specs.Steps.{ask-below}
-use Rattle.finder.specs.Asking.{finder-of}
+use Rattle.steps.specs.Asking.{finder-of}
 use Rattle.slots.specs.Parts.{part-length}
 use Rattle.queries.specs.Queries.{queries-of}
 use lib.ListN.{length, drop}
@@ -30,9 +30,9 @@ use Rattle.finder.proofs.sub_questions.Reads as sub-questions
 use Rattle.finder.proofs.sub_questions.Kinds as sub-questions-kinds
 use Rattle.finder.proofs.+candidate+candidates+question+result+results+sub_questions.Lts-sub_questions as sub-questions-lts
 use Rattle.finder.proofs.begin.Reads as begin-reads
-use Rattle.finder.proofs.find_candidates.Reads as find-candidates-reads
-use Rattle.finder.proofs.next_id.Reads as next-id-reads
-use Rattle.finder.proofs.none_left.Reads as none-left-reads
+use Rattle.steps.proofs.find_candidates.Reads as find-candidates-reads
+use Rattle.steps.proofs.next_id.Reads as next-id-reads
+use Rattle.steps.proofs.none_left.Reads as none-left-reads
 use Rattle.finder.proofs.open_one.Reads as open-one-reads
 use Rattle.queries.proofs.query_at.Reads as query-at-reads
 use Rattle.slots.proofs.copy_table_slot.Reads as copy-table-slot-reads

@@ -13,8 +13,8 @@ Inv-loop s ws node out₀ at n from₀ next₀ out from next = (length out ≡ l
 abbrev μ-loop : tie.MeasureT-loop
 μ-loop s ws node out₀ at n from₀ next₀ out from next = n - from
 
-next-requires : tie.Need-next-requires Inv-loop μ-loop
-next-requires c κs = search needs
+impls-requires : tie.Need-impls-requires Inv-loop μ-loop
+impls-requires c κs = search needs
 
 loop-holds : tie.Need-loop-holds Inv-loop μ-loop
 loop-holds c = search (needs, lining-start)
@@ -46,7 +46,7 @@ put-impls-spec =
     (tie.spec
     Inv-loop
     μ-loop
-    next-requires
+    impls-requires
     loop-holds
     next-admitted-requires
     same-length

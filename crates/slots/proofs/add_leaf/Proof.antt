@@ -1,5 +1,5 @@
 -- `add_leaf`: 16, or the table and the leaf behind it.
-use Rattle.slots.specs.Adding.{adds-full, leaf-added}
+use Rattle.slots.specs.Adding.{aside-beside, adds-full, leaf-added}
 use borrow.Author.Needs.{needs}
 use Rattle.slots.proofs.add_leaf.Statement.{statement}
 use Rattle.slots.proofs.add_leaf.Tie as tie
@@ -14,7 +14,7 @@ add-to : tie.Need-add-to
 add-to c = search needs
 
 copy-table-requires : tie.Need-copy-table-requires
-copy-table-requires c κs = search needs
+copy-table-requires c κs = (search needs, (search needs, search (needs, aside-beside)))
 
 add-put-leaf : tie.Need-add-put-leaf
 add-put-leaf c = search needs

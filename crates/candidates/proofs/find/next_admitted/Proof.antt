@@ -1,13 +1,14 @@
 -- `next_admitted`: none so far.
 use borrow.Author.Needs.{needs}
 use Prim.Native.Nat.{_+_, _*_, _-_}
+use Rattle.candidates.specs.Layout.{rows·sets}
 use Rattle.candidates.specs.Bits.{on}
 use Rattle.candidates.specs.Find.{Looking, admitted-start, admitted-found, admitted-on, admitted-end}
 use Rattle.candidates.proofs.find.next_admitted.Statement.{statement}
 use Rattle.candidates.proofs.find.next_admitted.Tie as tie
 
 abbrev Inv-loop : tie.InvT-loop
-Inv-loop s ws node from n i₀ i = Looking (on ws (13952 + 12 * node)) from i
+Inv-loop s ws node from n i₀ i = Looking (on ws (rows·sets + 12 * node)) from i
 
 abbrev μ-loop : tie.MeasureT-loop
 μ-loop s ws node from n i₀ i = n - i

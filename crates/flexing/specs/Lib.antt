@@ -1,0 +1,4 @@
+pub mod Asked
+pub mod Kept
+pub mod Rest
+pub mod Sides

@@ -1,0 +1,23 @@
+-- `next_id`: by what `next` answered.
+use Rattle.steps.specs.Next.{next-impl, next-none}
+use borrow.Author.Needs.{needs}
+use Rattle.steps.proofs.next_id.Statement.{statement}
+use Rattle.steps.proofs.next_id.Tie as tie
+
+next-requires : tie.Need-next-requires
+next-requires c κs = search needs
+
+enum-known-one : tie.Need-enum-known-one
+enum-known-one c = search needs
+
+enum-told : tie.Need-enum-told
+enum-told c = search needs
+
+returns : tie.Need-returns
+returns c = search (needs, next-impl)
+
+returns-2 : tie.Need-returns-2
+returns-2 c = search (needs, next-none)
+
+pub next-id-spec : {M : Type 1} → statement M
+next-id-spec = tie.close (tie.spec next-requires enum-known-one enum-told returns returns-2)
