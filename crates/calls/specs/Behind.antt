@@ -17,8 +17,8 @@ use Rattle.rules.specs.Run.{Out, got, refused}
 use Rattle.rules.specs.RunLaws.{Between}
 use Rattle.rules.specs.Check.{Checks, refusal, of-sheet, of-ids, of-impl-question, of-flex-question, impl-checks, flex-checks}
 use Rattle.rules.specs.CheckLaws.{Checked}
-use Rattle.rules.specs.CheckNumbers.{impl-check-numbers}
-use Rattle.rules.specs.CheckedTables.{Ready, impl-ready}
+use Rattle.rules.specs.CheckNumbers.{impl-check-numbers, flex-check-numbers}
+use Rattle.rules.specs.CheckedTables.{Ready, impl-ready, flex-ready}
 use Rattle.rules.specs.Calls.{impl-within, answer-after}
 use Rattle.words.specs.Buffers.{cleared}
 use Rattle.checks.specs.Numbers.{number, finder}
@@ -26,6 +26,7 @@ use Rattle.candidates.specs.Build.{Candidates}
 use Rattle.steps.specs.declared.Finder.{Finder}
 use Rattle.steps.specs.Asking.{finder-of, Searching}
 use Rattle.asking.specs.Impls.{Impls}
+use Rattle.flexing.specs.Asked.{Flexing}
 use Rattle.closing.specs.declared.Ended.{Ended}
 use Rattle.closing.specs.Impl.{Closed}
 use Rattle.closing.specs.Ended.{Ends}
@@ -43,6 +44,12 @@ pub record Entered (s q : Words) (answer work count : ℕ) : Type 0 where
 -- An impl call that passed its checks.
 pub record ImplPassed (s q : Words) (source generics basic : ℕ) : Type 0 where
   pub passed : refusal (impl-checks (finder s source generics) basic q) ≡ none
+  pub sheet-short : length s ≤ limit·sheet
+  pub short : length q ≤ limit·question
+
+-- A flex call that passed its checks.
+pub record FlexPassed (s q : Words) (source generics : ℕ) : Type 0 where
+  pub passed : refusal (flex-checks (finder s source generics) q) ≡ none
   pub sheet-short : length s ≤ limit·sheet
   pub short : length q ≤ limit·question
 
@@ -72,6 +79,26 @@ module _ (s q : Words) (source generics basic : ℕ) (h : ImplPassed s q source 
     passed = h .passed;
     sheet-short = h .sheet-short;
     short = h .short;
+  }
+
+module _ (s q : Words) (source generics : ℕ) (h : FlexPassed s q source generics) where
+  flex-ready′ : Ready (finder s source generics) q
+  flex-ready′ = flex-ready (finder s source generics) q (h .sheet-short) (h .passed)
+
+  pub flex-checked : Checked s
+  unfolding flex-checks
+  flex-checked = refusal-first (of-sheet s) (of-ids (finder s source generics) 0) (refusal-first (of-sheet s ++ of-ids (finder s source generics) 0) (of-flex-question (finder s source generics) q) (h .passed))
+
+  pub flex-source : source < many s header·definitions
+  flex-source = flex-ready′ .source
+
+  pub flex-call : (sets : Words) → Candidates s source sets → Flexing s sets q (record { source = source; generics = generics; limit = 2000 })
+  flex-call sets c = record {
+    searching = record { sound = record { question = q; ready = flex-ready′ }; stands = record { checked = flex-checked; source = flex-source; sets = c }; low = omega arith };
+    passed = h .passed;
+    sheet-short = h .sheet-short;
+    short = h .short;
+    low = omega arith;
   }
 
 pub new-sets : 34948 ≤ length (replicate {A = ℕ} 34948 0)
@@ -139,12 +166,23 @@ impl-passed s q source generics basic answer work count n h e z = record {
   short = h .question-short;
 }
 
+-- The flex call's checks.
+pub flex-passed : (s q : Words) (source generics answer work count n : ℕ) → Entered s q answer work count → n ≡ number (flex-checks (finder s source generics) q) → n ≡ 0 → FlexPassed s q source generics
+flex-passed s q source generics answer work count n h e z = record {
+  passed = number-none (flex-checks (finder s source generics) q) n (λ m p k. let b = flex-check-numbers (finder s source generics) q m p in omega (arith, b .least)) e z;
+  sheet-short = h .sheet-short;
+  short = h .question-short;
+}
+
 -- The constant.
 pub words-are : 1048576 ≡ limit·workspace
 unfolding limit·workspace
 words-are = refl
 
 -- Lengths.
+pub flex-short-sheet : (s q : Words) (source generics : ℕ) → FlexPassed s q source generics → length s ≤ 4096
+flex-short-sheet s q source generics h = h .sheet-short
+
 pub short-sheet : (s q : Words) (source generics basic : ℕ) → ImplPassed s q source generics basic → length s ≤ 4096
 short-sheet s q source generics basic h = h .sheet-short
 

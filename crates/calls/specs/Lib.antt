@@ -1,3 +1,4 @@
 pub mod Outcomes
 pub mod Behind
 pub mod Whole
+pub mod Demand

@@ -1,6 +1,7 @@
 -- What a call comes to, in the code's words: the outcome by its cases, and what answer buffer and workspace hold after it.
-use Prim.Native.Nat.{ℕ}
-use mathlib.Core.Path.{_≡_}
+use Prim.Native.Nat.{ℕ, _+_, _*_}
+use mathlib.Core.Path.{_≡_, sym, _∙_, ap}
+use native.Mathlib.Omega.{arith}
 use mathlib.Core.Bool.{true, false}
 use lib.Dec.{eqb}
 use Rattle.rules.specs.Lists.{Words}
@@ -32,3 +33,23 @@ pub record Calls (o : Out Words × ℕ) (answer answer′ work work′ : Words) 
   pub outcome : r ≡ outcome-of o
   pub answer-is : answer′ ≡ answer-after (o .0) answer
   pub work-is : work′ ≡ work-after (o .0) work
+
+-- The C interface: the outcome as one number, its count × 2^32 and the number.
+unfoldable pub packed-of : Outcome → ℕ
+packed-of r = count-of r * 4294967296 + number-of r
+
+pub record PackedCalls (o : Out Words × ℕ) (answer answer′ work work′ : Words) (r : ℕ) : Type 0 where
+  pub packed : r ≡ packed-of (outcome-of o)
+  pub answer-is : answer′ ≡ answer-after (o .0) answer
+  pub work-is : work′ ≡ work-after (o .0) work
+
+pub packed-call : (o : Out Words × ℕ) (answer answer′ work work′ : Words) (r : Outcome) (n : ℕ) → Calls o answer answer′ work work′ r → n ≡ packed-of r → PackedCalls o answer answer′ work work′ n
+packed-call o answer answer′ work work′ r n k e = record { packed = e ∙ ap packed-of (k .outcome); answer-is = k .answer-is; work-is = k .work-is }
+
+pub packed-answered : (o : Outcome) (c n : ℕ) → o ≡ Answered c → n ≡ c * 4294967296 → n ≡ packed-of o
+unfolding packed-of count-of number-of
+packed-answered o c n e k = k ∙ (let z : c * 4294967296 ≡ c * 4294967296 + 0 = omega arith in z) ∙ ap packed-of (sym e)
+
+pub packed-refused : (o : Outcome) (m c n : ℕ) → o ≡ Refused m c → n ≡ c * 4294967296 + m → n ≡ packed-of o
+unfolding packed-of count-of number-of
+packed-refused o m c n e k = k ∙ ap packed-of (sym e)

@@ -19,8 +19,8 @@ use Rattle.rules.specs.RunLaws.{Between}
 use Rattle.rules.specs.Check.{Checks, refusal, of-length, entry, impl-checks, flex-checks}
 use Rattle.rules.specs.CheckLaws.{unrefused}
 use Rattle.rules.specs.CheckNumbers.{refusal-front, refusal-after, entry-numbers}
-use Rattle.rules.specs.Calls.{impl-within, try-find-impl, answer-after, work-after}
-use Rattle.rules.specs.Refusals.{impl-ends}
+use Rattle.rules.specs.Calls.{impl-within, flex-within, try-find-impl, find-flex, answer-after, work-after}
+use Rattle.rules.specs.Refusals.{impl-ends, flex-ends}
 use Rattle.words.specs.Buffers.{cleared, cleared-front}
 use Rattle.checks.specs.Numbers.{number, finder}
 use Rattle.closing.specs.declared.Ended.{Ended}
@@ -91,6 +91,38 @@ module _ (s q : Words) (source generics basic : ℕ) (buf work : Words) (count n
   impl-comes-by d g out ws′ r o k ed eg z w long b x = impl-comes out ws′ r o k z w long
       (subst (λ i. Behind (behind (refusal (impl-checks (finder s i generics) basic q)) (impl-within (ltb limit·steps) (finder s i generics) (eqb basic 1) q count) count) buf out (take k work) ws′ r) ed
       (subst (λ i. Behind (behind (refusal (impl-checks (finder s d i) basic q)) (impl-within (ltb limit·steps) (finder s d i) (eqb basic 1) q count) count) buf out (take k work) ws′ r) eg b)) x
+
+-- The flex call, in the same way.
+module _ (s q : Words) (source generics : ℕ) (buf work : Words) (count n : ℕ) (e : n ≡ number (entry s q (length buf) (length work) count)) where
+  abbrev flex-run : Out Words × ℕ
+  flex-run = find-flex limit·steps (finder s source generics) q (length buf) (length work) count
+
+  -- Turned away: nothing is touched, and nothing is spent.
+  pub flex-away : n ≢ 0 → Calls flex-run buf buf work work (Refused n count)
+  unfolding outcome-of
+  flex-away z =
+      let t = flex-ends limit·steps (finder s source generics) q buf work count .turned-away n (number-some (entry s q (length buf) (length work) count) n e z) in
+      record { outcome = sym (ap outcome-of (t .1)); answer-is = sym (t .2); work-is = sym (t .3) }
+
+  flex-passes : n ≡ 0 → refusal (entry s q (length buf) (length work) count) ≡ none
+  flex-passes z = number-none (entry s q (length buf) (length work) count) n (λ m p k. let b = entry-numbers s q (length buf) (length work) count m p in omega (arith, b .least)) e z
+
+  flex-whole : n ≡ 0 → flex-run ≡ behind (refusal (flex-checks (finder s source generics) q)) (flex-within (ltb limit·steps) (finder s source generics) q count) count
+  unfolding find-flex behind
+  flex-whole z = ap (λ (x : Option ℕ). behind x (flex-within (ltb limit·steps) (finder s source generics) q count) count) (refusal-after (entry s q (length buf) (length work) count) (flex-checks (finder s source generics) q) (flex-passes z))
+
+  -- Else it is what it comes to behind entry.
+  pub flex-comes : (out ws′ : Words) (r : Ended) (o : Outcome) (k : ℕ) → n ≡ 0 → k ≡ limit·workspace → k ≤ length work → Behind (behind (refusal (flex-checks (finder s source generics) q)) (flex-within (ltb limit·steps) (finder s source generics) q count) count) buf out (take k work) ws′ r → o ≡ ended-of r → Calls flex-run buf out work (putMid 0 k work ws′) o
+  flex-comes out ws′ r o k z w long b x = record {
+    outcome = x ∙ ended-is _ buf out r (b .ends) ∙ ap outcome-of (sym (flex-whole z));
+    answer-is = b .ends .closed .after ∙ ap (λ (x : Out Words × ℕ). answer-after (x .0) buf) (sym (flex-whole z));
+    work-is = put-back k work (b .last) ws′ long (b .long ∙ length-take-le k work long) (b .clear ∙ ap (λ j. cleared j (b .last)) (sym w)) ∙ ap (λ j. replicate j 0 ++ drop j work) w ∙ sym (flex-ends limit·steps (finder s source generics) q buf work count .cleared (flex-passes z));
+  }
+
+  pub flex-comes-by : (d g : ℕ) (out ws′ : Words) (r : Ended) (o : Outcome) (k : ℕ) → d ≡ source → g ≡ generics → n ≡ 0 → k ≡ limit·workspace → k ≤ length work → Behind (behind (refusal (flex-checks (finder s d g) q)) (flex-within (ltb limit·steps) (finder s d g) q count) count) buf out (take k work) ws′ r → o ≡ ended-of r → Calls flex-run buf out work (putMid 0 k work ws′) o
+  flex-comes-by d g out ws′ r o k ed eg z w long b x = flex-comes out ws′ r o k z w long
+      (subst (λ i. Behind (behind (refusal (flex-checks (finder s i generics) q)) (flex-within (ltb limit·steps) (finder s i generics) q count) count) buf out (take k work) ws′ r) ed
+      (subst (λ i. Behind (behind (refusal (flex-checks (finder s d i) q)) (flex-within (ltb limit·steps) (finder s d i) q count) count) buf out (take k work) ws′ r) eg b)) x
 
 -- What entry has tested.
 module _ (s q : Words) (answer work count n : ℕ) (e : n ≡ number (entry s q answer work count)) (z : n ≡ 0) where

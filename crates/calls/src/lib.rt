@@ -5,12 +5,12 @@ ghost use Prim.Native.Nat.{_≤_, _<_};
 ghost use lib.Dec.{eqb, ltb};
 ghost use lib.ListN.{length};
 ghost use Rattle.rules.specs.Limits.{limit·answer, limit·workspace, limit·steps};
-ghost use Rattle.rules.specs.Check.{refusal, impl-checks};
-ghost use Rattle.rules.specs.Calls.{impl-within, try-find-impl};
+ghost use Rattle.rules.specs.Check.{refusal, impl-checks, flex-checks};
+ghost use Rattle.rules.specs.Calls.{impl-within, flex-within, try-find-impl, find-flex};
 ghost use Rattle.checks.specs.Numbers.{finder};
 ghost use Rattle.closing.specs.Ended.{Ends};
-ghost use Rattle.calls.specs.Outcomes.{ended-of, Calls};
-ghost use Rattle.calls.specs.Behind.{ImplPassed, Entered, behind, Behind};
+ghost use Rattle.calls.specs.Outcomes.{ended-of, Calls, packed-of, PackedCalls};
+ghost use Rattle.calls.specs.Behind.{ImplPassed, FlexPassed, Entered, behind, Behind};
 use closing::Ended;
 use steps::Finder;
 
@@ -122,4 +122,138 @@ pub fn try_find_impl(
     let n = workspace_words();
     let r = impl_within(sheet, question, d, g, basic, &mut work[..n], answer, count);
     as_outcome(r)
+}
+
+// The flex call once its checks have passed: the candidate sets of its source stand in its own frame.
+fn flex_with_sets(
+    sheet: &[u32],
+    question: &[u32],
+    source: usize,
+    generics: usize,
+    ws: &mut [u32],
+    answer: &mut [u32],
+    count: u32,
+) -> Ended
+    requires { ⌜ FlexPassed (now sheet) (now question) source generics ⌝ }
+    requires { ⌜ 1013610 ≤ length (now ws) ⌝ }
+    requires { ⌜ limit·answer ≤ length (now answer) ⌝ }
+    requires { ⌜ count ≤ 1000000 ⌝ }
+    ensures { λ r. ⌜ Ends (flex-within (ltb limit·steps) (finder (now (sheet .entry)) source generics) (now (question .entry)) count) (now (answer .entry)) (now (answer .exit)) r ⌝ }
+{
+    let mut sets = [0u32; SETS];
+    candidates::build(sheet, &mut sets, source);
+    let f = Finder {
+        source,
+        generics,
+        limit: STEPS,
+    };
+    flexing::ask_flex(sheet, &sets, question, f, ws, answer, count)
+}
+
+// The flex call behind entry, in the workspace's first words.
+fn flex_within(
+    sheet: &[u32],
+    question: &[u32],
+    source: usize,
+    generics: usize,
+    ws: &mut [u32],
+    answer: &mut [u32],
+    count: u32,
+) -> Ended
+    requires { ⌜ Entered (now sheet) (now question) (length (now answer)) (length (now ws)) count ⌝ }
+    ensures { λ r. ⌜ Behind (behind (refusal (flex-checks (finder (now (sheet .entry)) source generics) (now (question .entry)))) (flex-within (ltb limit·steps) (finder (now (sheet .entry)) source generics) (now (question .entry)) count) count) (now (answer .entry)) (now (answer .exit)) (now (ws .entry)) (now (ws .exit)) r ⌝ }
+{
+    let number = checks::check_flex(sheet, question, source, generics, ws);
+    if number != 0 {
+        words::clear(ws, workspace_words());
+        return Ended { number, count };
+    }
+    let r = flex_with_sets(sheet, question, source, generics, ws, answer, count);
+    words::clear(ws, workspace_words());
+    r
+}
+
+// The flex call.
+pub fn find_flex(
+    sheet: &[u32],
+    question: &[u32],
+    source: u32,
+    generics: u32,
+    answer: &mut [u32],
+    work: &mut [u32],
+    count: u32,
+) -> Outcome
+    ensures { λ r. ⌜ Calls (find-flex limit·steps (finder (now (sheet .entry)) source generics) (now (question .entry)) (length (now (answer .entry))) (length (now (work .entry))) count) (now (answer .entry)) (now (answer .exit)) (now (work .entry)) (now (work .exit)) r ⌝ }
+{
+    let number = checks::check_entry(sheet, question, answer.len(), work.len(), count);
+    if number != 0 {
+        return Outcome::Refused { number, count };
+    }
+    let d = words::wide(source);
+    let g = words::wide(generics);
+    let n = workspace_words();
+    let r = flex_within(sheet, question, d, g, &mut work[..n], answer, count);
+    as_outcome(r)
+}
+
+// An outcome as one number: the count × 2^32, and the number, 0 where it is answered.
+fn packed(o: Outcome) -> u64
+    ensures { λ r. ⌜ r ≡ packed-of o ⌝ }
+{
+    match o {
+        Outcome::Answered { count } => count as u64 * 4294967296,
+        Outcome::Refused { number, count } => count as u64 * 4294967296 + number as u64,
+    }
+}
+
+// The C interface (include/vine_finder.h): the impl call.
+#[no_mangle]
+pub extern "C" fn vine_find_impl(
+    sheet: &[u32],
+    question: &[u32],
+    source: u32,
+    generics: u32,
+    basic: u32,
+    answer: &mut [u32],
+    work: &mut [u32],
+    count: u32,
+) -> u64
+    ensures { λ r. ⌜ PackedCalls (try-find-impl limit·steps (finder (now (sheet .entry)) source generics) basic (now (question .entry)) (length (now (answer .entry))) (length (now (work .entry))) count) (now (answer .entry)) (now (answer .exit)) (now (work .entry)) (now (work .exit)) r ⌝ }
+{
+    let o = try_find_impl(
+        sheet,
+        question,
+        source,
+        generics,
+        basic,
+        answer,
+        work,
+        count,
+    );
+    packed(o)
+}
+
+// The flex call.
+#[no_mangle]
+pub extern "C" fn vine_find_flex(
+    sheet: &[u32],
+    question: &[u32],
+    source: u32,
+    generics: u32,
+    answer: &mut [u32],
+    work: &mut [u32],
+    count: u32,
+) -> u64
+    ensures { λ r. ⌜ PackedCalls (find-flex limit·steps (finder (now (sheet .entry)) source generics) (now (question .entry)) (length (now (answer .entry))) (length (now (work .entry))) count) (now (answer .entry)) (now (answer .exit)) (now (work .entry)) (now (work .exit)) r ⌝ }
+{
+    let o = find_flex(sheet, question, source, generics, answer, work, count);
+    packed(o)
+}
+
+// The workspace's words.
+#[no_mangle]
+pub extern "C" fn vine_workspace_words() -> u32
+    ensures { λ r. ⌜ r ≡ limit·workspace ⌝ }
+{
+    1048576
 }
