@@ -199,11 +199,11 @@ pub fn all() -> Vec<Class> {
   ]
 }
 
-/// Every stored case by hand at the limits.
-pub fn at_the_limits() -> Vec<Call> {
-  let cases = edges::limits().into_iter().chain(edges::large()).map(|edge| edge.case);
-  let calls = cases.filter_map(|case| match case {
-    Case::Call(call) => Some(call),
+/// Every stored case by hand at the limits, with its reason.
+pub fn at_the_limits() -> Vec<(String, Call)> {
+  let edges = edges::limits().into_iter().chain(edges::large());
+  let calls = edges.filter_map(|edge| match edge.case {
+    Case::Call(call) => Some((edge.why, call)),
     Case::List(_) => None,
   });
   calls.collect()

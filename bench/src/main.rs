@@ -8,14 +8,15 @@ use std::{
   time::{Duration, Instant},
 };
 
-use bench::{Buffers, ask, classes};
+use bench::{Buffers, ask, classes, stack};
 use oracle::{case::Answer, case::Call, model, rust};
 use vine_finder::{ANSWER_WORDS, workspace_words};
 
 const STEPS: u32 = rust::STEPS_LIMIT;
 /// How long each side of a class is timed, at least.
 const TIMED: Duration = Duration::from_millis(400);
-const STACKS: [usize; 6] = [512, 256, 128, 64, 32, 16];
+/// The stack in which the deepest searches are to run, besides the workspace.
+const STACK: usize = 512 << 10;
 
 fn main() -> ExitCode {
   let args: Vec<String> = env::args().skip(1).collect();
@@ -35,8 +36,8 @@ fn bench() -> ExitCode {
   let timing = thread::Builder::new().stack_size(256 << 20).spawn(time_all).unwrap();
   let agreed = timing.join().unwrap();
   println!();
-  stacks();
-  if agreed { ExitCode::SUCCESS } else { ExitCode::FAILURE }
+  let ran = stacks();
+  if agreed && ran { ExitCode::SUCCESS } else { ExitCode::FAILURE }
 }
 
 /// Times all classes, and says whether port and Rust agree on them.
@@ -120,33 +121,42 @@ fn median<T>(mut run: impl FnMut() -> T) -> Duration {
   times[times.len() / 2]
 }
 
-/// Runs every class and every stored case at the limits in a thread with so many KiB of stack.
-fn on_a_stack(kib: usize) -> ExitCode {
-  let mut calls: Vec<Call> = classes::all().into_iter().flat_map(|class| class.calls).collect();
-  calls.extend(classes::at_the_limits());
+/// Runs every class and every stored case at the limits in a thread with so much stack.
+fn on_a_stack(bytes: usize) -> ExitCode {
   let mut answer = vec![0; ANSWER_WORDS];
   let mut workspace = vec![0; workspace_words()];
   let run = move || {
-    for call in &calls {
-      hint::black_box(ask(call, &mut answer, &mut workspace));
+    for (_, call) in deepest() {
+      hint::black_box(ask(&call, &mut answer, &mut workspace));
     }
   };
-  let ran = thread::Builder::new().stack_size(kib << 10).spawn(run).unwrap().join();
+  let ran = thread::Builder::new().stack_size(bytes).spawn(run).unwrap().join();
   if ran.is_ok() { ExitCode::SUCCESS } else { ExitCode::FAILURE }
 }
 
-/// Says on which stacks the deepest searches run.
-fn stacks() {
-  for kib in STACKS {
-    let run = Command::new(env::current_exe().unwrap())
-      .args(["stack", &kib.to_string()])
-      .stderr(Stdio::null())
-      .status();
-    let ran = run.is_ok_and(|status| status.success());
-    let how = if ran { "all calls at the limits run" } else { "a call at the limits overflows" };
-    println!("a thread with {kib} KiB of stack besides the workspace: {how}");
-    if !ran {
-      break;
-    }
+/// The calls of all classes, and the stored ones at the limits, with their names.
+fn deepest() -> Vec<(String, Call)> {
+  let named = |class: classes::Class| class.calls.into_iter().map(move |c| (class.name.into(), c));
+  let mut calls: Vec<_> = classes::all().into_iter().flat_map(named).collect();
+  calls.extend(classes::at_the_limits());
+  calls
+}
+
+/// Says how much stack the deepest searches take, and whether they run in a thread with as much as is asked for.
+fn stacks() -> bool {
+  let calls = deepest();
+  let used = stack::used_by(calls.iter().map(|(_, call)| call.clone()).collect());
+  let mut by_use: Vec<_> = used.into_iter().zip(&calls).collect();
+  by_use.sort_by_key(|(used, _)| std::cmp::Reverse(*used));
+  for (used, (name, _)) in by_use.iter().take(5) {
+    println!("{:>8.1} KiB of stack: {name}", *used as f64 / 1024.0);
   }
+  let run = Command::new(env::current_exe().unwrap())
+    .args(["stack", &STACK.to_string()])
+    .stderr(Stdio::null())
+    .status();
+  let ran = run.is_ok_and(|status| status.success());
+  let how = if ran { "run" } else { "do NOT run" };
+  println!("the calls at the limits {how} in a thread with {} KiB of stack", STACK >> 10);
+  ran
 }
