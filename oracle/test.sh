@@ -1,6 +1,6 @@
 #!/usr/bin/env bash
 # Builds the oracle and tests it: the six Rust files are unchanged, the stored list (document 01's pinned cases among it)
-# comes out as stored, and on generated cases the Rust and the model of the limits do not differ.
+# comes out as stored, what the samples are to print is what the answers give, and on generated cases the Rust and the model of the limits do not differ.
 # It writes nothing outside oracle/target.
 set -euo pipefail
 cd "$(dirname "${BASH_SOURCE[0]}")"
@@ -22,6 +22,8 @@ pinned=$(grep -c '^= ' stored/pinned.txt)
 # 16 S round Leaf is refused 15 by document 01 and found by the Rust, at 17 steps.
 grep -q '^= no 15 17$' stored/pinned.txt
 grep -q '^! ok 17 ' stored/pinned.txt
+
+samples=$("$oracle" samples check ../samples)
 
 # Generated cases: the same for the same seed, and no difference, crash or error among the answers.
 generated=0
@@ -51,4 +53,4 @@ slow="impl 0 0 0 0 61 1 50 35 57 41 0 0 0 0 0 0 0 0 0 0 0 18 0 0 0 25 1 0 0 0 0 
 expect timeout "$slow" ""
 expect "no 15 17" "$slow" --limits
 
-echo "oracle: 6 files unchanged, $stored stored cases as stored ($pinned pinned), $generated generated cases without a difference"
+echo "oracle: 6 files unchanged, $stored stored cases as stored ($pinned pinned), $samples as the Rust answers them, $generated generated cases without a difference"

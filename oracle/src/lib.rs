@@ -33,6 +33,7 @@ pub mod model_candidates;
 pub mod model_types;
 pub mod rng;
 pub mod rust;
+pub mod samples;
 pub mod sheet;
 pub mod stored;
 pub mod tally;

@@ -10,7 +10,7 @@ use std::{
 use oracle::{
   SOURCES,
   answers::{self, Options, take_flag, take_number},
-  damage, generate, stored,
+  damage, generate, samples, stored,
   tally::Tally,
   worker,
 };
@@ -21,6 +21,7 @@ oracle gen [--seed N] [--count K] [--damaged PERCENT]
                                      prints case lines, and how often each outcome occurred
 oracle source FILE                   prints a file of docs/src/vine/src as it is compiled here
 oracle stored make|check DIRECTORY   makes the stored list, or compares it with what is said today
+oracle samples make|check DIRECTORY  the same for what `ask` is to print for the samples
 options: --limit L (step limit, at most 2000), --workspace W (the constant), --timeout-ms T,
          --max (tells the most nodes of a type table behind the Rust's answer)";
 
@@ -50,6 +51,14 @@ fn run(mut args: Vec<String>) -> Result<(), String> {
       }
       [check, directory] if check == "check" => {
         stored::check(Path::new(directory), &options).map(|tally| println!("{tally}"))
+      }
+      _ => Err(USAGE.into()),
+    },
+    Some("samples") => match &args[1..] {
+      [make, directory] if make == "make" || make == "check" => {
+        let many = samples::each(Path::new(directory), &options, make == "make")?;
+        println!("{many} samples");
+        Ok(())
       }
       _ => Err(USAGE.into()),
     },
