@@ -9,7 +9,8 @@ use lib.ListN.{length, take}
 use lib.Seq.{length-take-le}
 use Rattle.rules.specs.Lists.{Words}
 use Rattle.rules.specs.Limits.{limit·nodes}
-use Rattle.rules.specs.Sheet.{at, chain, chain-of}
+use Rattle.rules.specs.ChainLaws.{chain-short}
+use Rattle.rules.specs.Sheet.{at, chain}
 use Rattle.rules.specs.Types.{Ty, Types}
 use Rattle.rules.specs.Solutions.{AllIn}
 use Rattle.rules.specs.Transfer.{import-types, table}
@@ -20,17 +21,6 @@ use Rattle.transfer.specs.Source.{source}
 use Rattle.transfer.specs.Imports.{types-in, Inside, Imports}
 use Rattle.transfer.specs.Callers.{inside-from, places-chain, places-table}
 use Rattle.chart.specs.Index.{Indexed}
-
--- A slice has no more records on a chain than words.
-chain-few : (k : ℕ) (s : Words) (i : ℕ) → length (chain-of k s i) ≤ k
-unfolding chain-of
-chain-few zero s i = omega arith
-chain-few (suc k) s zero = omega arith
-chain-few (suc k) s (suc i) = let h = chain-few k s (at s (suc i)) in omega arith
-
-pub chain-short : (s : Words) (h : ℕ) → length (chain s h) ≤ length s
-unfolding chain
-chain-short s h = chain-few (length s) s h
 
 -- Slices lent for an import: room for the places of a chain of s, and for a mapping or marks of a table.
 pub record Lent (s places map : Words) : Type 0 where
