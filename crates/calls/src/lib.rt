@@ -92,7 +92,7 @@ fn impl_within(
 {
     let number = checks::check_impl(sheet, question, source, generics, basic, ws);
     if number != 0 {
-        words::clear(ws, workspace_words());
+        words::clear(ws, workspace_words()); // refused by 6 to 13
         return Ended { number, count };
     }
     let r = impl_with_sets(sheet, question, source, generics, basic, ws, answer, count);
@@ -163,10 +163,13 @@ fn flex_within(
     requires { ⌜ Entered (now sheet) (now question) (length (now answer)) (length (now ws)) count ⌝ }
     ensures { λ r. ⌜ Behind (behind (refusal (flex-checks (finder (now (sheet .entry)) source generics) (now (question .entry)))) (flex-within (ltb limit·steps) (finder (now (sheet .entry)) source generics) (now (question .entry)) count) count) (now (answer .entry)) (now (answer .exit)) (now (ws .entry)) (now (ws .exit)) r ⌝ }
 {
-    let number = checks::check_flex(sheet, question, source, generics, ws);
-    if number != 0 {
+    let refusal = checks::check_flex(sheet, question, source, generics, ws);
+    if refusal != 0 {
         words::clear(ws, workspace_words());
-        return Ended { number, count };
+        return Ended {
+            number: refusal,
+            count,
+        };
     }
     let r = flex_with_sets(sheet, question, source, generics, ws, answer, count);
     words::clear(ws, workspace_words());
