@@ -173,6 +173,43 @@ fn largest(levels: usize) -> Call {
   call
 }
 
+/// A Tuple of twice the Tuple below, so many levels round a type, which the Rust walks once for each way to it.
+fn tower(table: &mut Table, innermost: u32, levels: usize) -> u32 {
+  (0..levels).fold(innermost, |word, _| table.add(kind::TUPLE, 0, &[word, word]))
+}
+
+/// A trait of so many arguments, and an impl of it for any type, the same in each.
+fn for_any(arity: u32) -> Sheet {
+  let mut sheet = bare();
+  sheet.structs = vec![(0, 0); 2];
+  sheet.traits.push(Trait { definition: 0, arity, inherent: 0 });
+  sheet.generics.push(Generics { type_params: 1, ..Generics::default() });
+  let mut impl_ = Impl { generics: 1, flags: flag::NAMED, ..Impl::default() };
+  let param = impl_.table.add(kind::PARAM, 0, &[]);
+  impl_.query = Query { trait_: 1, args: vec![param; arity as usize] };
+  sheet.impls.push(impl_);
+  sheet.definitions[0].bindings.push(Binding { vis: 0, impl_: 0 });
+  sheet
+}
+
+/// Two towers round different structs meet in the search, and fail.
+pub fn shared_in_search(levels: usize) -> Call {
+  let mut table = Table::default();
+  let args = Vec::from_iter((0..2).map(|id| {
+    let innermost = table.add(kind::STRUCT, id, &[]);
+    tower(&mut table, innermost, levels)
+  }));
+  call(&for_any(2), &table, Query { trait_: 1, args })
+}
+
+/// A tower round Error meets its own copy in the closing join, and is indeterminate.
+pub fn shared_in_closing(levels: usize) -> Call {
+  let mut table = Table::default();
+  let innermost = table.add(kind::ERROR, 0, &[]);
+  let word = tower(&mut table, innermost, levels);
+  call(&for_any(1), &table, Query { trait_: 1, args: vec![word] })
+}
+
 /// A stored case by hand, by its reason.
 fn edge(why: &str) -> Call {
   let found = edges::limits().into_iter().find(|edge| edge.why == why);
@@ -199,12 +236,36 @@ pub fn all() -> Vec<Class> {
   ]
 }
 
-/// Every stored case by hand at the limits, with its reason.
+/// S as deep as a search goes, round so many Refs, with an impl for any Ref: the deepest search joins deep types.
+fn nested_refs(refs: usize) -> Call {
+  let mut sheet = bare();
+  sheet.structs = vec![(0, 0); 2];
+  let trait_ = add_trait(&mut sheet, 0);
+  add_impl(&mut sheet, 0, trait_, 1, 1);
+  sheet.generics.push(Generics { type_params: 1, ..Generics::default() });
+  let mut impl_ = Impl { generics: 2, flags: flag::NAMED, ..Impl::default() };
+  let param = impl_.table.add(kind::PARAM, 0, &[]);
+  let word = impl_.table.add(kind::REF, 0, &[param]);
+  impl_.query = Query { trait_, args: vec![word] };
+  sheet.impls.push(impl_);
+  sheet.definitions[0].bindings.push(Binding { vis: 0, impl_: 1 });
+  let mut table = Table::default();
+  let mut word = table.add(kind::STRUCT, 0, &[]);
+  for _ in 0..refs {
+    word = table.add(kind::REF, 0, &[word]);
+  }
+  for _ in 0..15 {
+    word = table.add(kind::STRUCT, 1, &[word]);
+  }
+  call(&sheet, &table, Query { trait_, args: vec![word] })
+}
+
+/// Every stored case by hand at the limits, with its reason, and the deepest search with deep types.
 pub fn at_the_limits() -> Vec<(String, Call)> {
   let edges = edges::limits().into_iter().chain(edges::large());
   let calls = edges.filter_map(|edge| match edge.case {
     Case::Call(call) => Some((edge.why, call)),
     Case::List(_) => None,
   });
-  calls.collect()
+  calls.chain([("15 S round 110 Refs".into(), nested_refs(110))]).collect()
 }

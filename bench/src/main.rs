@@ -1,5 +1,6 @@
 //! `bench`: the port and the Rust on the same calls, class by class, in one process; each side reads the sheet's words, makes
-//! chart and candidate sets of them, and answers. Then the least stack that the deepest searches need, in child processes.
+//! chart and candidate sets of them, and answers. Then calls on shared types, with the port alone; and the stack that the
+//! deepest searches take.
 
 use std::{
   env, hint,
@@ -15,6 +16,11 @@ use vine_finder::{ANSWER_WORDS, workspace_words};
 const STEPS: u32 = rust::STEPS_LIMIT;
 /// How long each side of a class is timed, at least.
 const TIMED: Duration = Duration::from_millis(400);
+/// Calls on shared types, by levels.
+const SHARED: [(&str, fn(usize) -> Call); 2] =
+  [("search", classes::shared_in_search), ("closing join", classes::shared_in_closing)];
+const LEVELS: [usize; 8] = [8, 16, 20, 24, 28, 32, 40, 50];
+const TOO_LONG: Duration = Duration::from_millis(300);
 /// The stack in which the deepest searches are to run, besides the workspace.
 const STACK: usize = 512 << 10;
 
@@ -36,8 +42,10 @@ fn bench() -> ExitCode {
   let timing = thread::Builder::new().stack_size(256 << 20).spawn(time_all).unwrap();
   let agreed = timing.join().unwrap();
   println!();
+  let shared = shared();
+  println!();
   let ran = stacks();
-  if agreed && ran { ExitCode::SUCCESS } else { ExitCode::FAILURE }
+  if agreed && shared && ran { ExitCode::SUCCESS } else { ExitCode::FAILURE }
 }
 
 /// Times all classes, and says whether port and Rust agree on them.
@@ -119,6 +127,30 @@ fn median<T>(mut run: impl FnMut() -> T) -> Duration {
   }
   times.sort();
   times[times.len() / 2]
+}
+
+/// Times calls on shared types, on which the Rust does not end, with the port alone: as many levels as end in time.
+fn shared() -> bool {
+  let mut buffers = Buffers::default();
+  let mut all = true;
+  for (name, make) in SHARED {
+    print!("shared types, {name}:");
+    for levels in LEVELS {
+      let call = make(levels);
+      let started = Instant::now();
+      let (given, wrong) = buffers.run(&call);
+      let took = started.elapsed();
+      let agreed = given == model::call(&call, STEPS) && wrong.is_none();
+      print!(" {levels} levels {:.1} ms{}", micros(took) / 1e3, if agreed { "" } else { " WRONG" });
+      all &= agreed;
+      if took > TOO_LONG {
+        print!(", and no further");
+        break;
+      }
+    }
+    println!();
+  }
+  all
 }
 
 /// Runs every class and every stored case at the limits in a thread with so much stack.
