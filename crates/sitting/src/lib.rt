@@ -131,7 +131,7 @@ pub extern "C" fn vine_sitting_find_impl(
     ensures { λ r. ⌜ Sits (try-find-impl limit·steps (finder (now (sheet .entry)) source generics) basic (now (question .entry)) (length (now (answer .entry))) (length (now (work .entry))) (now (spent .entry))) (now (answer .entry)) (now (answer .exit)) (now (work .entry)) (now (work .exit)) (tally r (now (spent .exit))) ⌝ }
 {
     let count = *spent;
-    let o = count_impl(
+    let found = count_impl(
         count,
         sheet,
         question,
@@ -141,8 +141,8 @@ pub extern "C" fn vine_sitting_find_impl(
         answer,
         work,
     );
-    *spent = o.count;
-    o.number
+    *spent = found.count;
+    found.number
 }
 
 // The flex call.
@@ -159,7 +159,7 @@ pub extern "C" fn vine_sitting_find_flex(
     ensures { λ r. ⌜ Sits (find-flex limit·steps (finder (now (sheet .entry)) source generics) (now (question .entry)) (length (now (answer .entry))) (length (now (work .entry))) (now (spent .entry))) (now (answer .entry)) (now (answer .exit)) (now (work .entry)) (now (work .exit)) (tally r (now (spent .exit))) ⌝ }
 {
     let count = *spent;
-    let o = count_flex(count, sheet, question, source, generics, answer, work);
-    *spent = o.count;
-    o.number
+    let flex = count_flex(count, sheet, question, source, generics, answer, work);
+    *spent = flex.count;
+    flex.number
 }
