@@ -84,6 +84,13 @@ pub fn ended<'a>(w: Walker<'a>) -> bool
     ends_at(w.sheet, w.at)
 }
 
+// The same where the walker is only looked at.
+pub fn ended_of<'s, 'a>(w: &'s Walker<'a>) -> bool
+    ensures { λ r. ⌜ r ≡ eqb (now (w .entry) .at) 0 ⌝ }
+{
+    ends_at(w.sheet, w.at)
+}
+
 // A word of the record behind the first, with plain parameters: whoever calls this needs no walk.
 pub fn second(sheet: &[u32], index: usize, k: usize) -> u32
     ensures { λ r. ⌜ r ≡ word-at (now (sheet .entry)) (word-at (now (sheet .entry)) (word-at (now (sheet .entry)) index) + k) ⌝ }
