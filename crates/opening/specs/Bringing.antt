@@ -9,7 +9,6 @@ use lib.ListN.{length, take}
 use lib.Seq.{length-take-le}
 use Rattle.rules.specs.Lists.{Words}
 use Rattle.rules.specs.Limits.{limit·nodes}
-use Rattle.rules.specs.ChainLaws.{chain-short}
 use Rattle.rules.specs.Sheet.{at, chain}
 use Rattle.rules.specs.Types.{Ty, Types}
 use Rattle.rules.specs.Solutions.{AllIn}
@@ -23,21 +22,21 @@ use Rattle.transfer.specs.Callers.{inside-from, places-chain, places-table}
 use Rattle.chart.specs.Index.{Indexed}
 
 -- Slices lent for an import: room for the places of a chain of s, and for a mapping or marks of a table.
-pub record Lent (s places map : Words) : Type 0 where
-  pub places-long : length s ≤ length places
-  pub map-long : length s ≤ length map
+pub record Lent (s : Words) (h : ℕ) (places map : Words) : Type 0 where
+  pub places-long : length (chain s h) ≤ length places
+  pub map-long : length (chain s h) ≤ length map
   pub marks-long : limit·nodes ≤ length map
 
-pub chain-room : (s places map : Words) (h : ℕ) → Lent s places map → 0 + length (chain s h) ≤ length places
-chain-room s places map h l = omega (arith, chain-short s h, l .places-long)
+pub chain-room : (s places map : Words) (h : ℕ) → Lent s h places map → 0 + length (chain s h) ≤ length places
+chain-room s places map h l = omega (arith, l .places-long)
 
-pub marks-room : (s places map ms : Words) → Lent s places map → length ms ≡ length map → 256 ≤ length ms
-marks-room s places map ms l e = omega (arith, l .marks-long)
+pub marks-room : (s : Words) (h : ℕ) (places map ms : Words) → Lent s h places map → length ms ≡ length map → 256 ≤ length ms
+marks-room s h places map ms l e = omega (arith, l .marks-long)
 
 -- us has the places of the chain from a head first, n of them.
-module _ (s : Words) (h : ℕ) (ws us : Words) (n : ℕ) (x : Indexed s h ws us 0 n) (ms : Words) (long : length us ≡ length ws) (room : Lent s ws ms) where
+module _ (s : Words) (h : ℕ) (ws us : Words) (n : ℕ) (x : Indexed s h ws us 0 n) (ms : Words) (long : length us ≡ length ws) (room : Lent s h ws ms) where
   pub places-few : n ≤ length us
-  places-few = omega (arith, x .count, chain-short s h, room .places-long)
+  places-few = omega (arith, x .count, room .places-long)
 
   pub places-length : n ≡ length (take n us)
   places-length = sym (length-take-le n us places-few)
@@ -52,7 +51,7 @@ module _ (s : Words) (h : ℕ) (ws us : Words) (n : ℕ) (x : Indexed s h ws us 
   source-neat k = subst Neat (sym there) k
 
   pub source-room : length (source false s (take n us)) ≤ length ms
-  source-room = omega (arith, ap (λ (ts : Types). length ts) there, table-length s h, chain-short s h, room .map-long)
+  source-room = omega (arith, ap (λ (ts : Types). length ts) there, table-length s h, room .map-long)
 
   pub source-inside : (m : ℕ) (ts : Words) → AllIn (length (table s h)) (types-in m ts) → Inside (source false s (take n us)) (take m ts)
   source-inside m ts a = inside-from (source false s (take n us)) m ts (subst (λ (x : Types). AllIn (length x) (types-in m ts)) (sym there) a)

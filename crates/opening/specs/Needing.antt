@@ -28,7 +28,8 @@ use Rattle.queries.specs.Gathering.{WithinFour}
 use Rattle.queries.specs.Rows.{Rowed, Unrowed, impls-imported, row-inside}
 use Rattle.opening.specs.Standing.{standing, standing-fresh, Stands}
 use Rattle.opening.specs.Signing.{counted}
-use Rattle.opening.specs.Sound.{Sound, finder, params-neat, params-table}
+use Rattle.opening.specs.Bringing.{Lent}
+use Rattle.opening.specs.Sound.{generics-lent, Sound, finder, params-neat, params-table}
 
 -- The import o, as sub-questions r and the table that out is.
 pub record Asks (o : List ImplType × Types) (r : Queries) (out : Words) : Type 0 where
@@ -86,6 +87,9 @@ module _ (s : Words) (sound : Sound s) (i : ℕ) (h : i < many s header·impls) 
   module _ (head : ℕ) (e : head ≡ field s header·generics g generics·table) where
     pub generics-neat : Neat (table s head)
     generics-neat = params-neat s sound g head there e
+
+    pub need-lent : (places map : Words) → 1024 ≤ length places → 1024 ≤ length map → Lent s head places map
+    need-lent places map j k = generics-lent s sound g head places map there e j k
 
     module _ (qs : Queries) (eq : queries-of qs ≡ (impl-params s g) .1) where
       pub generics-inside : QueriesIn (length (table s head)) (queries-of qs)

@@ -1,5 +1,5 @@
 -- What a call that passed the checks promises to the work on one candidate or one impl parameter, and what that work is in the rules.
-use Prim.Native.Nat.{ℕ, _≤_, _<_}
+use Prim.Native.Nat.{ℕ, _*_, _≤_, _<_}
 use mathlib.Core.Path.{_≡_, sym, ap, subst}
 use mathlib.Core.Bool.{false}
 use mathlib.Core.Option.{none}
@@ -7,8 +7,8 @@ use native.Mathlib.Omega.{arith}
 use lib.ListN.{length}
 use Rattle.rules.specs.Lists.{Words}
 use Rattle.rules.specs.Limits.{limit·sheet}
-use Rattle.rules.specs.Layout.{header·generics, generics·table}
-use Rattle.rules.specs.Sheet.{field, many, generics-table}
+use Rattle.rules.specs.Layout.{header·generics, header·impls, generics·table, impl·table}
+use Rattle.rules.specs.Sheet.{chain, field, many, generics-table}
 use Rattle.rules.specs.Types.{Types, ImplType}
 use Rattle.rules.specs.Solutions.{AllIn}
 use Rattle.rules.specs.Transfer.{import-impl-type, table}
@@ -20,6 +20,7 @@ use Rattle.transfer.specs.Moving.{params-of}
 use Rattle.queries.specs.declared.Query.{Query}
 use Rattle.queries.specs.Queries.{query-of}
 use Rattle.opening.specs.declared.Signed.{Signed}
+use Rattle.queries.specs.Sizes.{generics-few, impl-few}
 use Rattle.opening.specs.Bringing.{Lent}
 use Rattle.opening.specs.Meeting.{Meets}
 
@@ -38,9 +39,16 @@ module _ (s : Words) (sound : Sound s) where
   abbrev pub finder : Finder
   finder = record { sheet = s; source = sound .source; generics = sound .generics }
 
-  -- Slices of 4,096 words serve every import from it.
-  pub sound-lent : (places map : Words) → 4096 ≤ length places → 4096 ≤ length map → Lent s places map
-  sound-lent places map h k = record { places-long = omega (arith, sound .short); map-long = omega (arith, sound .short); marks-long = omega arith }
+  -- Slices of 1,024 words serve every import from it: for a table whose records fit into it,
+  fits : (head : ℕ) (places map : Words) → 5 * length (chain s head) ≤ length s → 1024 ≤ length places → 1024 ≤ length map → Lent s head places map
+  fits head places map f h k = record { places-long = omega (arith, sound .short); map-long = omega (arith, sound .short); marks-long = omega arith }
+
+  -- as those of impls and of generics do.
+  pub signature-lent : (i head : ℕ) (places map : Words) → i < many s header·impls → head ≡ field s header·impls i impl·table → 1024 ≤ length places → 1024 ≤ length map → Lent s head places map
+  signature-lent i head places map h e j k = fits head places map (subst (λ x. 5 * length (chain s x) ≤ length s) (sym e) (impl-few s (sound .ready .chains) i h)) j k
+
+  pub generics-lent : (g head : ℕ) (places map : Words) → g < many s header·generics → head ≡ field s header·generics g generics·table → 1024 ≤ length places → 1024 ≤ length map → Lent s head places map
+  generics-lent g head places map h e j k = fits head places map (subst (λ x. 5 * length (chain s x) ≤ length s) (sym e) (generics-few s (sound .ready .chains) g h)) j k
 
   -- One impl parameter of generics g, whose table has that head.
   module _ (g head : ℕ) (h : g < many s header·generics) (e : head ≡ field s header·generics g generics·table) where

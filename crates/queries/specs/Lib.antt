@@ -3,3 +3,4 @@ pub mod Gathering
 pub mod Queries
 pub mod Reading
 pub mod Rows
+pub mod Sizes
