@@ -494,8 +494,8 @@ module _ (L d : ℕ) (s sets : Words) (f : Finder) (search : Searching s sets f)
     asked-goes r out x = sub-goes L d (finder-of s f) (search .sound) ws us ys _ qs from count first t h room copied gone came-back c m p r out x
 
 -- New slices for an import.
-pub scratch-new : Scratch (replicate 4096 0) (replicate 4096 0)
+pub scratch-new : Scratch (replicate 819 0) (replicate 819 0)
 scratch-new = record { places-long = long; map-long = long }
   where
-    long : 4096 ≤ length (replicate {A = ℕ} 4096 0)
-    long = subst (λ n. 4096 ≤ n) (sym (length-replicate {0} {A = ℕ} 4096 0)) (le-refl 4096)
+    long : 819 ≤ length (replicate {A = ℕ} 819 0)
+    long = subst (λ n. 819 ≤ n) (sym (length-replicate {0} {A = ℕ} 819 0)) (le-refl 819)

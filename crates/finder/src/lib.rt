@@ -27,7 +27,7 @@ const RESULTS: usize = 10764;
 const REST: usize = 17940;
 
 // The words that an import from the sheet needs for the places of a table's records, and for its mapping.
-const SCRATCH: usize = 4096;
+const SCRATCH: usize = 819;
 
 // Built-in fork and drop, then the generics' impl parameters.
 fn begin(sheet: &[u32], ws: &mut [u32], f: Finder, basic: u32, q: Query, count: u32) -> Asked

@@ -21,33 +21,22 @@ use Rattle.transfer.specs.Imports.{types-in, Inside, Imports}
 use Rattle.transfer.specs.Callers.{inside-from, places-chain, places-table}
 use Rattle.chart.specs.Index.{Indexed}
 
--- A slice has no more records on a chain than words.
-chain-few : (k : ℕ) (s : Words) (i : ℕ) → length (chain-of k s i) ≤ k
-unfolding chain-of
-chain-few zero s i = omega arith
-chain-few (suc k) s zero = omega arith
-chain-few (suc k) s (suc i) = let h = chain-few k s (at s (suc i)) in omega arith
-
-pub chain-short : (s : Words) (h : ℕ) → length (chain s h) ≤ length s
-unfolding chain
-chain-short s h = chain-few (length s) s h
-
--- Slices lent for an import: room for the places of a chain of s, and for a mapping or marks of a table.
-pub record Lent (s places map : Words) : Type 0 where
-  pub places-long : length s ≤ length places
-  pub map-long : length s ≤ length map
+-- Slices lent for an import from the table at a head: room for the places of its nodes, and for a mapping or marks of a table.
+pub record Lent (s : Words) (head : ℕ) (places map : Words) : Type 0 where
+  pub places-long : length (chain s head) ≤ length places
+  pub map-long : length (chain s head) ≤ length map
   pub marks-long : limit·nodes ≤ length map
 
-pub chain-room : (s places map : Words) (h : ℕ) → Lent s places map → 0 + length (chain s h) ≤ length places
-chain-room s places map h l = omega (arith, chain-short s h, l .places-long)
+pub chain-room : (s places map : Words) (h : ℕ) → Lent s h places map → 0 + length (chain s h) ≤ length places
+chain-room s places map h l = omega (arith, l .places-long)
 
-pub marks-room : (s places map ms : Words) → Lent s places map → length ms ≡ length map → 256 ≤ length ms
-marks-room s places map ms l e = omega (arith, l .marks-long)
+pub marks-room : (s places map ms : Words) (h : ℕ) → Lent s h places map → length ms ≡ length map → 256 ≤ length ms
+marks-room s places map ms h l e = omega (arith, l .marks-long)
 
 -- us has the places of the chain from a head first, n of them.
-module _ (s : Words) (h : ℕ) (ws us : Words) (n : ℕ) (x : Indexed s h ws us 0 n) (ms : Words) (long : length us ≡ length ws) (room : Lent s ws ms) where
+module _ (s : Words) (h : ℕ) (ws us : Words) (n : ℕ) (x : Indexed s h ws us 0 n) (ms : Words) (long : length us ≡ length ws) (room : Lent s h ws ms) where
   pub places-few : n ≤ length us
-  places-few = omega (arith, x .count, chain-short s h, room .places-long)
+  places-few = omega (arith, x .count, room .places-long)
 
   pub places-length : n ≡ length (take n us)
   places-length = sym (length-take-le n us places-few)
@@ -62,7 +51,7 @@ module _ (s : Words) (h : ℕ) (ws us : Words) (n : ℕ) (x : Indexed s h ws us 
   source-neat k = subst Neat (sym there) k
 
   pub source-room : length (source false s (take n us)) ≤ length ms
-  source-room = omega (arith, ap (λ (ts : Types). length ts) there, table-length s h, chain-short s h, room .map-long)
+  source-room = omega (arith, ap (λ (ts : Types). length ts) there, table-length s h, room .map-long)
 
   pub source-inside : (m : ℕ) (ts : Words) → AllIn (length (table s h)) (types-in m ts) → Inside (source false s (take n us)) (take m ts)
   source-inside m ts a = inside-from (source false s (take n us)) m ts (subst (λ (x : Types). AllIn (length x) (types-in m ts)) (sym there) a)

@@ -2,6 +2,7 @@ pub mod Fresh
 pub mod Standing
 pub mod Bringing
 pub mod Meeting
+pub mod Short
 pub mod Sound
 pub mod Signing
 pub mod Needing

@@ -28,7 +28,8 @@ use Rattle.queries.specs.Gathering.{WithinFour}
 use Rattle.queries.specs.Rows.{Rowed, Unrowed, impls-imported, row-inside}
 use Rattle.opening.specs.Standing.{standing, standing-fresh, Stands}
 use Rattle.opening.specs.Signing.{counted}
-use Rattle.opening.specs.Sound.{Sound, finder, params-neat, params-table}
+use Rattle.opening.specs.Bringing.{Lent}
+use Rattle.opening.specs.Sound.{Sound, finder, generics-lent, params-neat, params-table}
 
 -- The import o, as sub-questions r and the table that out is.
 pub record Asks (o : List ImplType × Types) (r : Queries) (out : Words) : Type 0 where
@@ -84,6 +85,9 @@ module _ (s : Words) (sound : Sound s) (i : ℕ) (h : i < many s header·impls) 
   generics-few = few-params (finder s sound) (sound .question) (sound .ready) g there
 
   module _ (head : ℕ) (e : head ≡ field s header·generics g generics·table) where
+    pub needed-lent : (places map : Words) → 819 ≤ length places → 819 ≤ length map → Lent s head places map
+    needed-lent places map l k = generics-lent s sound places map l k g head there e
+
     pub generics-neat : Neat (table s head)
     generics-neat = params-neat s sound g head there e
 

@@ -7,8 +7,8 @@ use native.Mathlib.Omega.{arith}
 use lib.ListN.{length}
 use Rattle.rules.specs.Lists.{Words}
 use Rattle.rules.specs.Limits.{limit·sheet}
-use Rattle.rules.specs.Layout.{header·generics, generics·table}
-use Rattle.rules.specs.Sheet.{field, many, generics-table}
+use Rattle.rules.specs.Layout.{header·generics, header·impls, generics·table, impl·table}
+use Rattle.rules.specs.Sheet.{chain, field, many, generics-table}
 use Rattle.rules.specs.Types.{Types, ImplType}
 use Rattle.rules.specs.Solutions.{AllIn}
 use Rattle.rules.specs.Transfer.{import-impl-type, table}
@@ -21,6 +21,7 @@ use Rattle.queries.specs.declared.Query.{Query}
 use Rattle.queries.specs.Queries.{query-of}
 use Rattle.opening.specs.declared.Signed.{Signed}
 use Rattle.opening.specs.Bringing.{Lent}
+use Rattle.opening.specs.Short.{generics-table-few, impl-table-few}
 use Rattle.opening.specs.Meeting.{Meets}
 
 -- The sheet of a call that passed 1 to 13, whatever its source, generics and question.
@@ -38,9 +39,19 @@ module _ (s : Words) (sound : Sound s) where
   abbrev pub finder : Finder
   finder = record { sheet = s; source = sound .source; generics = sound .generics }
 
-  -- Slices of 4,096 words serve every import from it.
-  pub sound-lent : (places map : Words) → 4096 ≤ length places → 4096 ≤ length map → Lent s places map
-  sound-lent places map h k = record { places-long = omega (arith, sound .short); map-long = omega (arith, sound .short); marks-long = omega arith }
+  -- Slices of 819 words serve every import from it: from the table of some generics, and from that of an impl.
+  module _ (places map : Words) (h : 819 ≤ length places) (k : 819 ≤ length map) where
+    pub generics-lent : (g head : ℕ) → g < many s header·generics → head ≡ field s header·generics g generics·table → Lent s head places map
+    generics-lent g head l e = record { places-long = omega (arith, few); map-long = omega (arith, few); marks-long = omega arith }
+      where
+        few : length (chain s head) ≤ 819
+        few = subst (λ i. length (chain s i) ≤ 819) (sym e) (generics-table-few s (sound .short) (sound .ready .chains) g l)
+
+    pub impl-lent : (i head : ℕ) → i < many s header·impls → head ≡ field s header·impls i impl·table → Lent s head places map
+    impl-lent i head l e = record { places-long = omega (arith, few); map-long = omega (arith, few); marks-long = omega arith }
+      where
+        few : length (chain s head) ≤ 819
+        few = subst (λ j. length (chain s j) ≤ 819) (sym e) (impl-table-few s (sound .short) (sound .ready .chains) i l)
 
   -- One impl parameter of generics g, whose table has that head.
   module _ (g head : ℕ) (h : g < many s header·generics) (e : head ≡ field s header·generics g generics·table) where

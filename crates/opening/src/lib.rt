@@ -92,7 +92,7 @@ fn bring(
     m: usize,
 ) -> bool
     requires { ⌜ Neat (table-of (now sheet) head) ⌝ }
-    requires { ⌜ Lent (now sheet) (now places) (now map) ⌝ }
+    requires { ⌜ Lent (now sheet) head (now places) (now map) ⌝ }
     requires { ⌜ TypeWords (now ps) ⌝ }
     requires { ⌜ Packed (now dst) ⌝ }
     requires { ⌜ m ≤ length (now ts) ⌝ }
@@ -137,7 +137,7 @@ fn meet_types(
     q: Query,
 ) -> Signed
     requires { ⌜ Neat (table-of (now sheet) head) ⌝ }
-    requires { ⌜ Lent (now sheet) (now places) (now map) ⌝ }
+    requires { ⌜ Lent (now sheet) head (now places) (now map) ⌝ }
     requires { ⌜ TypeWords (now ps) ⌝ }
     requires { ⌜ Packed (now dst) ⌝ }
     requires { ⌜ n ≤ length (now xs) ⌝ }
@@ -170,7 +170,7 @@ fn meet(
     q: Query,
 ) -> Signed
     requires { ⌜ Neat (table-of (now sheet) head) ⌝ }
-    requires { ⌜ Lent (now sheet) (now places) (now map) ⌝ }
+    requires { ⌜ Lent (now sheet) head (now places) (now map) ⌝ }
     requires { ⌜ TypeWords (now ps) ⌝ }
     requires { ⌜ Packed (now dst) ⌝ }
     requires { ⌜ p .n ≤ 4 ⌝ }
@@ -208,8 +208,8 @@ pub fn meet_param(
 ) -> Signed
     requires { ⌜ Sound (now sheet) ⌝ }
     requires { ⌜ generics < many (now sheet) header·generics ⌝ }
-    requires { ⌜ 4096 ≤ length (now places) ⌝ }
-    requires { ⌜ 4096 ≤ length (now map) ⌝ }
+    requires { ⌜ 819 ≤ length (now places) ⌝ }
+    requires { ⌜ 819 ≤ length (now map) ⌝ }
     requires { ⌜ Packed (now dst) ⌝ }
     requires { ⌜ Neat (types-of (now dst)) ⌝ }
     requires { ⌜ q .n ≤ 4 ⌝ }
@@ -234,8 +234,8 @@ fn sign_with(
 ) -> Signed
     requires { ⌜ Sound (now sheet) ⌝ }
     requires { ⌜ i < many (now sheet) header·impls ⌝ }
-    requires { ⌜ 4096 ≤ length (now places) ⌝ }
-    requires { ⌜ 4096 ≤ length (now map) ⌝ }
+    requires { ⌜ 819 ≤ length (now places) ⌝ }
+    requires { ⌜ 819 ≤ length (now map) ⌝ }
     requires { ⌜ Packed (now dst) ⌝ }
     requires { ⌜ q .n ≤ 4 ⌝ }
     requires { ⌜ AllIn (length (types-of (now dst))) ((query-of q) .1) ⌝ }
@@ -263,8 +263,8 @@ fn sign_from(
 ) -> Signed
     requires { ⌜ Sound (now sheet) ⌝ }
     requires { ⌜ i < many (now sheet) header·impls ⌝ }
-    requires { ⌜ 4096 ≤ length (now places) ⌝ }
-    requires { ⌜ 4096 ≤ length (now map) ⌝ }
+    requires { ⌜ 819 ≤ length (now places) ⌝ }
+    requires { ⌜ 819 ≤ length (now map) ⌝ }
     requires { ⌜ Packed (now dst) ⌝ }
     requires { ⌜ q .n ≤ 4 ⌝ }
     requires { ⌜ AllIn (length (types-of (now dst))) ((query-of q) .1) ⌝ }
@@ -289,8 +289,8 @@ pub fn sign(
 ) -> Signed
     requires { ⌜ Sound (now sheet) ⌝ }
     requires { ⌜ i < many (now sheet) header·impls ⌝ }
-    requires { ⌜ 4096 ≤ length (now places) ⌝ }
-    requires { ⌜ 4096 ≤ length (now map) ⌝ }
+    requires { ⌜ 819 ≤ length (now places) ⌝ }
+    requires { ⌜ 819 ≤ length (now map) ⌝ }
     requires { ⌜ Packed (now dst) ⌝ }
     requires { ⌜ q .n ≤ 4 ⌝ }
     requires { ⌜ AllIn (length (types-of (now dst))) ((query-of q) .1) ⌝ }
@@ -332,7 +332,7 @@ fn bring_row(
     m: usize,
 ) -> Queries
     requires { ⌜ Neat (table-of (now sheet) head) ⌝ }
-    requires { ⌜ Lent (now sheet) (now places) (now map) ⌝ }
+    requires { ⌜ Lent (now sheet) head (now places) (now map) ⌝ }
     requires { ⌜ TypeWords (now ps) ⌝ }
     requires { ⌜ Packed (now dst) ⌝ }
     requires { ⌜ WithinFour qs ⌝ }
@@ -359,7 +359,7 @@ fn bring_queries(
     qs: Queries,
 ) -> Queries
     requires { ⌜ Neat (table-of (now sheet) head) ⌝ }
-    requires { ⌜ Lent (now sheet) (now places) (now map) ⌝ }
+    requires { ⌜ Lent (now sheet) head (now places) (now map) ⌝ }
     requires { ⌜ TypeWords (now ps) ⌝ }
     requires { ⌜ Packed (now dst) ⌝ }
     requires { ⌜ WithinFour qs ⌝ }
@@ -382,8 +382,8 @@ fn need_with(
 ) -> Queries
     requires { ⌜ Sound (now sheet) ⌝ }
     requires { ⌜ i < many (now sheet) header·impls ⌝ }
-    requires { ⌜ 4096 ≤ length (now places) ⌝ }
-    requires { ⌜ 4096 ≤ length (now map) ⌝ }
+    requires { ⌜ 819 ≤ length (now places) ⌝ }
+    requires { ⌜ 819 ≤ length (now map) ⌝ }
     requires { ⌜ Packed (now dst) ⌝ }
     requires { ⌜ TypeWords (now ps) ⌝ }
     ensures { λ r. ⌜ Needs (needed-by (now (sheet .entry)) i (params-of true (now (ps .entry))) (types-of (now (dst .entry)))) r (now (dst .exit)) ⌝ }
@@ -406,8 +406,8 @@ pub fn need(
 ) -> Queries
     requires { ⌜ Sound (now sheet) ⌝ }
     requires { ⌜ i < many (now sheet) header·impls ⌝ }
-    requires { ⌜ 4096 ≤ length (now places) ⌝ }
-    requires { ⌜ 4096 ≤ length (now map) ⌝ }
+    requires { ⌜ 819 ≤ length (now places) ⌝ }
+    requires { ⌜ 819 ≤ length (now map) ⌝ }
     requires { ⌜ Packed (now dst) ⌝ }
     requires { ⌜ base + fresh-count (now sheet) i ≤ length (types-of (now dst)) ⌝ }
     ensures { λ r. ⌜ Follows (now (sheet .entry)) i base (now (dst .entry)) r (now (dst .exit)) ⌝ }

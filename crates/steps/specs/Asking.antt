@@ -45,8 +45,8 @@ pub record Searching (s sets : Words) (f : Finder) : Type 0 where
 
 -- Slices lent for imports.
 pub record Scratch (places map : Words) : Type 0 where
-  pub places-long : 4096 ≤ length places
-  pub map-long : 4096 ≤ length map
+  pub places-long : 819 ≤ length places
+  pub map-long : 819 ≤ length map
 
 pub scratch-kept : (ps ms qs ns : Words) → Scratch ps ms → length qs ≡ length ps → length ns ≡ length ms → Scratch qs ns
 scratch-kept ps ms qs ns h e d = record { places-long = omega (arith, h .places-long); map-long = omega (arith, h .map-long) }

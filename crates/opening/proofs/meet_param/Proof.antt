@@ -1,5 +1,5 @@
 -- `meet_param`: without parameters, from the table of the generics.
-use Rattle.opening.specs.Sound.{sound-lent, params-neat, param-inside, param-brought, param-meets}
+use Rattle.opening.specs.Sound.{generics-lent, params-neat, param-inside, param-brought, param-meets}
 use Rattle.transfer.specs.Imports.{no-words}
 use borrow.Author.Needs.{needs}
 use Rattle.opening.proofs.meet_param.Statement.{statement}
@@ -12,7 +12,7 @@ slice-aggregate-meet : tie.Need-slice-aggregate-meet
 slice-aggregate-meet c = search needs
 
 meet-requires : tie.Need-meet-requires
-meet-requires c κs = (search (needs, params-neat), (search (needs, sound-lent), (no-words, (search needs, (search needs, (search (needs, param-inside), (search needs, (search needs, search (needs, param-brought)))))))))
+meet-requires c κs = (search (needs, params-neat), (search (needs, generics-lent), (no-words, (search needs, (search needs, (search (needs, param-inside), (search needs, (search needs, search (needs, param-brought)))))))))
 
 same-length : tie.Need-same-length
 same-length c = search needs

@@ -1,6 +1,5 @@
 -- `need_with`: the impl parameters of the impl's own generics.
-use Rattle.opening.specs.Needing.{generics-few, generics-neat, generics-inside, generics-needs}
-use Rattle.opening.specs.Sound.{sound-lent}
+use Rattle.opening.specs.Needing.{generics-few, needed-lent, generics-neat, generics-inside, generics-needs}
 use borrow.Author.Needs.{needs}
 use Rattle.opening.proofs.need_with.Statement.{statement}
 use Rattle.opening.proofs.need_with.Tie as tie
@@ -15,7 +14,7 @@ word-of-requires : tie.Need-word-of-requires
 word-of-requires c κs = search needs
 
 bring-queries-requires : tie.Need-bring-queries-requires
-bring-queries-requires c κs = (search (needs, generics-neat), (search (needs, sound-lent), (search needs, (search needs, (search needs, search (needs, generics-inside))))))
+bring-queries-requires c κs = (search (needs, generics-neat), (search (needs, needed-lent), (search needs, (search needs, (search needs, search (needs, generics-inside))))))
 
 same-length : tie.Need-same-length
 same-length c = search needs

@@ -1,6 +1,6 @@
 -- `sign_with`: the signature is read, and met.
 use Rattle.opening.specs.Signing.{signature-few, table-neat, signature-inside, signature-leaves, signature-meets}
-use Rattle.opening.specs.Sound.{sound-lent}
+use Rattle.opening.specs.Sound.{impl-lent}
 use borrow.Author.Needs.{needs}
 use Rattle.opening.proofs.sign_with.Statement.{statement}
 use Rattle.opening.proofs.sign_with.Tie as tie
@@ -18,7 +18,7 @@ word-of-requires-2 : tie.Need-word-of-requires-2
 word-of-requires-2 c κs = search needs
 
 meet-requires : tie.Need-meet-requires
-meet-requires c κs = let pre = c .before .before .before .before .before .before .before .before .before .before .before .before .pre in let e = c .before .before .before .word-of2 .ensures in let et = c .before .before .before .before .before .before .word-of .ensures in let ea = c .before .before .before .before .before .impl-args .ensures in let ep = c .before .before .before .before .read-query .ensures .0 in (search (needs, table-neat), (search (needs, sound-lent), (search needs, (search needs, (search needs, (search (needs, signature-inside, pre .0, pre .1 .0, e, et, ea, ep), (search needs, (search needs, search (needs, signature-leaves, pre .0, pre .1 .0, e, et, ea, ep, pre .1 .1 .1 .1 .1 .1 .1 .1)))))))))
+meet-requires c κs = let pre = c .before .before .before .before .before .before .before .before .before .before .before .before .pre in let e = c .before .before .before .word-of2 .ensures in let et = c .before .before .before .before .before .before .word-of .ensures in let ea = c .before .before .before .before .before .impl-args .ensures in let ep = c .before .before .before .before .read-query .ensures .0 in (search (needs, table-neat), (search (needs, impl-lent), (search needs, (search needs, (search needs, (search (needs, signature-inside, pre .0, pre .1 .0, e, et, ea, ep), (search needs, (search needs, search (needs, signature-leaves, pre .0, pre .1 .0, e, et, ea, ep, pre .1 .1 .1 .1 .1 .1 .1 .1)))))))))
 
 same-length : tie.Need-same-length
 same-length c = search needs
