@@ -13,6 +13,7 @@ use lib.Seq.{getD-set-same, getD-set-other}
 use borrow.Author.Tests.{lt-ltb, le-ltb, ltb-true, ltb-false, eqb-true, eqb-false}
 use Rattle.rules.specs.Lists.{Words}
 use Rattle.rules.specs.Layout.{header·definitions, header·traits, header·impls, header·imports}
+use Rattle.rules.specs.ChainLaws.{chain-short}
 use Rattle.rules.specs.Sheet.{at, chain, chain-of, records, many, field, trait-def, inherent-params, import-def}
 use Rattle.rules.specs.WordLaws.{count-start, count-end, count-on, count-full}
 use Rattle.candidates.specs.Layout.{rows·end, index·definitions, index·impls, index·traits, index·imports, candidates·length}
@@ -94,17 +95,6 @@ pub record Indexed (s : Words) (h base : ℕ) (ws : Words) : Type 0 where
 pub record Indexing (s : Words) (h base : ℕ) (ws us : Words) : Type 0 where
   pub indexed : Indexed s h base us
   pub others : (p : ℕ) → Outside base (1 + length s) p → at us p ≡ at ws p
-
-chain-few : (k : ℕ) (s : Words) (i : ℕ) → length (chain-of k s i) ≤ k
-unfolding chain-of
-chain-few zero s i = le-refl 0
-chain-few (suc k) s zero = omega arith
-chain-few (suc k) s (suc i) = omega (arith, chain-few k s (at s (suc i)))
-
--- A chain has no more records than the slice has words.
-pub chain-short : (s : Words) (i : ℕ) → length (chain s i) ≤ length s
-unfolding chain
-chain-short s i = chain-few (length s) s i
 
 pub count-fits : (s : Words) (head base r : ℕ) (ws us : Words) → length s ≤ 4096 → Places s head base ws us r → r ≤ 4096
 count-fits s head base r ws us h p = omega (arith, p .count, chain-short s head)

@@ -9,7 +9,7 @@ use lib.ListN.{length, take}
 use lib.Seq.{length-take-le}
 use Rattle.rules.specs.Lists.{Words}
 use Rattle.rules.specs.Limits.{limit·nodes}
-use Rattle.rules.specs.Sheet.{at, chain, chain-of}
+use Rattle.rules.specs.Sheet.{at, chain}
 use Rattle.rules.specs.Types.{Ty, Types}
 use Rattle.rules.specs.Solutions.{AllIn}
 use Rattle.rules.specs.Transfer.{import-types, table}

@@ -1,0 +1,3 @@
+pub mod Sits
+pub mod Spent
+pub mod Demand
