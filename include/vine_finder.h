@@ -35,6 +35,15 @@ uint64_t vine_find_flex(const uint32_t *sheet, size_t sheet_len, const uint32_t 
                         uint32_t source, uint32_t generics, uint32_t *answer, size_t answer_len, uint32_t *workspace,
                         size_t workspace_len, uint32_t count);
 
+/* The same calls in a sitting, in the archive that `rt staticlib sitting` writes (target/staticlib/libsitting.a): the count
+ * is read from *spent and left there, and the result is the number, 0 if the call is answered. */
+uint32_t vine_sitting_find_impl(const uint32_t *sheet, size_t sheet_len, const uint32_t *question, size_t question_len,
+                                uint32_t source, uint32_t generics, uint32_t basic, uint32_t *answer, size_t answer_len,
+                                uint32_t *workspace, size_t workspace_len, uint32_t *spent);
+uint32_t vine_sitting_find_flex(const uint32_t *sheet, size_t sheet_len, const uint32_t *question, size_t question_len,
+                                uint32_t source, uint32_t generics, uint32_t *answer, size_t answer_len,
+                                uint32_t *workspace, size_t workspace_len, uint32_t *spent);
+
 /* The number of a result, 0 if it is answered, and its count. */
 static inline uint32_t vine_number(uint64_t result) { return (uint32_t)result; }
 static inline uint32_t vine_count(uint64_t result) { return (uint32_t)(result >> 32); }
