@@ -1,25 +1,27 @@
 -- `unify` never uses up its fuel: it comes to the same with any more of it, whatever the verdict, inverted and Error too.
 -- In every solution of the table that a call is made in, its types are smaller than those of the call that makes it; solutions of later tables solve the earlier ones.
-use Prim.Native.Nat.{ℕ, zero, suc, _+_, _≤_, _<_}
+use Prim.Native.Nat.{ℕ, zero, suc, _+_, _-_, _≤_, _<_}
 use mathlib.Core.Path.{_≡_, refl, sym, _∙_, ap, subst}
 use mathlib.Core.Bool.{Bool, true, false, not, _&&_, _||_}
 use mathlib.Core.List.{List, [], _∷_, map}
+use mathlib.Core.Logic.{⊎-elim}
+use native.Mathlib.Nat.{le-of-suc-le-suc, not-suc-le-zero}
 use native.Mathlib.Omega.{arith}
 use lib.Dec.{eqb}
-use lib.ListN.{length}
+use lib.ListN.{length, getD}
 use Rattle.rules.specs.Lists.{Words}
 use Rattle.rules.specs.Layout.{kind·closure, kind·error}
 use Rattle.rules.specs.Sheet.{kind-flag, row·may-meet}
 use Rattle.rules.specs.Types.{Ty, TypeState, unknown, known, Types, xor, invert-if, find, state-at, failure, and, Unified, unify-each, last-of, unify-children, unify-known, join-on-success, unify-states, unify-roots, unify-in, unify}
-use Rattle.rules.specs.Solutions.{term-size, Sol, terms, rep, Fits, Solves, AllIn, ChildrenIn, WellFormed, Readable, Fuel, fuel-none, fuel-step, fuel-less, fuel-over}
+use Rattle.rules.specs.Solutions.{term-size, Sol, terms, rep, Fits, Solves, AllIn, ChildrenIn, WellFormed, Readable, Fuel, fuel-none, fuel-step, fuel-less, fuel-over, fuel-full}
 use Rattle.rules.specs.MostGeneral.{flip-in}
-use Rattle.rules.specs.Pigeonholes.{steady}
+use Rattle.rules.specs.Pigeonholes.{steady, lt-or}
 use Rattle.rules.specs.RootRank.{rank}
 use Rattle.rules.specs.Readings.{Acyclic, ranked-readable}
 use Rattle.rules.specs.UnifyKeeps.{Narrows, NarrowsTables, last-in, unify-in-narrows}
 
 -- Fuel k is enough for types in a table: in each of its solutions.
-abbrev Enough : ℕ → Types → List Ty → Type 0
+abbrev pub Enough : ℕ → Types → List Ty → Type 0
 Enough k ts xs = (θ : Sol) → Solves ts θ → Fuel k (length ts) θ (term-size (terms θ xs))
 
 -- Two ways to meet types that agree wherever fuel k is enough.
@@ -41,8 +43,31 @@ last-size θ [] = omega arith
 last-size θ (x ∷ []) = omega arith
 last-size θ (x ∷ (y ∷ ys)) = omega (arith, last-size θ (y ∷ ys))
 
+-- Of each of them.
+pub child-enough : (k : ℕ) (ts : Types) (xs : List Ty) (j : ℕ) → j < length xs → Enough k ts xs → Enough k ts (getD xs j (false, 0) ∷ [])
+child-enough k ts [] j h e = absurd (not-suc-le-zero h)
+child-enough k ts (x ∷ xs) zero h e = first-enough k ts x xs e
+child-enough k ts (x ∷ xs) (suc j) h e = child-enough k ts xs j (le-of-suc-le-suc h) (rest-enough k ts x xs e)
+
+-- Of the root of a type; of the children of a known root, with one less; with more; and at the start.
+pub root-enough : (k : ℕ) (ts : Types) (a : Ty) → a .1 < length ts → Enough k ts (a ∷ []) → Enough k ts (find ts a ∷ [])
+unfolding find invert-if rep terms term-size
+root-enough k ts a ha e θ sv = fuel-less k (length ts) θ _ _ (omega (arith, ap term-size (sv (a .1) ha .0))) (e θ sv)
+
+pub below-enough : (k : ℕ) (ts : Types) (x : Ty) {i : Bool} {kd d : ℕ} {xs : List Ty} → x .1 < length ts → rep ts (x .1) ≡ x .1 → state-at ts (x .1) ≡ known i kd d xs → Enough (suc k) ts (x ∷ []) → Enough k ts xs
+unfolding terms term-size
+below-enough k ts x {xs = xs} h r q e θ sv =
+    let whole = ap term-size (subst (Fits θ (x .1)) q (subst (λ n. Fits θ n (state-at ts n)) r (sv (x .1) h .1))) in
+    fuel-step k (length ts) θ _ (term-size (terms θ xs)) (x .1) h refl (omega (arith, whole)) (fuel-less (suc k) (length ts) θ _ (term-size (θ (x .1))) (omega arith) (e θ sv))
+
+more-enough : (k : ℕ) (ts : Types) (xs : List Ty) (m : ℕ) → Enough k ts xs → Enough (m + k) ts xs
+more-enough k ts xs m e θ sv = let f = e θ sv in record { ms = f .ms; len = f .len; above = f .above; left = omega (arith, f .left) }
+
+pub full-enough : (ts : Types) (xs : List Ty) → Enough (suc (length ts)) ts xs
+full-enough ts xs θ sv = fuel-full (length ts) θ _
+
 -- In a later table too.
-later-enough : (k : ℕ) (ts us : Types) (xs : List Ty) → Narrows ts us → Enough k ts xs → Enough k us xs
+pub later-enough : (k : ℕ) (ts us : Types) (xs : List Ty) → Narrows ts us → Enough k ts xs → Enough k us xs
 later-enough k ts us xs n e θ sv = subst (λ N. Fuel k N θ (term-size (terms θ xs))) (sym (n .keeps .len)) (e θ (n .out θ sv))
 
 module _ (k : ℕ) (f g : Types → Ty → Ty → Unified) (safe : NarrowsTables f) (same : Alike k f g) where
@@ -81,15 +106,10 @@ module _ (k : ℕ) (f g : Types → Ty → Ty → Unified) (safe : NarrowsTables
     unfolding unify-states terms term-size
     states-alike unknown v eu ev = refl
     states-alike (known i kd d xs) unknown eu ev = refl
-    states-alike (known i kd d xs) (known j kd′ d′ ys) eu ev = ap (λ (m : Unified). join-on-success m x y) (known-alike s ts (xor (xor i (x .0)) (xor j (y .0))) kd d xs kd′ d′ ys formed readable (kids (x .1) hx rx eu) (kids (y .1) hy ry ev) smaller)
+    states-alike (known i kd d xs) (known j kd′ d′ ys) eu ev = ap (λ (m : Unified). join-on-success m x y) (known-alike s ts (xor (xor i (x .0)) (xor j (y .0))) kd d xs kd′ d′ ys formed readable (kids (x .1) hx rx eu) (kids (y .1) hy ry ev) (below-enough k ts x hx rx eu e))
       where
         kids : (r : ℕ) → r < length ts → rep ts r ≡ r → {i′ : Bool} {k′ c : ℕ} {cs : List Ty} → state-at ts r ≡ known i′ k′ c cs → AllIn (length ts) cs
         kids r h rr q = subst (ChildrenIn (length ts)) (ap (state-at ts) rr ∙ q) (formed r h .2)
-
-        smaller : Enough k ts xs
-        smaller θ sv =
-            let whole = ap term-size (subst (Fits θ (x .1)) eu (subst (λ r. Fits θ r (state-at ts r)) rx (sv (x .1) hx .1))) in
-            fuel-step k (length ts) θ _ (term-size (terms θ xs)) (x .1) hx refl (omega (arith, whole)) (fuel-less (suc k) (length ts) θ _ (term-size (θ (x .1))) (omega arith) (e θ sv))
 
     roots-alike : unify-roots f s ts x y ≡ unify-roots g s ts x y
     unfolding unify-roots
@@ -106,9 +126,23 @@ unify-in-alike (suc k) s ts a b formed r ha hb e =
     let ga = formed (a .1) ha in
     let gb = formed (b .1) hb in
     roots-alike k (λ us t u. unify-in k s us t u) (λ us t u. unify-in (suc k) s us t u) (unify-in-narrows k s) (unify-in-alike k s) s ts (find ts a) (find ts b) formed r (ga .0) (gb .0) (ga .1) (gb .1)
-    (λ θ sv. fuel-less (suc k) (length ts) θ _ _ (omega (arith, ap term-size (sv (a .1) ha .0))) (e θ sv))
+    (root-enough (suc k) ts a ha e)
 
 -- `unify` of types of a well-formed, acyclic table: more fuel than the table is long changes nothing.
 pub unify-enough : (s : Words) (ts : Types) → WellFormed ts → Acyclic ts → (a b : Ty) → a .1 < length ts → b .1 < length ts → (m : ℕ) → unify-in (m + suc (length ts)) s ts a b ≡ unify s ts a b
 unfolding unify
 unify-enough s ts formed e a b ha hb = steady (λ k. unify-in k s ts a b) (suc (length ts)) (λ m. unify-in-alike (m + suc (length ts)) s ts a b formed (ranked-readable ts formed (rank ts) e) ha hb (λ θ sv. fuel-over _ (length ts) θ _ (omega arith)))
+
+-- Two roots come to the same with any fuel that is enough.
+module _ (s : Words) (ts : Types) (x y : Ty) (formed : WellFormed ts) (e : Acyclic ts) (hx : x .1 < length ts) (hy : y .1 < length ts) (rx : rep ts (x .1) ≡ x .1) (ry : rep ts (y .1) ≡ y .1) where
+  roots-more : (k m : ℕ) → Enough (suc k) ts (x ∷ []) → unify-roots (unify-in (m + k) s) s ts x y ≡ unify-roots (unify-in k s) s ts x y
+  roots-more k m f = steady (λ j. unify-roots (unify-in j s) s ts x y) k (λ i. roots-alike (i + k) (λ us t u. unify-in (i + k) s us t u) (λ us t u. unify-in (suc (i + k)) s us t u) (unify-in-narrows (i + k) s) (unify-in-alike (i + k) s) s ts x y formed (ranked-readable ts formed (rank ts) e) hx hy rx ry (more i)) m
+    where
+      more : (i : ℕ) → Enough (suc (i + k)) ts (x ∷ [])
+      more i = subst (λ n. Enough n ts (x ∷ [])) (let q : i + suc k ≡ suc (i + k) = omega arith in q) (more-enough (suc k) ts (x ∷ []) i f)
+
+  roots-up : (k k′ : ℕ) → k ≤ k′ → Enough (suc k) ts (x ∷ []) → unify-roots (unify-in k s) s ts x y ≡ unify-roots (unify-in k′ s) s ts x y
+  roots-up k k′ l f = sym (roots-more k (k′ - k) f) ∙ ap (λ n. unify-roots (unify-in n s) s ts x y) (let q : k′ - k + k ≡ k′ = omega arith in q)
+
+  pub roots-any : (k k′ : ℕ) → Enough (suc k) ts (x ∷ []) → Enough (suc k′) ts (x ∷ []) → unify-roots (unify-in k s) s ts x y ≡ unify-roots (unify-in k′ s) s ts x y
+  roots-any k k′ f f′ = ⊎-elim (λ h. roots-up k k′ (omega arith) f) (λ h. sym (roots-up k′ k h f′)) (lt-or k k′)
