@@ -2,7 +2,7 @@
 use Prim.Native.Nat.{ℕ, _/_, _<_}
 use mathlib.Core.Path.{_≡_, refl, sym, _∙_, ap, ap₂}
 use mathlib.Core.Bool.{Bool, true, false, not, _&&_, _||_}
-use mathlib.Core.Logic.{_≢_}
+use mathlib.Core.Logic.{_≢_, inl, inr}
 use lib.Dec.{eqb}
 use lib.ListN.{length}
 use borrow.Author.Tests.{eq-eqb, ne-eqb}
@@ -11,9 +11,11 @@ use Rattle.rules.specs.Sheet.{kind-flag, row·may-meet}
 use Rattle.rules.specs.Types.{Types, xor, occurs, and, from-bool, success, join, Unified, join-on-success, bind-unknown}
 use Rattle.rules.specs.Transfer.{type-of-word}
 use Rattle.table.specs.Packing.{types-of, kind-at, inverted-at, id-at, Packed, Becomes, Roots, Good}
+use Rattle.memo.specs.Memo.{Forgets, Aside}
 use Rattle.unify.specs.declared.UnifyResult.{UnifyResult}
 use Rattle.unify.specs.declared.UnifyResult.the-variants.{Success, Failure, Indeterminate}
 use Rattle.unify.specs.Results.{result-of, Meets, met-inverted}
+use Rattle.unify.specs.Trying.{Binds}
 
 module _ (a b : UnifyResult) where
   pub and-success : a ≡ Success → result-of b ≡ and (result-of a) (result-of b)
@@ -47,23 +49,33 @@ pub from-false : (b : Bool) → b ≡ false → result-of Failure ≡ from-bool 
 unfolding result-of from-bool
 from-false b e = sym (ap from-bool e)
 
+-- A step that joined, and one that did not.
+joins-now : {ts : Types} (us ms ns : Words) {v : UnifyResult} {m : Unified} → Forgets ns → Meets us v m → Binds ts ms us ns v m
+joins-now us ms ns f m = record { meets = m; moves = record { either = inr f } }
+
+stays-now : (ws ms ns : Words) {v : UnifyResult} {m : Unified} → Aside ms ns → Meets ws v m → Binds (types-of ws) ms ws ns v m
+stays-now ws ms ns a m = record { meets = m; moves = record { either = inl (refl, a) } }
+
+aside-same : (ms : Words) → Aside ms ms
+aside-same ms = record { rest = λ i h. refl }
+
 -- Two roots, whose children were met with verdict v.
 module _ (ws : Words) (v : UnifyResult) (x y : ℕ) where
   pub success-roots : v ≡ Success → (result-of v ≡ success → Roots (types-of ws) (type-of-word x) (type-of-word y)) → Roots (types-of ws) (type-of-word x) (type-of-word y)
   unfolding result-of
   success-roots e f = f (ap result-of e)
 
-  pub success-joins : (us : Words) → v ≡ Success → Becomes us (join (types-of ws) (type-of-word x) (type-of-word y)) → Meets us Success (join-on-success (result-of v, types-of ws) (type-of-word x) (type-of-word y))
+  pub success-joins : (us ms ns : Words) → v ≡ Success → Becomes us (join (types-of ws) (type-of-word x) (type-of-word y)) → Forgets ns → Binds (types-of ws) ms us ns Success (join-on-success (result-of v, types-of ws) (type-of-word x) (type-of-word y))
   unfolding result-of join-on-success
-  success-joins us e w = record { packed = w .packed; is = ap {B = Unified} (λ (ts : Types). (success, ts)) (w .is) ∙ sym (ap (λ (u : UnifyResult). join-on-success (result-of u, types-of ws) (type-of-word x) (type-of-word y)) e) }
+  success-joins us ms ns e w f = joins-now us ms ns f (record { packed = w .packed; is = ap {B = Unified} (λ (ts : Types). (success, ts)) (w .is) ∙ sym (ap (λ (u : UnifyResult). join-on-success (result-of u, types-of ws) (type-of-word x) (type-of-word y)) e) })
 
-  pub failure-stays : v ≡ Failure → Packed ws → Meets ws Failure (join-on-success (result-of v, types-of ws) (type-of-word x) (type-of-word y))
+  pub failure-stays : (ms : Words) → v ≡ Failure → Packed ws → Binds (types-of ws) ms ws ms Failure (join-on-success (result-of v, types-of ws) (type-of-word x) (type-of-word y))
   unfolding result-of join-on-success
-  failure-stays e g = record { packed = g; is = sym (ap (λ (u : UnifyResult). join-on-success (result-of u, types-of ws) (type-of-word x) (type-of-word y)) e) }
+  failure-stays ms e g = stays-now ws ms ms (aside-same ms) (record { packed = g; is = sym (ap (λ (u : UnifyResult). join-on-success (result-of u, types-of ws) (type-of-word x) (type-of-word y)) e) })
 
-  pub indeterminate-stays : v ≡ Indeterminate → Packed ws → Meets ws Indeterminate (join-on-success (result-of v, types-of ws) (type-of-word x) (type-of-word y))
+  pub indeterminate-stays : (ms : Words) → v ≡ Indeterminate → Packed ws → Binds (types-of ws) ms ws ms Indeterminate (join-on-success (result-of v, types-of ws) (type-of-word x) (type-of-word y))
   unfolding result-of join-on-success
-  indeterminate-stays e g = record { packed = g; is = sym (ap (λ (u : UnifyResult). join-on-success (result-of u, types-of ws) (type-of-word x) (type-of-word y)) e) }
+  indeterminate-stays ms e g = stays-now ws ms ms (aside-same ms) (record { packed = g; is = sym (ap (λ (u : UnifyResult). join-on-success (result-of u, types-of ws) (type-of-word x) (type-of-word y)) e) })
 
 -- The nodes of two roots are there.
 pub left-there : (ts : Types) (x y : ℕ) → Roots ts (type-of-word x) (type-of-word y) → x / 2 < length ts
@@ -83,13 +95,13 @@ occurs-second ts x y a b e q f = f ∙ sym (ap (λ (c : Bool). c || occurs ts (y
 
 -- An unknown and another root: a says whether either occurs in the other.
 module _ (ws : Words) (x y : ℕ) (a : Bool) (ea : a ≡ (occurs (types-of ws) (x / 2) (type-of-word y) || occurs (types-of ws) (y / 2) (type-of-word x))) where
-  pub bind-fails : a ≡ true → Good ws → Meets ws Failure (bind-unknown (types-of ws) (type-of-word x) (type-of-word y))
+  pub bind-fails : (ms ns : Words) → a ≡ true → Good ws → Aside ms ns → Binds (types-of ws) ms ws ns Failure (bind-unknown (types-of ws) (type-of-word x) (type-of-word y))
   unfolding result-of bind-unknown type-of-word
-  bind-fails e g = record { packed = g .packed; is = sym (rw (sym ea ∙ e, bind-unknown)) }
+  bind-fails ms ns e g z = stays-now ws ms ns z (record { packed = g .packed; is = sym (rw (sym ea ∙ e, bind-unknown)) })
 
-  pub bind-joins : (us : Words) → a ≡ false → Becomes us (join (types-of ws) (type-of-word x) (type-of-word y)) → Meets us Success (bind-unknown (types-of ws) (type-of-word x) (type-of-word y))
+  pub bind-joins : (us ms ns : Words) → a ≡ false → Becomes us (join (types-of ws) (type-of-word x) (type-of-word y)) → Forgets ns → Binds (types-of ws) ms us ns Success (bind-unknown (types-of ws) (type-of-word x) (type-of-word y))
   unfolding result-of bind-unknown type-of-word
-  bind-joins us e w = record { packed = w .packed; is = ap {B = Unified} (λ (ts : Types). (success, ts)) (w .is) ∙ sym (rw (sym ea ∙ e, bind-unknown)) }
+  bind-joins us ms ns e w f = joins-now us ms ns f (record { packed = w .packed; is = ap {B = Unified} (λ (ts : Types). (success, ts)) (w .is) ∙ sym (rw (sym ea ∙ e, bind-unknown)) })
 
 -- Whether two roots meet inverted.
 pub met : (ts : Types) (x y : ℕ) (i ix j jy a b r : Bool) → i ≡ inverted-at ts (x / 2) → ix ≡ (type-of-word x) .0 → a ≡ xor i ix → j ≡ inverted-at ts (y / 2) → jy ≡ (type-of-word y) .0 → b ≡ xor j jy → r ≡ xor a b → r ≡ met-inverted ts (type-of-word x) (type-of-word y)

@@ -1,9 +1,9 @@
 -- Two known types: the tests on them, and that two roots whose children were met with success are roots still.
-use Prim.Native.Nat.{ℕ, _/_, _<_}
+use Prim.Native.Nat.{ℕ, suc, _/_, _<_}
 use mathlib.Core.Path.{_≡_, refl, sym, _∙_, ap, subst}
 use mathlib.Core.Bool.{Bool, true, false, not, _&&_, _||_}
-use mathlib.Core.List.{List, map}
-use mathlib.Core.Logic.{_≢_}
+use mathlib.Core.List.{List, [], _∷_, map}
+use mathlib.Core.Logic.{_≢_, inr}
 use native.Mathlib.Omega.{arith}
 use lib.Dec.{eqb}
 use lib.ListN.{length}
@@ -19,11 +19,13 @@ use Rattle.rules.specs.Solutions.{Sol, con, terms, term-size, rep, Fits, Solves
 use Rattle.rules.specs.RootRank.{rank}
 use Rattle.rules.specs.Readings.{ranked-readable}
 use Rattle.rules.specs.Joining.{same-terms}
+use Rattle.rules.specs.UnifyEnds.{below-enough}
 use Rattle.rules.specs.MostGeneral.{Won, AfterAll, known-right, unify-in-right}
 use Rattle.table.specs.Packing.{types-of, kind-in, inverted-in, id-in, kind-at, inverted-at, id-at, Roots, Good}
 use Rattle.unify.specs.declared.UnifyResult.{UnifyResult}
 use Rattle.unify.specs.declared.UnifyResult.the-variants.{Failure, Indeterminate}
-use Rattle.unify.specs.Results.{result-of, Unifies, KnownRoots, met-inverted, unify-fields}
+use Rattle.unify.specs.Results.{result-of, KnownRoots, met-inverted, unify-fields}
+use Rattle.unify.specs.Trying.{Ready, Fuelled, Went, went-as, went-still}
 
 known-parts : (st : TypeState) → kind-in st ≢ 0 → st ≡ known (inverted-in st) (kind-in st) (id-in st) (children st)
 unfolding kind-in inverted-in id-in children
@@ -39,8 +41,13 @@ known-fields ts n z = known-parts (state-at ts n) z
 pub children-there : (ws : Words) (n : ℕ) → Good ws → n < length (types-of ws) → rep (types-of ws) n ≡ n → kind-at (types-of ws) n ≢ 0 → AllIn (length (types-of ws)) (children-at (types-of ws) n)
 children-there ws n g h r z = subst (ChildrenIn (length (types-of ws))) (ap (state-at (types-of ws)) r ∙ known-fields (types-of ws) n z) (g .formed n h .2)
 
+-- Fuel for the children of a known root.
+pub below-fuelled : (ts : Types) (left x y : ℕ) → KnownRoots ts (x / 2) (y / 2) → Fuelled (suc left) ts (type-of-word x ∷ []) → Fuelled left ts (children-at ts (x / 2))
+unfolding type-of-word
+below-fuelled ts left x y k f = record { enough = below-enough left ts (type-of-word x) (k .left-in) (k .left-root) (known-fields ts (x / 2) (k .left-known)) (f .enough) }
+
 -- Both are roots still: what the children touched is smaller, in a solution of what they left.
-module _ (s ws vs : Words) (x y left : ℕ) (v : UnifyResult) (g : Good ws) (r : Roots (types-of ws) (type-of-word x) (type-of-word y)) (k : KnownRoots (types-of ws) (x / 2) (y / 2)) (u : Unifies vs v (unify-fields (unify-in left s) s (types-of ws) (type-of-word x) (type-of-word y))) (won : result-of v ≡ success) where
+module _ (s ws vs : Words) (x y left : ℕ) (v : UnifyResult) (g : Good ws) (r : Roots (types-of ws) (type-of-word x) (type-of-word y)) (k : KnownRoots (types-of ws) (x / 2) (y / 2)) (ms ns : Words) (w : Bool) (u : Went w s (types-of ws) ms vs ns v (unify-fields (unify-in left s) s (types-of ws) (type-of-word x) (type-of-word y))) (won : result-of v ≡ success) where
   abbrev ts : Types
   ts = types-of ws
 
@@ -58,7 +65,7 @@ module _ (s ws vs : Words) (x y left : ℕ) (v : UnifyResult) (g : Good ws) (r :
 
   is : _≡_ {A = Unified} (result-of v, types-of vs) m
   unfolding unify-fields type-of-word
-  is = u .is
+  is = u .exact (inr won) .is
 
   win : Won (m .0)
   win = subst Won (sym won ∙ ap (λ (z : Unified). z .0) is) tt
@@ -108,15 +115,15 @@ module _ (s ws vs : Words) (x y left : ℕ) (v : UnifyResult) (g : Good ws) (r :
       }
 
 -- Error against a known type, on either side; k is a kind that was read.
-module _ (f : Types → Ty → Ty → Unified) (s ws : Words) (x y : ℕ) (g : Good ws) where
-  pub error-left : (k : ℕ) → k ≡ kind-at (types-of ws) (x / 2) → k ≡ 13 → Unifies ws Indeterminate (unify-fields f s (types-of ws) (type-of-word x) (type-of-word y))
+module _ (f : Types → Ty → Ty → Unified) (s ws : Words) (x y : ℕ) (g : Good ws) (w : Bool) (ms : Words) (rd : Ready s (types-of ws) ms) where
+  pub error-left : (k : ℕ) → k ≡ kind-at (types-of ws) (x / 2) → k ≡ 13 → Went w s (types-of ws) ms ws ms Indeterminate (unify-fields f s (types-of ws) (type-of-word x) (type-of-word y))
   unfolding unify-fields unify-known result-of type-of-word
-  error-left k e z = record { good = g; is = sym (rw (eq-eqb (kind-at (types-of ws) (x / 2)) 13 (sym e ∙ z), unify-known)) }
+  error-left k e z = went-still w s ws ms Indeterminate _ rd (record { good = g; is = sym (rw (eq-eqb (kind-at (types-of ws) (x / 2)) 13 (sym e ∙ z), unify-known)) })
 
   module _ (k k′ : ℕ) (ek : k ≡ kind-at (types-of ws) (x / 2)) (ek′ : k′ ≡ kind-at (types-of ws) (y / 2)) (n : k ≢ 13) where
-    pub error-right : k′ ≡ 13 → Unifies ws Indeterminate (unify-fields f s (types-of ws) (type-of-word x) (type-of-word y))
+    pub error-right : k′ ≡ 13 → Went w s (types-of ws) ms ws ms Indeterminate (unify-fields f s (types-of ws) (type-of-word x) (type-of-word y))
     unfolding unify-fields unify-known result-of type-of-word
-    error-right z = record { good = g; is = sym (rw (ne-eqb (kind-at (types-of ws) (x / 2)) 13 (λ q. n (ek ∙ q)), eq-eqb (kind-at (types-of ws) (y / 2)) 13 (sym ek′ ∙ z), unify-known)) }
+    error-right z = went-still w s ws ms Indeterminate _ rd (record { good = g; is = sym (rw (ne-eqb (kind-at (types-of ws) (x / 2)) 13 (λ q. n (ek ∙ q)), eq-eqb (kind-at (types-of ws) (y / 2)) 13 (sym ek′ ∙ z), unify-known)) })
 
     -- No Error: b says whether they may meet, i whether they meet inverted.
     module _ (n′ : k′ ≢ 13) (i b : Bool) (ei : i ≡ met-inverted (types-of ws) (type-of-word x) (type-of-word y))
@@ -127,9 +134,9 @@ module _ (f : Types → Ty → Ty → Unified) (s ws : Words) (x y : ℕ) (g : G
           ap (λ (j : Bool). unify-known f s (types-of ws) j (kind-at (types-of ws) (x / 2)) (id-at (types-of ws) (x / 2)) (children-at (types-of ws) (x / 2)) (kind-at (types-of ws) (y / 2)) (id-at (types-of ws) (y / 2)) (children-at (types-of ws) (y / 2))) (sym ei)
           ∙ rw (ne-eqb (kind-at (types-of ws) (x / 2)) 13 (λ q. n (ek ∙ q)), ne-eqb (kind-at (types-of ws) (y / 2)) 13 (λ q. n′ (ek′ ∙ q)), sym eb ∙ ec, unify-known)
 
-      pub known-differ : b ≡ false → Unifies ws Failure (unify-fields f s (types-of ws) (type-of-word x) (type-of-word y))
+      pub known-differ : b ≡ false → Went w s (types-of ws) ms ws ms Failure (unify-fields f s (types-of ws) (type-of-word x) (type-of-word y))
       unfolding result-of
-      known-differ z = record { good = g; is = sym (opened false z) }
+      known-differ z = went-still w s ws ms Failure _ rd (record { good = g; is = sym (opened false z) })
 
-      pub known-meet : (us : Words) (v : UnifyResult) → b ≡ true → Unifies us v (unify-children f (types-of ws) (kind-at (types-of ws) (x / 2)) (children-at (types-of ws) (x / 2)) (map (invert-if i) (children-at (types-of ws) (y / 2)))) → Unifies us v (unify-fields f s (types-of ws) (type-of-word x) (type-of-word y))
-      known-meet us v z w = record { good = w .good; is = w .is ∙ sym (opened true z) }
+      pub known-meet : (us ns : Words) (v : UnifyResult) → b ≡ true → Went w s (types-of ws) ms us ns v (unify-children f (types-of ws) (kind-at (types-of ws) (x / 2)) (children-at (types-of ws) (x / 2)) (map (invert-if i) (children-at (types-of ws) (y / 2)))) → Went w s (types-of ws) ms us ns v (unify-fields f s (types-of ws) (type-of-word x) (type-of-word y))
+      known-meet us ns v z u = went-as w s (types-of ws) ms us ns v _ _ (sym (opened true z)) u

@@ -1,7 +1,9 @@
 pub mod Kept
 pub mod Results
+pub mod Trying
 pub mod Binding
 pub mod Layers
+pub mod Noting
 pub mod Known
 pub mod Children
 pub mod Pairs

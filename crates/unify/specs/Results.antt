@@ -1,8 +1,8 @@
 -- What the functions of `unify` come to, in the words of the rules: a verdict, and the table that the words are.
 use Prim.Native.Nat.{ℕ, _<_}
-use mathlib.Core.Path.{_≡_}
-use mathlib.Core.Bool.{Bool}
-use mathlib.Core.Logic.{_≢_}
+use mathlib.Core.Path.{_≡_, refl, sym, _∙_, ap}
+use mathlib.Core.Bool.{Bool, true, false, not}
+use mathlib.Core.Logic.{_≢_, _⊎_, inl, inr}
 use lib.ListN.{length}
 use Rattle.rules.specs.Lists.{Words}
 use Rattle.rules.specs.Types.{Ty, Types, xor, success, failure, indeterminate, Unified, unify-known}
@@ -56,3 +56,31 @@ pub record KnownRoots (ts : Types) (x y : ℕ) : Type 0 where
 pub record Leaves (us : Words) (m : Unified) : Type 0 where
   pub good : Good us
   pub is : types-of us ≡ m .1
+
+-- Whether all pairs are tried (w is true), or none after the first that does not succeed. Verdict and table are the rule's if all are tried, or if it is success.
+abbrev pub Exact : Bool → UnifyResult → Type 0
+Exact w v = (w ≡ true) ⊎ (result-of v ≡ success)
+
+-- What a join comes to either way: other than success only where the rule's is.
+pub record Joined (w : Bool) (us : Words) (v : UnifyResult) (m : Unified) : Type 0 where
+  pub packed : Packed us
+  pub exact : Exact w v → Unifies us v m
+  pub fails : result-of v ≢ success → m .0 ≢ success
+
+-- Whether a join succeeds, with its table in out if it does.
+pub record Joins (m : Unified) (out : Words) (r : Bool) : Type 0 where
+  pub packed : Packed out
+  pub failed : r ≡ false → m .0 ≢ success
+  pub met : r ≡ true → m .0 ≡ success
+  pub types : r ≡ true → types-of out ≡ m .1
+
+-- The code that a verdict is kept with.
+unfoldable pub code-of : UnifyResult → ℕ
+code-of Success = 0
+code-of Failure = 1
+code-of Indeterminate = 2
+
+-- Whether no further pair is tried after verdict v.
+pub record Stops (w : Bool) (v : UnifyResult) (r : Bool) : Type 0 where
+  pub goes : r ≡ false → Exact w v
+  pub halts : r ≡ true → (w ≡ false) × (result-of v ≢ success)

@@ -19,6 +19,9 @@ returns c = search (needs, bind-fails)
 join-requires : tie.Need-join-requires
 join-requires c κs = search needs
 
+forget-requires : tie.Need-forget-requires
+forget-requires c κs = search needs
+
 same-length-3 : tie.Need-same-length-3
 same-length-3 c = search needs
 
@@ -37,6 +40,7 @@ bind-unknown-spec =
     same-length-2
     returns
     join-requires
+    forget-requires
     same-length-3
     same-length-4
     returns-2)

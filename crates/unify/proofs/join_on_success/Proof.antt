@@ -10,6 +10,9 @@ enum-told c = search needs
 join-requires : tie.Need-join-requires
 join-requires c κs = search (needs, success-roots)
 
+forget-requires : tie.Need-forget-requires
+forget-requires c κs = search needs
+
 enum-told-2 : tie.Need-enum-told-2
 enum-told-2 c = search needs
 
@@ -18,6 +21,9 @@ enum-told-3 c = search needs
 
 same-length : tie.Need-same-length
 same-length c = search needs
+
+same-length-2 : tie.Need-same-length-2
+same-length-2 c = search needs
 
 returns : tie.Need-returns
 returns c = search (needs, success-joins)
@@ -34,9 +40,11 @@ join-on-success-spec =
     (tie.spec
     enum-told
     join-requires
+    forget-requires
     enum-told-2
     enum-told-3
     same-length
+    same-length-2
     returns
     returns-2
     returns-3)

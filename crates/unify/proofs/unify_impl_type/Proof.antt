@@ -1,20 +1,11 @@
--- `unify_impl_type`: by the traits.
-use Rattle.unify.specs.Lists.{impl-left, impl-right, impl-differ, impl-same}
+-- `unify_impl_type`: all pairs are tried.
+use Rattle.unify.specs.Trying.{joined-whole}
 use borrow.Author.Needs.{needs}
 use Rattle.unify.proofs.unify_impl_type.Statement.{statement}
 use Rattle.unify.proofs.unify_impl_type.Tie as tie
 
-returns : tie.Need-returns
-returns c = search (needs, impl-left)
-
-returns-2 : tie.Need-returns-2
-returns-2 c = search (needs, impl-right)
-
-returns-3 : tie.Need-returns-3
-returns-3 c = search (needs, impl-differ)
-
-unify-types-requires : tie.Need-unify-types-requires
-unify-types-requires c κs = search needs
+unify-impl-types-requires : tie.Need-unify-impl-types-requires
+unify-impl-types-requires c κs = search needs
 
 same-length : tie.Need-same-length
 same-length c = search needs
@@ -22,10 +13,9 @@ same-length c = search needs
 same-length-2 : tie.Need-same-length-2
 same-length-2 c = search needs
 
-returns-4 : tie.Need-returns-4
-returns-4 c = search (needs, impl-same)
+returns : tie.Need-returns
+returns c = search (needs, joined-whole)
 
 pub unify-impl-type-spec : {M : Type 1} → statement M
 unify-impl-type-spec =
-    tie.close
-    (tie.spec returns returns-2 returns-3 unify-types-requires same-length same-length-2 returns-4)
+    tie.close (tie.spec unify-impl-types-requires same-length same-length-2 returns)

@@ -1,75 +1,87 @@
 -- The cycle of `unify`: each layer comes to the rule's layer of its name, and the fuel falls.
-use native.Mathlib.Omega.{arith}
-use mathlib.Core.Path.{_≡_}
 use borrow.Author.Needs.{needs}
+use native.Mathlib.Omega.{arith}
+use mathlib.Core.Path.{_≡_, _∙_}
 use lib.ListN.{length}
-use Rattle.unify.specs.Layers.{unify-none, found-roots, unify-on, roots-same, roots-opposed, roots-apart, two-apart, left-node, states-left, states-right, states-both, known-roots}
-use Rattle.unify.specs.Known.{still-roots, error-left, error-right, known-differ, known-meet}
-use Rattle.unify.specs.Children.{children-each, children-last, children-fail, counts-same, last-none-left, last-none-right, last-left, last-right, last-met}
-use Rattle.unify.specs.Pairs.{Pairs, pairs-none, pair-left, pair-right, pairs-more, pairs-end}
+use Rattle.unify.specs.Layers.{unify-none, found-roots, found-fuelled, unify-on, unify-through, roots-same, roots-opposed, roots-apart, two-apart, left-node, states-left, states-right, states-both, known-roots}
+use Rattle.unify.specs.Noting.{root-small, root-small-2, code-small, begun-ready, kept-failure, kept-indeterminate, kept-on}
+use Rattle.unify.specs.Known.{below-fuelled, still-roots, error-left, error-right, known-differ, known-meet}
+use Rattle.unify.specs.Children.{children-each, children-last, children-fail, counts-same, last-none-left, last-none-right, last-left, last-right, last-fuelled, last-met}
+use Rattle.unify.specs.Pairs.{Pairs, pairs-none, pair-left, pair-right, pair-fuelled, pairs-stop, pairs-more, pairs-end}
 use Prim.Native.Nat.{ℕ, _+_, _-_, _*_, _<_}
 use borrow.Fn.Kinds.{In}
 use borrow.Fn.PlainCycle.{Measures, is, falls, and}
 use Rattle.unify.proofs.unify_children.Reads as unify-children
 use Rattle.unify.proofs.unify_children.Kinds as unify-children-kinds
-use Rattle.unify.proofs.+unify_children+unify_each+unify_in+unify_known+unify_last+unify_roots+unify_states.Lts-unify_children as unify-children-lts
+use Rattle.unify.proofs.+unify_children+unify_each+unify_in+unify_known+unify_last+unify_noted+unify_roots+unify_states.Lts-unify_children as unify-children-lts
 use Rattle.unify.proofs.unify_each.Reads as unify-each
 use Rattle.unify.proofs.unify_each.Kinds as unify-each-kinds
-use Rattle.unify.proofs.+unify_children+unify_each+unify_in+unify_known+unify_last+unify_roots+unify_states.Lts-unify_each as unify-each-lts
+use Rattle.unify.proofs.+unify_children+unify_each+unify_in+unify_known+unify_last+unify_noted+unify_roots+unify_states.Lts-unify_each as unify-each-lts
 use Rattle.unify.proofs.unify_in.Reads as unify-in
 use Rattle.unify.proofs.unify_in.Kinds as unify-in-kinds
-use Rattle.unify.proofs.+unify_children+unify_each+unify_in+unify_known+unify_last+unify_roots+unify_states.Lts-unify_in as unify-in-lts
+use Rattle.unify.proofs.+unify_children+unify_each+unify_in+unify_known+unify_last+unify_noted+unify_roots+unify_states.Lts-unify_in as unify-in-lts
 use Rattle.unify.proofs.unify_known.Reads as unify-known
 use Rattle.unify.proofs.unify_known.Kinds as unify-known-kinds
-use Rattle.unify.proofs.+unify_children+unify_each+unify_in+unify_known+unify_last+unify_roots+unify_states.Lts-unify_known as unify-known-lts
+use Rattle.unify.proofs.+unify_children+unify_each+unify_in+unify_known+unify_last+unify_noted+unify_roots+unify_states.Lts-unify_known as unify-known-lts
 use Rattle.unify.proofs.unify_last.Reads as unify-last
 use Rattle.unify.proofs.unify_last.Kinds as unify-last-kinds
-use Rattle.unify.proofs.+unify_children+unify_each+unify_in+unify_known+unify_last+unify_roots+unify_states.Lts-unify_last as unify-last-lts
+use Rattle.unify.proofs.+unify_children+unify_each+unify_in+unify_known+unify_last+unify_noted+unify_roots+unify_states.Lts-unify_last as unify-last-lts
+use Rattle.unify.proofs.unify_noted.Reads as unify-noted
+use Rattle.unify.proofs.unify_noted.Kinds as unify-noted-kinds
+use Rattle.unify.proofs.+unify_children+unify_each+unify_in+unify_known+unify_last+unify_noted+unify_roots+unify_states.Lts-unify_noted as unify-noted-lts
 use Rattle.unify.proofs.unify_roots.Reads as unify-roots
 use Rattle.unify.proofs.unify_roots.Kinds as unify-roots-kinds
-use Rattle.unify.proofs.+unify_children+unify_each+unify_in+unify_known+unify_last+unify_roots+unify_states.Lts-unify_roots as unify-roots-lts
+use Rattle.unify.proofs.+unify_children+unify_each+unify_in+unify_known+unify_last+unify_noted+unify_roots+unify_states.Lts-unify_roots as unify-roots-lts
 use Rattle.unify.proofs.unify_states.Reads as unify-states
 use Rattle.unify.proofs.unify_states.Kinds as unify-states-kinds
-use Rattle.unify.proofs.+unify_children+unify_each+unify_in+unify_known+unify_last+unify_roots+unify_states.Lts-unify_states as unify-states-lts
+use Rattle.unify.proofs.+unify_children+unify_each+unify_in+unify_known+unify_last+unify_noted+unify_roots+unify_states.Lts-unify_states as unify-states-lts
+use Rattle.memo.proofs.begin.Reads as begin-reads
+use Rattle.memo.proofs.end.Reads as end-reads
+use Rattle.memo.proofs.recall.Reads as recall-reads
 use Rattle.table.proofs.child.Reads as child-reads
 use Rattle.table.proofs.child_count.Reads as child-count-reads
 use Rattle.table.proofs.find.Reads as find-reads
 use Rattle.unify.proofs.and.Reads as and-reads
 use Rattle.unify.proofs.bind_unknown.Reads as bind-unknown-reads
+use Rattle.unify.proofs.code_of.Reads as code-of-reads
 use Rattle.unify.proofs.from_bool.Reads as from-bool-reads
 use Rattle.unify.proofs.inverted_to.Reads as inverted-to-reads
 use Rattle.unify.proofs.join_on_success.Reads as join-on-success-reads
 use Rattle.unify.proofs.kind.Reads as kind-reads
 use Rattle.unify.proofs.may_meet.Reads as may-meet-reads
 use Rattle.unify.proofs.met_child.Reads as met-child-reads
-use Rattle.walks.proofs.self_inverse.Reads as self-inverse-reads
-use Rattle.unify.proofs.+unify_children+unify_each+unify_in+unify_known+unify_last+unify_roots+unify_states.{
+use Rattle.unify.proofs.own_inverse.Reads as own-inverse-reads
+use Rattle.unify.proofs.stops.Reads as stops-reads
+use Rattle.unify.proofs.+unify_children+unify_each+unify_in+unify_known+unify_last+unify_noted+unify_roots+unify_states.{
   statement,
 }
-use Rattle.unify.proofs.+unify_children+unify_each+unify_in+unify_known+unify_last+unify_roots+unify_states.Tie.{
+use Rattle.unify.proofs.+unify_children+unify_each+unify_in+unify_known+unify_last+unify_noted+unify_roots+unify_states.Tie.{
   close,
 }
 
 abbrev μ-unify-children : Measures 3 unify-children-kinds.ps ℕ
-μ-unify-children κs a = 8 * (a .1 .1 .1 .1 .1 .1 .0) + 4
+μ-unify-children κs a = 9 * (a .1 .1 .1 .1 .1 .1 .1 .0) + 4
 
 abbrev μ-unify-each : Measures 3 unify-each-kinds.ps ℕ
-μ-unify-each κs a = 8 * (a .1 .1 .1 .1 .1 .1 .0) + 3
+μ-unify-each κs a = 9 * (a .1 .1 .1 .1 .1 .1 .1 .0) + 3
 
 abbrev μ-unify-in : Measures 3 unify-in-kinds.ps ℕ
-μ-unify-in κs a = 8 * (a .1 .1 .1 .1 .1 .0)
+μ-unify-in κs a = 9 * (a .1 .1 .1 .1 .1 .1 .0)
 
 abbrev μ-unify-known : Measures 3 unify-known-kinds.ps ℕ
-μ-unify-known κs a = 8 * (a .1 .1 .1 .1 .1 .0) + 5
+μ-unify-known κs a = 9 * (a .1 .1 .1 .1 .1 .1 .0) + 5
 
 abbrev μ-unify-last : Measures 3 unify-last-kinds.ps ℕ
-μ-unify-last κs a = 8 * (a .1 .1 .1 .1 .1 .1 .0) + 3
+μ-unify-last κs a = 9 * (a .1 .1 .1 .1 .1 .1 .1 .0) + 3
+
+abbrev μ-unify-noted : Measures 3 unify-noted-kinds.ps ℕ
+μ-unify-noted κs a = 9 * (a .1 .1 .1 .1 .1 .0) + 8
 
 abbrev μ-unify-roots : Measures 3 unify-roots-kinds.ps ℕ
-μ-unify-roots κs a = 8 * (a .1 .1 .1 .1 .1 .0) + 7
+μ-unify-roots κs a = 9 * (a .1 .1 .1 .1 .1 .1 .0) + 7
 
 abbrev μ-unify-states : Measures 3 unify-states-kinds.ps ℕ
-μ-unify-states κs a = 8 * (a .1 .1 .1 .1 .1 .0) + 6
+μ-unify-states κs a = 9 * (a .1 .1 .1 .1 .1 .1 .0) + 6
 
 abbrev unify-children-at : ℕ → In 3 unify-children-kinds.ps
 unify-children-at t =
@@ -118,6 +130,14 @@ abbrev unify-last-below : ℕ → In 3 unify-last-kinds.ps
 unify-last-below t =
     and 3 unify-last-kinds.ps (falls 3 unify-last-kinds.ps _<_ μ-unify-last t) unify-last.Pre
 
+abbrev unify-noted-at : ℕ → In 3 unify-noted-kinds.ps
+unify-noted-at t =
+    and 3 unify-noted-kinds.ps (is 3 unify-noted-kinds.ps μ-unify-noted t) unify-noted.Pre
+
+abbrev unify-noted-below : ℕ → In 3 unify-noted-kinds.ps
+unify-noted-below t =
+    and 3 unify-noted-kinds.ps (falls 3 unify-noted-kinds.ps _<_ μ-unify-noted t) unify-noted.Pre
+
 abbrev unify-roots-at : ℕ → In 3 unify-roots-kinds.ps
 unify-roots-at t =
     and 3 unify-roots-kinds.ps (is 3 unify-roots-kinds.ps μ-unify-roots t) unify-roots.Pre
@@ -142,10 +162,10 @@ abbrev unify-children-calls : ℕ → unify-children-lts.Claims
 unify-children-calls t = (child-count-reads.Asked, child-count-reads.Learnt, unify-each-below t, unify-each.Post, kind-reads.Asked, kind-reads.Learnt, unify-last-below t, unify-last.Post)
 
 abbrev unify-each-calls : ℕ → unify-each-lts.Claims
-unify-each-calls t = (child-count-reads.Asked, child-count-reads.Learnt, child-reads.Asked, child-reads.Learnt, met-child-reads.Asked, met-child-reads.Learnt, unify-in-below t, unify-in.Post, and-reads.Asked, and-reads.Learnt)
+unify-each-calls t = (child-count-reads.Asked, child-count-reads.Learnt, child-reads.Asked, child-reads.Learnt, met-child-reads.Asked, met-child-reads.Learnt, unify-in-below t, unify-in.Post, and-reads.Asked, and-reads.Learnt, stops-reads.Asked, stops-reads.Learnt)
 
 abbrev unify-in-calls : ℕ → unify-in-lts.Claims
-unify-in-calls t = (find-reads.Asked, find-reads.Learnt, unify-roots-below t, unify-roots.Post)
+unify-in-calls t = (find-reads.Asked, find-reads.Learnt, unify-noted-below t, unify-noted.Post, unify-roots-below t, unify-roots.Post)
 
 abbrev unify-known-calls : ℕ → unify-known-lts.Claims
 unify-known-calls t = (kind-reads.Asked, kind-reads.Learnt, inverted-to-reads.Asked, inverted-to-reads.Learnt, may-meet-reads.Asked, may-meet-reads.Learnt, unify-children-below t, unify-children.Post)
@@ -153,8 +173,11 @@ unify-known-calls t = (kind-reads.Asked, kind-reads.Learnt, inverted-to-reads.As
 abbrev unify-last-calls : ℕ → unify-last-lts.Claims
 unify-last-calls t = (child-count-reads.Asked, child-count-reads.Learnt, child-reads.Asked, child-reads.Learnt, met-child-reads.Asked, met-child-reads.Learnt, unify-in-below t, unify-in.Post)
 
+abbrev unify-noted-calls : ℕ → unify-noted-lts.Claims
+unify-noted-calls t = (recall-reads.Asked, recall-reads.Learnt, begin-reads.Asked, begin-reads.Learnt, unify-roots-below t, unify-roots.Post, code-of-reads.Asked, code-of-reads.Learnt, end-reads.Asked, end-reads.Learnt)
+
 abbrev unify-roots-calls : ℕ → unify-roots-lts.Claims
-unify-roots-calls t = (unify-states-below t, unify-states.Post, self-inverse-reads.Asked, self-inverse-reads.Learnt, from-bool-reads.Asked, from-bool-reads.Learnt)
+unify-roots-calls t = (unify-states-below t, unify-states.Post, own-inverse-reads.Asked, own-inverse-reads.Learnt, from-bool-reads.Asked, from-bool-reads.Learnt)
 
 abbrev unify-states-calls : ℕ → unify-states-lts.Claims
 unify-states-calls t = (kind-reads.Asked, kind-reads.Learnt, bind-unknown-reads.Asked, bind-unknown-reads.Learnt, unify-known-below t, unify-known.Post, join-on-success-reads.Asked, join-on-success-reads.Learnt)
@@ -166,7 +189,7 @@ unify-children-child-count-requires-2 : (t : ℕ) → unify-children-lts.Need-ch
 unify-children-child-count-requires-2 t c κs = search needs
 
 unify-children-unify-each-requires : (t : ℕ) → unify-children-lts.Need-unify-each-requires (unify-children-calls t) (unify-children-at t) unify-children.Post
-unify-children-unify-each-requires t c κs = (omega arith, (search needs, (search needs, (search (needs, counts-same), search needs))))
+unify-children-unify-each-requires t c κs = (omega arith, (search needs, (search needs, (search (needs, counts-same), (search needs, search needs)))))
 
 unify-children-same-length : (t : ℕ) → unify-children-lts.Need-same-length (unify-children-calls t) (unify-children-at t) unify-children.Post
 unify-children-same-length t c = search needs
@@ -181,7 +204,7 @@ unify-children-kind-requires : (t : ℕ) → unify-children-lts.Need-kind-requir
 unify-children-kind-requires t c κs = search needs
 
 unify-children-unify-last-requires : (t : ℕ) → unify-children-lts.Need-unify-last-requires (unify-children-calls t) (unify-children-at t) unify-children.Post
-unify-children-unify-last-requires t c κs = (omega arith, (search needs, (search needs, search needs)))
+unify-children-unify-last-requires t c κs = (omega arith, (search needs, (search needs, (search needs, search needs))))
 
 unify-children-same-length-3 : (t : ℕ) → unify-children-lts.Need-same-length-3 (unify-children-calls t) (unify-children-at t) unify-children.Post
 unify-children-same-length-3 t c = search needs
@@ -196,15 +219,13 @@ unify-children-same-length-5 : (t : ℕ) → unify-children-lts.Need-same-length
 unify-children-same-length-5 t c = search needs
 
 unify-children-returns-3 : (t : ℕ) → unify-children-lts.Need-returns-3 (unify-children-calls t) (unify-children-at t) unify-children.Post
-unify-children-returns-3 t c =
-    let start = c .before .before .before .before .before .before .before .before .before .before .before in
-    children-fail _ _ _ _ _ _ _ (c .before .before .before .before .before .before .child-count .ensures) (c .before .before .before .before .child-count2 .ensures) (c .before .before .before .if1 .left) _ (c .before .kind .ensures) (c .if2 .left) (start .pre .1 .0)
+unify-children-returns-3 t c = search (needs, children-fail)
 
 abbrev unify-each-Inv-loop : unify-each-lts.InvT-loop
-unify-each-Inv-loop s ws₀ marks₀ x y inverted left m v₀ i₀ ws marks v i = (length ws ≡ length ws₀) × ((length marks ≡ length marks₀) × Pairs s ws₀ ws left x y inverted v i)
+unify-each-Inv-loop s ws₀ marks₀ whole x y inverted left m v₀ i₀ ws marks v i = (length ws ≡ length ws₀) × ((length marks ≡ length marks₀) × Pairs s ws₀ marks₀ ws marks left x y inverted v i)
 
 abbrev unify-each-μ-loop : unify-each-lts.MeasureT-loop
-unify-each-μ-loop s ws₀ marks₀ x y inverted left m v₀ i₀ ws marks v i = m - i
+unify-each-μ-loop s ws₀ marks₀ whole x y inverted left m v₀ i₀ ws marks v i = m - i
 
 unify-each-child-count-requires : (t : ℕ) → unify-each-lts.Need-child-count-requires (unify-each-calls t) (unify-each-at t) unify-each.Post unify-each-Inv-loop unify-each-μ-loop
 unify-each-child-count-requires t c κs = search needs
@@ -221,10 +242,24 @@ unify-each-met-child-requires t c κs = search needs
 unify-each-unify-in-requires : (t : ℕ) → unify-each-lts.Need-unify-in-requires (unify-each-calls t) (unify-each-at t) unify-each.Post unify-each-Inv-loop unify-each-μ-loop
 unify-each-unify-in-requires t c κs =
     let start = c .before .before .before .before .before .before .before .before .before .before .before .before .before in
-    (omega arith, (search needs, (pair-left _ _ _ _ _ _ _ _ _ _ _ _ (start .pre .1 .0) (start .pre .1 .1 .0) (c .before .before .before .before .before .before .before .loop .inv .1 .1) (c .before .before .before .before .before .before .before .before .child-count .ensures) (start .pre .1 .1 .1 .0) (c .before .before .before .before .before .before .loop-test .taken) (c .before .before .before .before .child .ensures) (c .before .before .met-child .ensures), (pair-right _ _ _ _ _ _ _ _ _ _ _ _ (start .pre .1 .0) (start .pre .1 .1 .0) (c .before .before .before .before .before .before .before .loop .inv .1 .1) (c .before .before .before .before .before .before .before .before .child-count .ensures) (start .pre .1 .1 .1 .0) (c .before .before .before .before .before .before .loop-test .taken) (c .before .before .before .before .child .ensures) (c .before .before .met-child .ensures), search needs))))
+    (omega arith, (search needs, (pair-left _ _ _ _ _ _ _ _ _ _ _ _ _ _ (start .pre .1 .0) (start .pre .1 .1 .0) (c .before .before .before .before .before .before .before .loop .inv .1 .1) (c .before .before .before .before .before .before .before .before .child-count .ensures) (start .pre .1 .1 .1 .0) (c .before .before .before .before .before .before .loop-test .taken) (c .before .before .before .before .child .ensures) (c .before .before .met-child .ensures), (pair-right _ _ _ _ _ _ _ _ _ _ _ _ _ _ (start .pre .1 .0) (start .pre .1 .1 .0) (c .before .before .before .before .before .before .before .loop .inv .1 .1) (c .before .before .before .before .before .before .before .before .child-count .ensures) (start .pre .1 .1 .1 .0) (c .before .before .before .before .before .before .loop-test .taken) (c .before .before .before .before .child .ensures) (c .before .before .met-child .ensures), (search needs, pair-fuelled _ _ _ _ _ _ _ _ _ _ _ _ _ _ (start .pre .1 .0) (start .pre .1 .1 .0) (c .before .before .before .before .before .before .before .loop .inv .1 .1) (c .before .before .before .before .before .before .before .before .child-count .ensures) (start .pre .1 .1 .1 .0) (c .before .before .before .before .before .before .loop-test .taken) (c .before .before .before .before .child .ensures) (c .before .before .met-child .ensures))))))
 
 unify-each-and-requires : (t : ℕ) → unify-each-lts.Need-and-requires (unify-each-calls t) (unify-each-at t) unify-each.Post unify-each-Inv-loop unify-each-μ-loop
 unify-each-and-requires t c κs = search needs
+
+unify-each-stops-requires : (t : ℕ) → unify-each-lts.Need-stops-requires (unify-each-calls t) (unify-each-at t) unify-each.Post unify-each-Inv-loop unify-each-μ-loop
+unify-each-stops-requires t c κs = search needs
+
+unify-each-same-length : (t : ℕ) → unify-each-lts.Need-same-length (unify-each-calls t) (unify-each-at t) unify-each.Post unify-each-Inv-loop unify-each-μ-loop
+unify-each-same-length t c = search needs
+
+unify-each-same-length-2 : (t : ℕ) → unify-each-lts.Need-same-length-2 (unify-each-calls t) (unify-each-at t) unify-each.Post unify-each-Inv-loop unify-each-μ-loop
+unify-each-same-length-2 t c = search needs
+
+unify-each-returns : (t : ℕ) → unify-each-lts.Need-returns (unify-each-calls t) (unify-each-at t) unify-each.Post unify-each-Inv-loop unify-each-μ-loop
+unify-each-returns t c =
+    let start = c .before .before .before .before .before .before .before .before .before .before .before .before .before .before .before .before .before .before .before .before .before in
+    pairs-stop _ _ _ _ _ _ _ _ _ _ _ _ _ _ (start .pre .1 .0) (start .pre .1 .1 .0) (c .before .before .before .before .before .before .before .before .before .before .before .before .before .before .before .loop .inv .1 .1) (c .before .before .before .before .before .before .before .before .before .before .before .before .before .before .before .before .child-count .ensures) (start .pre .1 .1 .1 .0) (c .before .before .before .before .before .before .before .before .before .before .before .before .before .before .loop-test .taken) (c .before .before .before .before .before .before .before .before .before .before .before .before .child .ensures) (c .before .before .before .before .before .before .before .before .before .before .met-child .ensures) _ _ _ _ _ _ (c .before .before .before .before .before .before .before .unify-in .ensures) (c .before .before .and .ensures) (c .before .stops .ensures) (c .if1 .taken)
 
 unify-each-add-i : (t : ℕ) → unify-each-lts.Need-add-i (unify-each-calls t) (unify-each-at t) unify-each.Post unify-each-Inv-loop unify-each-μ-loop
 unify-each-add-i t c = omega arith
@@ -234,17 +269,17 @@ unify-each-loop-less t c = omega arith
 
 unify-each-loop-again : (t : ℕ) → unify-each-lts.Need-loop-again (unify-each-calls t) (unify-each-at t) unify-each.Post unify-each-Inv-loop unify-each-μ-loop
 unify-each-loop-again t c =
-    let start = c .before .before .before .before .before .before .before .before .before .before .before .before .before .before .before .before .before .before .before in
-    (search needs, (search needs, pairs-more _ _ _ _ _ _ _ _ _ _ _ _ (start .pre .1 .0) (start .pre .1 .1 .0) (c .before .before .before .before .before .before .before .before .before .before .before .before .before .loop .inv .1 .1) (c .before .before .before .before .before .before .before .before .before .before .before .before .before .before .child-count .ensures) (start .pre .1 .1 .1 .0) (c .before .before .before .before .before .before .before .before .before .before .before .before .loop-test .taken) (c .before .before .before .before .before .before .before .before .before .before .child .ensures) (c .before .before .before .before .before .before .before .before .met-child .ensures) _ _ _ (c .before .before .before .before .before .unify-in .ensures) (c .and .ensures)))
+    let start = c .before .before .before .before .before .before .before .before .before .before .before .before .before .before .before .before .before .before .before .before .before in
+    (c .before .before .before .before .before .before .before .unify-in .kept .1 .0 ∙ c .before .before .before .before .before .before .before .before .before .before .before .before .before .before .before .loop .inv .0, (c .before .before .before .before .before .before .before .unify-in .kept .1 .1 .0 ∙ c .before .before .before .before .before .before .before .before .before .before .before .before .before .before .before .loop .inv .1 .0, pairs-more _ _ _ _ _ _ _ _ _ _ _ _ _ _ (start .pre .1 .0) (start .pre .1 .1 .0) (c .before .before .before .before .before .before .before .before .before .before .before .before .before .before .before .loop .inv .1 .1) (c .before .before .before .before .before .before .before .before .before .before .before .before .before .before .before .before .child-count .ensures) (start .pre .1 .1 .1 .0) (c .before .before .before .before .before .before .before .before .before .before .before .before .before .before .loop-test .taken) (c .before .before .before .before .before .before .before .before .before .before .before .before .child .ensures) (c .before .before .before .before .before .before .before .before .before .before .met-child .ensures) _ _ _ _ _ _ (c .before .before .before .before .before .before .before .unify-in .ensures) (c .before .before .and .ensures) (c .before .stops .ensures) (c .if1 .left) (c .before .before .before .before .before .before .before .unify-in .kept .1 .1 .0)))
 
-unify-each-same-length : (t : ℕ) → unify-each-lts.Need-same-length (unify-each-calls t) (unify-each-at t) unify-each.Post unify-each-Inv-loop unify-each-μ-loop
-unify-each-same-length t c = search needs
+unify-each-same-length-3 : (t : ℕ) → unify-each-lts.Need-same-length-3 (unify-each-calls t) (unify-each-at t) unify-each.Post unify-each-Inv-loop unify-each-μ-loop
+unify-each-same-length-3 t c = search needs
 
-unify-each-same-length-2 : (t : ℕ) → unify-each-lts.Need-same-length-2 (unify-each-calls t) (unify-each-at t) unify-each.Post unify-each-Inv-loop unify-each-μ-loop
-unify-each-same-length-2 t c = search needs
+unify-each-same-length-4 : (t : ℕ) → unify-each-lts.Need-same-length-4 (unify-each-calls t) (unify-each-at t) unify-each.Post unify-each-Inv-loop unify-each-μ-loop
+unify-each-same-length-4 t c = search needs
 
-unify-each-returns : (t : ℕ) → unify-each-lts.Need-returns (unify-each-calls t) (unify-each-at t) unify-each.Post unify-each-Inv-loop unify-each-μ-loop
-unify-each-returns t c = search (needs, pairs-end)
+unify-each-returns-2 : (t : ℕ) → unify-each-lts.Need-returns-2 (unify-each-calls t) (unify-each-at t) unify-each.Post unify-each-Inv-loop unify-each-μ-loop
+unify-each-returns-2 t c = search (needs, pairs-end)
 
 unify-in-returns : (t : ℕ) → unify-in-lts.Need-returns (unify-in-calls t) (unify-in-at t) unify-in.Post
 unify-in-returns t c = search (needs, unify-none)
@@ -255,11 +290,13 @@ unify-in-find-requires t c κs = search needs
 unify-in-find-requires-2 : (t : ℕ) → unify-in-lts.Need-find-requires-2 (unify-in-calls t) (unify-in-at t) unify-in.Post
 unify-in-find-requires-2 t c κs = search needs
 
-unify-in-sub-unify-roots : (t : ℕ) → unify-in-lts.Need-sub-unify-roots (unify-in-calls t) (unify-in-at t) unify-in.Post
-unify-in-sub-unify-roots t c = omega arith
+unify-in-sub-unify-noted : (t : ℕ) → unify-in-lts.Need-sub-unify-noted (unify-in-calls t) (unify-in-at t) unify-in.Post
+unify-in-sub-unify-noted t c = omega arith
 
-unify-in-unify-roots-requires : (t : ℕ) → unify-in-lts.Need-unify-roots-requires (unify-in-calls t) (unify-in-at t) unify-in.Post
-unify-in-unify-roots-requires t c κs = (omega arith, (search needs, (search (needs, found-roots), search needs)))
+unify-in-unify-noted-requires : (t : ℕ) → unify-in-lts.Need-unify-noted-requires (unify-in-calls t) (unify-in-at t) unify-in.Post
+unify-in-unify-noted-requires t c κs =
+    let start = c .before .before .before .before .before .before .before .before .before .before .before in
+    (omega arith, (search needs, (search (needs, found-roots), (search needs, found-fuelled _ _ _ _ _ (start .pre .1 .0) (start .pre .1 .1 .0) (start .pre .1 .1 .1 .0) (c .before .before .before .before .before .find .ensures) (c .before .before .before .find2 .ensures) _ (c .before .before .before .before .before .before .before .if1 .left) (start .pre .1 .1 .1 .1 .1)))))
 
 unify-in-same-length : (t : ℕ) → unify-in-lts.Need-same-length (unify-in-calls t) (unify-in-at t) unify-in.Post
 unify-in-same-length t c = search needs
@@ -268,7 +305,24 @@ unify-in-same-length-2 : (t : ℕ) → unify-in-lts.Need-same-length-2 (unify-in
 unify-in-same-length-2 t c = search needs
 
 unify-in-returns-2 : (t : ℕ) → unify-in-lts.Need-returns-2 (unify-in-calls t) (unify-in-at t) unify-in.Post
-unify-in-returns-2 t c = search (needs, unify-on)
+unify-in-returns-2 t c = search (needs, unify-through)
+
+unify-in-sub-unify-roots : (t : ℕ) → unify-in-lts.Need-sub-unify-roots (unify-in-calls t) (unify-in-at t) unify-in.Post
+unify-in-sub-unify-roots t c = omega arith
+
+unify-in-unify-roots-requires : (t : ℕ) → unify-in-lts.Need-unify-roots-requires (unify-in-calls t) (unify-in-at t) unify-in.Post
+unify-in-unify-roots-requires t c κs =
+    let start = c .before .before .before .before .before .before .before .before .before .before .before in
+    (omega arith, (search needs, (search (needs, found-roots), (search needs, found-fuelled _ _ _ _ _ (start .pre .1 .0) (start .pre .1 .1 .0) (start .pre .1 .1 .1 .0) (c .before .before .before .before .before .find .ensures) (c .before .before .before .find2 .ensures) _ (c .before .before .before .before .before .before .before .if1 .left) (start .pre .1 .1 .1 .1 .1)))))
+
+unify-in-same-length-3 : (t : ℕ) → unify-in-lts.Need-same-length-3 (unify-in-calls t) (unify-in-at t) unify-in.Post
+unify-in-same-length-3 t c = search needs
+
+unify-in-same-length-4 : (t : ℕ) → unify-in-lts.Need-same-length-4 (unify-in-calls t) (unify-in-at t) unify-in.Post
+unify-in-same-length-4 t c = search needs
+
+unify-in-returns-3 : (t : ℕ) → unify-in-lts.Need-returns-3 (unify-in-calls t) (unify-in-at t) unify-in.Post
+unify-in-returns-3 t c = search (needs, unify-on)
 
 unify-known-kind-requires : (t : ℕ) → unify-known-lts.Need-kind-requires (unify-known-calls t) (unify-known-at t) unify-known.Post
 unify-known-kind-requires t c κs = search needs
@@ -286,9 +340,7 @@ unify-known-same-length-2 : (t : ℕ) → unify-known-lts.Need-same-length-2 (un
 unify-known-same-length-2 t c = search needs
 
 unify-known-returns-2 : (t : ℕ) → unify-known-lts.Need-returns-2 (unify-known-calls t) (unify-known-at t) unify-known.Post
-unify-known-returns-2 t c =
-    let start = c .before .before .before .before .before .before .before .before .before in
-    error-right _ _ _ _ _ (start .pre .1 .0) _ _ (c .before .before .before .before .kind .ensures) (c .before .kind2 .ensures) (c .before .before .before .if1 .left) (c .if2 .taken)
+unify-known-returns-2 t c = search (needs, error-right)
 
 unify-known-inverted-to-requires : (t : ℕ) → unify-known-lts.Need-inverted-to-requires (unify-known-calls t) (unify-known-at t) unify-known.Post
 unify-known-inverted-to-requires t c κs = search needs
@@ -297,7 +349,7 @@ unify-known-may-meet-requires : (t : ℕ) → unify-known-lts.Need-may-meet-requ
 unify-known-may-meet-requires t c κs = search needs
 
 unify-known-unify-children-requires : (t : ℕ) → unify-known-lts.Need-unify-children-requires (unify-known-calls t) (unify-known-at t) unify-known.Post
-unify-known-unify-children-requires t c κs = (omega arith, (search needs, (search needs, search needs)))
+unify-known-unify-children-requires t c κs = (omega arith, (search needs, (search needs, (search needs, search (needs, below-fuelled)))))
 
 unify-known-same-length-3 : (t : ℕ) → unify-known-lts.Need-same-length-3 (unify-known-calls t) (unify-known-at t) unify-known.Post
 unify-known-same-length-3 t c = search needs
@@ -312,9 +364,7 @@ unify-known-same-length-5 : (t : ℕ) → unify-known-lts.Need-same-length-5 (un
 unify-known-same-length-5 t c = search needs
 
 unify-known-returns-4 : (t : ℕ) → unify-known-lts.Need-returns-4 (unify-known-calls t) (unify-known-at t) unify-known.Post
-unify-known-returns-4 t c =
-    let start = c .before .before .before .before .before .before .before .before .before .before .before .before .before .before in
-    known-differ _ _ _ _ _ (start .pre .1 .0) _ _ (c .before .before .before .before .before .before .before .before .before .kind .ensures) (c .before .before .before .before .before .before .kind2 .ensures) (c .before .before .before .before .before .before .before .before .if1 .left) (c .before .before .before .before .before .if2 .left) _ _ (c .before .before .before .inverted-to .ensures) (c .before .may-meet .ensures) (c .if3 .left)
+unify-known-returns-4 t c = search (needs, known-differ)
 
 unify-last-child-count-requires : (t : ℕ) → unify-last-lts.Need-child-count-requires (unify-last-calls t) (unify-last-at t) unify-last.Post
 unify-last-child-count-requires t c κs = search needs
@@ -349,7 +399,7 @@ unify-last-met-child-requires t c κs = search needs
 unify-last-unify-in-requires : (t : ℕ) → unify-last-lts.Need-unify-in-requires (unify-last-calls t) (unify-last-at t) unify-last.Post
 unify-last-unify-in-requires t c κs =
     let start = c .before .before .before .before .before .before .before .before .before .before .before .before .before .before .before in
-    (omega arith, (search needs, (last-left _ _ _ (start .pre .1 .0) (start .pre .1 .1 .0) _ _ (c .before .before .before .before .before .before .before .before .before .before .child-count .ensures) (c .before .before .before .before .before .before .before .before .before .if1 .left) (c .before .before .before .before .child .ensures), (last-right _ _ _ (start .pre .1 .0) (start .pre .1 .1 .0) _ _ _ (c .before .before .before .before .before .before .before .child-count2 .ensures) (c .before .before .before .before .before .before .if2 .left) (c .before .before .met-child .ensures), search needs))))
+    (omega arith, (search needs, (last-left _ _ _ (start .pre .1 .0) (start .pre .1 .1 .0) _ _ (c .before .before .before .before .before .before .before .before .before .before .child-count .ensures) (c .before .before .before .before .before .before .before .before .before .if1 .left) (c .before .before .before .before .child .ensures), (last-right _ _ _ (start .pre .1 .0) (start .pre .1 .1 .0) _ _ _ (c .before .before .before .before .before .before .before .child-count2 .ensures) (c .before .before .before .before .before .before .if2 .left) (c .before .before .met-child .ensures), (search needs, last-fuelled _ _ _ _ _ (start .pre .1 .1 .1 .1) (c .before .before .before .before .before .before .before .before .before .before .child-count .ensures) (c .before .before .before .before .before .before .before .before .before .if1 .left) (c .before .before .before .before .child .ensures))))))
 
 unify-last-same-length-3 : (t : ℕ) → unify-last-lts.Need-same-length-3 (unify-last-calls t) (unify-last-at t) unify-last.Post
 unify-last-same-length-3 t c = search needs
@@ -360,8 +410,46 @@ unify-last-same-length-4 t c = search needs
 unify-last-returns-3 : (t : ℕ) → unify-last-lts.Need-returns-3 (unify-last-calls t) (unify-last-at t) unify-last.Post
 unify-last-returns-3 t c = search (needs, last-met)
 
+unify-noted-recall-requires : (t : ℕ) → unify-noted-lts.Need-recall-requires (unify-noted-calls t) (unify-noted-at t) unify-noted.Post
+unify-noted-recall-requires t c κs = (search (needs, root-small), search (needs, root-small-2))
+
+unify-noted-same-length : (t : ℕ) → unify-noted-lts.Need-same-length (unify-noted-calls t) (unify-noted-at t) unify-noted.Post
+unify-noted-same-length t c = search needs
+
+unify-noted-returns : (t : ℕ) → unify-noted-lts.Need-returns (unify-noted-calls t) (unify-noted-at t) unify-noted.Post
+unify-noted-returns t c = search (needs, kept-failure)
+
+unify-noted-same-length-2 : (t : ℕ) → unify-noted-lts.Need-same-length-2 (unify-noted-calls t) (unify-noted-at t) unify-noted.Post
+unify-noted-same-length-2 t c = search needs
+
+unify-noted-returns-2 : (t : ℕ) → unify-noted-lts.Need-returns-2 (unify-noted-calls t) (unify-noted-at t) unify-noted.Post
+unify-noted-returns-2 t c = search (needs, kept-indeterminate)
+
+unify-noted-begin-requires : (t : ℕ) → unify-noted-lts.Need-begin-requires (unify-noted-calls t) (unify-noted-at t) unify-noted.Post
+unify-noted-begin-requires t c κs = search needs
+
+unify-noted-unify-roots-requires : (t : ℕ) → unify-noted-lts.Need-unify-roots-requires (unify-noted-calls t) (unify-noted-at t) unify-noted.Post
+unify-noted-unify-roots-requires t c κs = (omega arith, (search needs, (search needs, (search (needs, begun-ready), search needs))))
+
+unify-noted-code-of-requires : (t : ℕ) → unify-noted-lts.Need-code-of-requires (unify-noted-calls t) (unify-noted-at t) unify-noted.Post
+unify-noted-code-of-requires t c κs = search needs
+
+unify-noted-end-requires : (t : ℕ) → unify-noted-lts.Need-end-requires (unify-noted-calls t) (unify-noted-at t) unify-noted.Post
+unify-noted-end-requires t c κs = (search (needs, root-small), (search (needs, root-small-2), search (needs, code-small)))
+
+unify-noted-same-length-3 : (t : ℕ) → unify-noted-lts.Need-same-length-3 (unify-noted-calls t) (unify-noted-at t) unify-noted.Post
+unify-noted-same-length-3 t c = search needs
+
+unify-noted-same-length-4 : (t : ℕ) → unify-noted-lts.Need-same-length-4 (unify-noted-calls t) (unify-noted-at t) unify-noted.Post
+unify-noted-same-length-4 t c = search needs
+
+unify-noted-returns-3 : (t : ℕ) → unify-noted-lts.Need-returns-3 (unify-noted-calls t) (unify-noted-at t) unify-noted.Post
+unify-noted-returns-3 t c =
+    let start = c .before .before .before .before .before .before .before .before .before .before .before .before .before .before .before .before .before .before .before .before .before .before .before in
+    kept-on _ _ _ _ _ _ _ _ _ _ _ _ _ (start .pre .1 .0) (start .pre .1 .1 .0) (start .pre .1 .1 .1 .1) (search needs) (c .before .before .before .before .code-of .ensures) (c .before .before .before .before .before .before .before .before .before .unify-roots .ensures) (c .before .before .end .ensures)
+
 unify-roots-unify-states-requires : (t : ℕ) → unify-roots-lts.Need-unify-states-requires (unify-roots-calls t) (unify-roots-at t) unify-roots.Post
-unify-roots-unify-states-requires t c κs = (omega arith, (search needs, (search (needs, two-apart), search needs)))
+unify-roots-unify-states-requires t c κs = (omega arith, (search needs, (search (needs, two-apart), (search needs, search needs))))
 
 unify-roots-same-length : (t : ℕ) → unify-roots-lts.Need-same-length (unify-roots-calls t) (unify-roots-at t) unify-roots.Post
 unify-roots-same-length t c = search needs
@@ -375,8 +463,8 @@ unify-roots-returns t c = search (needs, roots-apart)
 unify-roots-returns-2 : (t : ℕ) → unify-roots-lts.Need-returns-2 (unify-roots-calls t) (unify-roots-at t) unify-roots.Post
 unify-roots-returns-2 t c = search (needs, roots-same)
 
-unify-roots-self-inverse-requires : (t : ℕ) → unify-roots-lts.Need-self-inverse-requires (unify-roots-calls t) (unify-roots-at t) unify-roots.Post
-unify-roots-self-inverse-requires t c κs = (search needs, (search (needs, left-node), search needs))
+unify-roots-own-inverse-requires : (t : ℕ) → unify-roots-lts.Need-own-inverse-requires (unify-roots-calls t) (unify-roots-at t) unify-roots.Post
+unify-roots-own-inverse-requires t c κs = (search needs, (search (needs, left-node), search needs))
 
 unify-roots-from-bool-requires : (t : ℕ) → unify-roots-lts.Need-from-bool-requires (unify-roots-calls t) (unify-roots-at t) unify-roots.Post
 unify-roots-from-bool-requires t c κs = search needs
@@ -423,12 +511,12 @@ unify-states-returns-2 t c = search (needs, states-right)
 unify-states-unify-known-requires : (t : ℕ) → unify-states-lts.Need-unify-known-requires (unify-states-calls t) (unify-states-at t) unify-states.Post
 unify-states-unify-known-requires t c κs =
     let start = c .before .before .before .before .before .before .before .before .before .before .before in
-    (omega arith, (search needs, (known-roots _ _ _ _ _ (c .before .before .before .before .before .before .kind .ensures) (c .before .before .before .kind2 .ensures) (c .before .before .before .before .before .if1 .left) (c .before .before .if2 .left) (start .pre .1 .1 .0), search needs)))
+    (omega arith, (search needs, (known-roots _ _ _ _ _ (c .before .before .before .before .before .before .kind .ensures) (c .before .before .before .kind2 .ensures) (c .before .before .before .before .before .if1 .left) (c .before .before .if2 .left) (start .pre .1 .1 .0), (search needs, search needs))))
 
 unify-states-join-on-success-requires : (t : ℕ) → unify-states-lts.Need-join-on-success-requires (unify-states-calls t) (unify-states-at t) unify-states.Post
 unify-states-join-on-success-requires t c κs =
-    let start = c .before .before .before .before .before .before .before .before .before .before .before .before .before .before .before .before .before in
-    (search needs, λ e. still-roots _ _ _ _ _ _ _ (start .pre .1 .0) (start .pre .1 .1 .0) (known-roots _ _ _ _ _ (c .before .before .before .before .before .before .before .before .before .before .before .before .kind .ensures) (c .before .before .before .before .before .before .before .before .before .kind2 .ensures) (c .before .before .before .before .before .before .before .before .before .before .before .if1 .left) (c .before .before .before .before .before .before .before .before .if2 .left) (start .pre .1 .1 .0)) (c .before .before .before .before .before .unify-known .ensures) e)
+    let start = c .before .before .before .before .before .before .before .before .before .before .before .before .before .before .before .before .before .before in
+    (search needs, λ e. still-roots _ _ _ _ _ _ _ (start .pre .1 .0) (start .pre .1 .1 .0) (known-roots _ _ _ _ _ (c .before .before .before .before .before .before .before .before .before .before .before .before .before .kind .ensures) (c .before .before .before .before .before .before .before .before .before .before .kind2 .ensures) (c .before .before .before .before .before .before .before .before .before .before .before .before .if1 .left) (c .before .before .before .before .before .before .before .before .before .if2 .left) (start .pre .1 .1 .0)) _ _ _ (c .before .before .before .before .before .before .unify-known .ensures) e)
 
 unify-states-same-length-5 : (t : ℕ) → unify-states-lts.Need-same-length-5 (unify-states-calls t) (unify-states-at t) unify-states.Post
 unify-states-same-length-5 t c = search needs
@@ -439,15 +527,16 @@ unify-states-same-length-6 t c = search needs
 unify-states-returns-3 : (t : ℕ) → unify-states-lts.Need-returns-3 (unify-states-calls t) (unify-states-at t) unify-states.Post
 unify-states-returns-3 t c = search (needs, states-both)
 
-pub +unify-children+unify-each+unify-in+unify-known+unify-last+unify-roots+unify-states-spec :
+pub +unify-children+unify-each+unify-in+unify-known+unify-last+unify-noted+unify-roots+unify-states-spec :
     {M : Type 1} → statement M
-+unify-children+unify-each+unify-in+unify-known+unify-last+unify-roots+unify-states-spec =
++unify-children+unify-each+unify-in+unify-known+unify-last+unify-noted+unify-roots+unify-states-spec =
     close
     μ-unify-children
     μ-unify-each
     μ-unify-in
     μ-unify-known
     μ-unify-last
+    μ-unify-noted
     μ-unify-roots
     μ-unify-states
     (λ t. unify-children-lts.spec (unify-children-calls t) (unify-children-at t)
@@ -475,22 +564,31 @@ pub +unify-children+unify-each+unify-in+unify-known+unify-last+unify-roots+unify
     (unify-each-met-child-requires t)
     (unify-each-unify-in-requires t)
     (unify-each-and-requires t)
+    (unify-each-stops-requires t)
+    (unify-each-same-length t)
+    (unify-each-same-length-2 t)
+    (unify-each-returns t)
     (unify-each-add-i t)
     (unify-each-loop-less t)
     (unify-each-loop-again t)
-    (unify-each-same-length t)
-    (unify-each-same-length-2 t)
-    (unify-each-returns t))
+    (unify-each-same-length-3 t)
+    (unify-each-same-length-4 t)
+    (unify-each-returns-2 t))
     (λ t. unify-in-lts.spec (unify-in-calls t) (unify-in-at t)
     unify-in.Post
     (unify-in-returns t)
     (unify-in-find-requires t)
     (unify-in-find-requires-2 t)
-    (unify-in-sub-unify-roots t)
-    (unify-in-unify-roots-requires t)
+    (unify-in-sub-unify-noted t)
+    (unify-in-unify-noted-requires t)
     (unify-in-same-length t)
     (unify-in-same-length-2 t)
-    (unify-in-returns-2 t))
+    (unify-in-returns-2 t)
+    (unify-in-sub-unify-roots t)
+    (unify-in-unify-roots-requires t)
+    (unify-in-same-length-3 t)
+    (unify-in-same-length-4 t)
+    (unify-in-returns-3 t))
     (λ t. unify-known-lts.spec (unify-known-calls t) (unify-known-at t)
     unify-known.Post
     (unify-known-kind-requires t)
@@ -523,6 +621,20 @@ pub +unify-children+unify-each+unify-in+unify-known+unify-last+unify-roots+unify
     (unify-last-same-length-3 t)
     (unify-last-same-length-4 t)
     (unify-last-returns-3 t))
+    (λ t. unify-noted-lts.spec (unify-noted-calls t) (unify-noted-at t)
+    unify-noted.Post
+    (unify-noted-recall-requires t)
+    (unify-noted-same-length t)
+    (unify-noted-returns t)
+    (unify-noted-same-length-2 t)
+    (unify-noted-returns-2 t)
+    (unify-noted-begin-requires t)
+    (unify-noted-unify-roots-requires t)
+    (unify-noted-code-of-requires t)
+    (unify-noted-end-requires t)
+    (unify-noted-same-length-3 t)
+    (unify-noted-same-length-4 t)
+    (unify-noted-returns-3 t))
     (λ t. unify-roots-lts.spec (unify-roots-calls t) (unify-roots-at t)
     unify-roots.Post
     (unify-roots-unify-states-requires t)
@@ -530,7 +642,7 @@ pub +unify-children+unify-each+unify-in+unify-known+unify-last+unify-roots+unify
     (unify-roots-same-length-2 t)
     (unify-roots-returns t)
     (unify-roots-returns-2 t)
-    (unify-roots-self-inverse-requires t)
+    (unify-roots-own-inverse-requires t)
     (unify-roots-from-bool-requires t)
     (unify-roots-same-length-3 t)
     (unify-roots-same-length-4 t)
