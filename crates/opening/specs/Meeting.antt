@@ -19,21 +19,12 @@ use Rattle.rules.specs.Neat.{Brought, in-more}
 use Rattle.table.specs.Packing.{types-of, Packed, Good}
 use Rattle.table.specs.Nodes.{types-few}
 use Rattle.transfer.specs.Imports.{types-in, Imports}
-use Rattle.unify.specs.declared.UnifyResult.{UnifyResult}
-use Rattle.unify.specs.declared.UnifyResult.the-variants.{Success, Failure, Indeterminate}
-use Rattle.unify.specs.Results.{result-of, Unifies}
+use Rattle.unify.specs.Results.{Joins}
 use Rattle.unify.specs.Lists.{Nodes}
 use Rattle.queries.specs.declared.Query.{Query}
 use Rattle.queries.specs.Queries.{four, query-of}
 use Rattle.opening.specs.declared.Signed.{Signed}
 use Rattle.opening.specs.declared.Signed.the-variants.{Full, Unfit, Fits}
-
--- A join: whether it succeeds, with its table in out.
-pub record Joins (m : Unified) (out : Words) (r : Bool) : Type 0 where
-  pub packed : Packed out
-  pub failed : r ≡ false → m .0 ≢ success
-  pub met : r ≡ true → m .0 ≡ success
-  pub types : r ≡ true → types-of out ≡ m .1
 
 -- The join of what was imported with question q.
 abbrev pub join-of : Words → ImplType × Types → ImplType → Unified
@@ -75,47 +66,10 @@ pub query-nodes : (ts : Types) (q : Query) → AllIn (length ts) ((query-of q) .
 unfolding query-of
 query-nodes ts q a = record { there = a }
 
-pub types-room : (ws ms : Words) → 256 ≤ length ms → length (types-of ws) ≤ length ms
-types-room ws ms h = omega (arith, types-few ws)
-
--- By the verdict.
-abbrev Won : rules.UnifyResult → Type 0
-Won success = Unit {0}
-Won failure = ⊥
-Won indeterminate = ⊥
-
-module _ (s ws us : Words) (tr : ℕ) (xs : Words) (q : Query) (v : UnifyResult) (u : Unifies us v (unify-impl-type s (types-of ws) (tr, map type-of-word xs) (q .tr, map type-of-word (take (q .n) (four (q .args)))))) where
-  abbrev m : Unified
-  m = unify-impl-type s (types-of ws) (tr, map type-of-word xs) (query-of q)
-
-  same : _≡_ {A = Unified} (result-of v, types-of us) m
-  unfolding query-of
-  same = u .is
-
-  pub joins-success : v ≡ Success → Joins (unify-impl-type s (types-of ws) (tr, map type-of-word xs) (query-of q)) us true
-  unfolding result-of
-  joins-success e = record {
-    packed = u .good .packed;
-    failed = λ f. absurd (true≢false f);
-    met = λ f. sym (ap (λ (z : Unified). z .0) same) ∙ ap result-of e;
-    types = λ f. ap (λ (z : Unified). z .1) same;
-  }
-
-  fails : (result-of v ≡ success → ⊥) → Joins (unify-impl-type s (types-of ws) (tr, map type-of-word xs) (query-of q)) us false
-  fails n = record {
-    packed = u .good .packed;
-    failed = λ f e. n (ap (λ (z : Unified). z .0) same ∙ e);
-    met = λ f. absurd (true≢false (sym f));
-    types = λ f. absurd (true≢false (sym f));
-  }
-
-  pub joins-failure : v ≡ Failure → Joins (unify-impl-type s (types-of ws) (tr, map type-of-word xs) (query-of q)) us false
-  unfolding result-of
-  joins-failure e = fails (λ z. absurd (subst Won (sym z ∙ ap result-of e) tt))
-
-  pub joins-indeterminate : v ≡ Indeterminate → Joins (unify-impl-type s (types-of ws) (tr, map type-of-word xs) (query-of q)) us false
-  unfolding result-of
-  joins-indeterminate e = fails (λ z. absurd (subst Won (sym z ∙ ap result-of e) tt))
+-- The question by its fields.
+pub joins-question : (s ws us : Words) (tr : ℕ) (xs : Words) (q : Query) (r : Bool) → Joins (unify-impl-type s (types-of ws) (tr, map type-of-word xs) (q .tr, map type-of-word (take (q .n) (four (q .args))))) us r → Joins (unify-impl-type s (types-of ws) (tr, map type-of-word xs) (query-of q)) us r
+unfolding query-of
+joins-question s ws us tr xs q r j = j
 
 -- The first n types of xs are imported from src into the table that ds is, as the arguments of a trait? tr: es has the table, and the first of vs the arguments.
 abbrev pub imported : Types → Option (List Ty) → ℕ → ℕ → Words → Words → ImplType × Types

@@ -20,6 +20,7 @@ ghost use Rattle.transfer.specs.Imports.{types-in, Imports};
 ghost use Rattle.queries.specs.Queries.{query-of, queries-of};
 ghost use Rattle.queries.specs.Gathering.{WithinFour};
 ghost use Rattle.queries.specs.Rows.{Rowed};
+ghost use Rattle.unify.specs.Results.{Joins};
 ghost use Rattle.unify.specs.Lists.{Nodes};
 ghost use Rattle.opening.specs.Fresh.{Freshens};
 ghost use Rattle.opening.specs.Standing.{standing, Stands};
@@ -27,11 +28,10 @@ ghost use Rattle.opening.specs.Bringing.{Lent};
 ghost use Rattle.opening.specs.Sound.{Sound};
 ghost use Rattle.opening.specs.Signing.{signed-by, Leaves};
 ghost use Rattle.opening.specs.Needing.{needed-by, Needs, Follows};
-ghost use Rattle.opening.specs.Meeting.{imported, Joins, Meets};
+ghost use Rattle.opening.specs.Meeting.{imported, Meets};
 use chart::layout;
 use queries::Queries;
 use queries::Query;
-use unify::UnifyResult;
 
 // What an import and the join with the question come to: the table would pass its limit, they do not unify, or they do.
 pub enum Signed {
@@ -114,12 +114,7 @@ fn joins(sheet: &[u32], dst: &mut [u32], marks: &mut [u32], tr: u32, xs: &[u32],
 {
     let ys = [q.args[0], q.args[1], q.args[2], q.args[3]];
     let n = q.n;
-    let v = unify::unify_impl_type(sheet, dst, marks, tr, xs, q.tr, &ys[..n]);
-    match v {
-        UnifyResult::Success => true,
-        UnifyResult::Failure => false,
-        UnifyResult::Indeterminate => false,
-    }
+    unify::join_impl_type(sheet, dst, marks, tr, xs, q.tr, &ys[..n])
 }
 
 // Imports the first n types of xs, in place, from the sheet's table at a head, and joins them, as the arguments of a trait?, with the question.
