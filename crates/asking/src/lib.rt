@@ -8,7 +8,7 @@ ghost use Rattle.rules.specs.Limits.{limit·answer};
 ghost use Rattle.rules.specs.Calls.{question-types, impl-query, impl-within};
 ghost use Rattle.queries.specs.Queries.{query-of};
 ghost use Rattle.loading.specs.Exports.{Exports};
-ghost use Rattle.closing.specs.Ends.{IfFound, EndsImpl};
+ghost use Rattle.closing.specs.Ends.{Front, IfFound, EndsImpl};
 ghost use Rattle.closing.specs.Ended.{Ends};
 ghost use Rattle.steps.specs.Asking.{finder-of};
 ghost use Rattle.asking.specs.Impls.{Questions, Impls, count-of};
@@ -21,6 +21,9 @@ use steps::Finder;
 const TABLE: usize = 1537;
 
 const NODES: usize = 256;
+
+// The words of slots 0 and 1.
+const FRONT: usize = 3588;
 
 // How deep a search goes.
 const DEPTH: usize = 16;
@@ -38,23 +41,34 @@ fn export_asked(question: &[u32], ws: &mut [u32]) -> Query
     loading::export_question(&table, query, ws, &mut map)
 }
 
-// What the search comes to, as a number or an answer.
+// The front of a slice: slots 0 and 1.
+fn keep_front(ws: &[u32], found: &mut [u32])
+    requires { ⌜ 3588 ≤ length (now ws) ⌝ }
+    requires { ⌜ 3588 ≤ length (now found) ⌝ }
+    ensures { λ _. ⌜ Front (now (ws .entry)) (now (found .exit)) ⌝ }
+{
+    words::copy(ws, found, FRONT)
+}
+
+// What the search comes to, as a number or an answer. The search is over: its slice serves the joins' memo, and its first result is kept aside.
 fn end_asked(
     sheet: &[u32],
     question: &[u32],
     asked: Query,
     searched: Asked,
-    ws: &[u32],
+    ws: &mut [u32],
     answer: &mut [u32],
 ) -> u32
     requires { ⌜ Questions (now question) ⌝ }
     requires { ⌜ IfFound searched asked (now ws) ⌝ }
+    requires { ⌜ 3588 ≤ length (now ws) ⌝ }
     requires { ⌜ limit·answer ≤ length (now answer) ⌝ }
     ensures { λ r. ⌜ EndsImpl (now (sheet .entry)) (question-types (now (question .entry))) (impl-query (now (question .entry))) (query-of asked) searched (now (ws .entry)) (now (answer .entry)) (now (answer .exit)) r ⌝ }
 {
+    let mut found = [0u32; FRONT];
+    keep_front(ws, &mut found);
     let mut table = [0u32; TABLE];
     let mut out = [0u32; TABLE];
-    let mut map = [0u32; NODES];
     loading::load_table(question, &mut table);
     let query = loading::read_question(question);
     closing::end_impl(
@@ -62,10 +76,10 @@ fn end_asked(
         query,
         asked,
         searched,
-        ws,
+        &found,
         &mut table,
         &mut out,
-        &mut map,
+        ws,
         answer,
     )
 }

@@ -19,6 +19,7 @@ use Rattle.rules.specs.Search as rules
 use Rattle.rules.specs.SearchKeeps.{AllKept}
 use Rattle.rules.specs.Calls.{or-nothing}
 use Rattle.words.specs.Buffers.{copied, copied-length}
+use Rattle.table.specs.Copies.{copied-at}
 use Rattle.slots.specs.declared.Asked.{Asked}
 use Rattle.slots.specs.declared.Asked.the-variants.{Found, Refused}
 use Rattle.slots.specs.Slots.{Slot, Slots, slot-move}
@@ -34,18 +35,10 @@ pub record Copied (ws us : Words) : Type 0 where
   pub room : 1794 ≤ length us
   pub at : (i : ℕ) → i < 1794 → at us i ≡ at ws (1794 + i)
 
-copied-at : (n : ℕ) (from to : Words) (i : ℕ) → i < n → n ≤ length from → n ≤ length to → at (copied n from to) i ≡ at from i
-unfolding copied
-copied-at zero from to i l h k = absurd (not-suc-le-zero l)
-copied-at (suc n) [] to i l h k = absurd (not-suc-le-zero h)
-copied-at (suc n) (x ∷ xs) [] i l h k = absurd (not-suc-le-zero k)
-copied-at (suc n) (x ∷ xs) (y ∷ ys) zero l h k = refl
-copied-at (suc n) (x ∷ xs) (y ∷ ys) (suc i) l h k = copied-at n xs ys i (omega arith) (omega arith) (omega arith)
-
 pub slot-taken : (ws from to us : Words) → 3588 ≤ length ws → 1794 ≤ length to → from ≡ drop 1794 ws → us ≡ copied 1794 from to → Copied ws us
 slot-taken ws from to us h k d x = let e : us ≡ copied 1794 (drop 1794 ws) to = x ∙ ap (λ (l : Words). copied 1794 l to) d in record {
   room = omega (arith, ap (λ (l : Words). length l) e, copied-length 1794 (drop 1794 ws) to);
-  at = λ i l. ap (λ (l : Words). at l i) e ∙ copied-at 1794 (drop 1794 ws) to i l (omega (arith, length-drop 1794 ws)) k ∙ getD-drop 1794 ws i 0;
+  at = λ i l. ap (λ (l : Words). at l i) e ∙ copied-at 1794 i (drop 1794 ws) to l (omega (arith, length-drop 1794 ws)) (omega arith) ∙ getD-drop 1794 ws i 0;
 }
 
 copied-slot : (ws us : Words) (r : Result) → Copied ws us → Slot ws 1794 r → Slot us 0 r

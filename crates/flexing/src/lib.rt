@@ -143,7 +143,7 @@ fn ask_turn(
     settle(asked)
 }
 
-// What the four lists of results come to, n0 to n3 of them, with the first results of the fork and the drop question that count.
+// What the four lists of results come to, n0 to n3 of them, with the first results of the fork and the drop question that count. The searches are over: their slice serves the joins' memo.
 fn close_side(
     sheet: &[u32],
     question: &[u32],
@@ -153,21 +153,22 @@ fn close_side(
     n3: usize,
     fork: &[u32],
     drop: &[u32],
+    ws: &mut [u32],
     answer: &mut [u32],
 ) -> u32
     requires { ⌜ Fitting (question-types (now question)) ⌝ }
     requires { ⌜ at (now question) question·type / 2 < length (question-types (now question)) ⌝ }
     requires { ⌜ Lends (now question) (chosen (inverted-of n0 n1 n2 n3) n0 n2) (now fork) ⌝ }
     requires { ⌜ Lends (now question) (chosen (inverted-of n0 n1 n2 n3) n1 n3) (now drop) ⌝ }
+    requires { ⌜ 256 ≤ length (now ws) ⌝ }
     requires { ⌜ limit·answer ≤ length (now answer) ⌝ }
     ensures { λ r. ⌜ SideEnds (now (sheet .entry)) (now (question .entry)) n0 n1 n2 n3 (now (fork .entry)) (now (drop .entry)) (now (answer .entry)) (now (answer .exit)) r ⌝ }
 {
     let mut table = [0u32; 1537];
     loading::load_table(question, &mut table);
     let mut out = [0u32; 1537];
-    let mut map = [0u32; 256];
     let t = words::word(question, layout::QUESTION_TYPE);
-    let e = loading::export_type(&table, t, &mut out, &mut map);
+    let e = loading::export_type(&table, t, &mut out, ws);
     closing::close_flex(
         sheet,
         t,
@@ -182,7 +183,7 @@ fn close_side(
         0,
         &mut table,
         &mut out,
-        &mut map,
+        ws,
         answer,
     )
 }
@@ -205,19 +206,21 @@ fn close_all(
     k2: &[u32],
     n3: usize,
     k3: &[u32],
+    ws: &mut [u32],
     answer: &mut [u32],
 ) -> u32
     requires { ⌜ Fitting (question-types (now question)) ⌝ }
     requires { ⌜ at (now question) question·type / 2 < length (question-types (now question)) ⌝ }
     requires { ⌜ Behind (now question) ((n3, now k3) ∷ (n2, now k2) ∷ (n1, now k1) ∷ (n0, now k0) ∷ []) ⌝ }
+    requires { ⌜ 256 ≤ length (now ws) ⌝ }
     requires { ⌜ limit·answer ≤ length (now answer) ⌝ }
     ensures { λ r. ⌜ ClosesAll (now (sheet .entry)) (now (question .entry)) n0 (now (k0 .entry)) n1 (now (k1 .entry)) n2 (now (k2 .entry)) n3 (now (k3 .entry)) (now (answer .entry)) (now (answer .exit)) r ⌝ }
 {
     let up = either(0 < n0, 0 < n1);
     if up {
-        return close_side(sheet, question, n0, n1, n2, n3, k0, k1, answer);
+        return close_side(sheet, question, n0, n1, n2, n3, k0, k1, ws, answer);
     }
-    close_side(sheet, question, n0, n1, n2, n3, k2, k3, answer)
+    close_side(sheet, question, n0, n1, n2, n3, k2, k3, ws, answer)
 }
 
 // No search is left: 24 where the count is above the limit, or what the results come to.
@@ -226,6 +229,7 @@ fn end_turns(
     sets: &[u32],
     question: &[u32],
     f: Finder,
+    ws: &mut [u32],
     n0: usize,
     k0: &[u32],
     n1: usize,
@@ -238,6 +242,7 @@ fn end_turns(
     count: u32,
 ) -> Ended
     requires { ⌜ Flexing (now sheet) (now sets) (now question) f ⌝ }
+    requires { ⌜ 256 ≤ length (now ws) ⌝ }
     requires { ⌜ limit·answer ≤ length (now answer) ⌝ }
     requires { ⌜ Behind (now question) ((n3, now k3) ∷ (n2, now k2) ∷ (n1, now k1) ∷ (n0, now k0) ∷ []) ⌝ }
     ensures { λ r. ⌜ Rests (f .limit) (finder-of (now (sheet .entry)) f) (now (question .entry)) ((n3, now (k3 .entry)) ∷ (n2, now (k2 .entry)) ∷ (n1, now (k1 .entry)) ∷ (n0, now (k0 .entry)) ∷ []) [] count (now (answer .entry)) (now (answer .exit)) r ⌝ }
@@ -245,7 +250,7 @@ fn end_turns(
     if f.limit < count {
         return Ended { number: 24, count };
     }
-    let number = close_all(sheet, question, n0, k0, n1, k1, n2, k2, n3, k3, answer);
+    let number = close_all(sheet, question, n0, k0, n1, k1, n2, k2, n3, k3, ws, answer);
     Ended { number, count }
 }
 
@@ -295,6 +300,7 @@ fn inverse_drop_turn(
         sets,
         question,
         f,
+        ws,
         n0,
         k0,
         n1,

@@ -14,7 +14,7 @@ use Rattle.table.specs.Packing.{up-to, node-of, types-of, Counted, Packe
 use Rattle.table.specs.Nodes.{up-to-same, types-length}
 use Rattle.table.specs.Writes.{node-same}
 
-copied-at : (n i : ℕ) (from to : Words) → i < n → i < length from → i < length to → at (copied n from to) i ≡ at from i
+pub copied-at : (n i : ℕ) (from to : Words) → i < n → i < length from → i < length to → at (copied n from to) i ≡ at from i
 unfolding copied
 copied-at zero i from to h a b = absurd (not-suc-le-zero h)
 copied-at (suc n) i [] to h a b = absurd (not-suc-le-zero a)

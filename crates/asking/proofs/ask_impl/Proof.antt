@@ -29,7 +29,9 @@ same-length-2 : tie.Need-same-length-2
 same-length-2 c = search needs
 
 returns : tie.Need-returns
-returns c = search (needs, ask-ends)
+returns c =
+    let start = c .before .before .before .before .before .before .before .before .before .before .before .before .before .before .before .before .before .before .before .before .before in
+    ask-ends _ _ _ _ _ _ (start .pre .0) _ _ _ (c .before .before .before .before .before .before .before .before .before .before .before .before .before .before .export-asked .ensures) _ (c .before .before .before .before .before .before .before .before .before .before .question .ensures) _ _ _ _ (omega (arith, c .before .before .before .before .before .before .before .before .before .before .question .kept .1 .1 .0, c .before .before .before .before .before .before .before .before .before .before .before .before .before .before .export-asked .kept .1 .0, start .pre .1 .0)) (c .before .before .before .before .before .end-asked .ensures) (c .count-of .ensures)
 
 pub ask-impl-spec : {M : Type 1} → statement M
 ask-impl-spec =
