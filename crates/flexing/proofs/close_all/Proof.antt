@@ -8,19 +8,25 @@ either-requires : tie.Need-either-requires
 either-requires c κs = search needs
 
 close-side-requires : tie.Need-close-side-requires
-close-side-requires c κs = (search needs, (search needs, (search (needs, upright-fork), (search (needs, upright-drop), search needs))))
+close-side-requires c κs = (search needs, (search needs, (search (needs, upright-fork), (search (needs, upright-drop), (search needs, search needs)))))
 
 same-length : tie.Need-same-length
 same-length c = search needs
+
+same-length-2 : tie.Need-same-length-2
+same-length-2 c = search needs
 
 returns : tie.Need-returns
 returns c = search (needs, upright-closes)
 
 close-side-requires-2 : tie.Need-close-side-requires-2
-close-side-requires-2 c κs = (search needs, (search needs, (search (needs, inverse-fork), (search (needs, inverse-drop), search needs))))
+close-side-requires-2 c κs = (search needs, (search needs, (search (needs, inverse-fork), (search (needs, inverse-drop), (search needs, search needs)))))
 
-same-length-2 : tie.Need-same-length-2
-same-length-2 c = search needs
+same-length-3 : tie.Need-same-length-3
+same-length-3 c = search needs
+
+same-length-4 : tie.Need-same-length-4
+same-length-4 c = search needs
 
 returns-2 : tie.Need-returns-2
 returns-2 c = search (needs, inverse-closes)
@@ -32,7 +38,9 @@ close-all-spec =
     either-requires
     close-side-requires
     same-length
+    same-length-2
     returns
     close-side-requires-2
-    same-length-2
+    same-length-3
+    same-length-4
     returns-2)

@@ -20,9 +20,6 @@ slice-aggregate-export-type c = search needs
 slice-aggregate-export-type-2 : tie.Need-slice-aggregate-export-type-2
 slice-aggregate-export-type-2 c = search needs
 
-slice-aggregate-export-type-3 : tie.Need-slice-aggregate-export-type-3
-slice-aggregate-export-type-3 c = search needs
-
 export-type-requires : tie.Need-export-type-requires
 export-type-requires c κs = (search (needs, loaded-neat), (search (needs, loaded-inside), (search needs, search needs)))
 
@@ -32,14 +29,14 @@ slice-aggregate-close-flex c = search needs
 slice-aggregate-close-flex-2 : tie.Need-slice-aggregate-close-flex-2
 slice-aggregate-close-flex-2 c = search needs
 
-slice-aggregate-close-flex-3 : tie.Need-slice-aggregate-close-flex-3
-slice-aggregate-close-flex-3 c = search needs
-
 close-flex-requires : tie.Need-close-flex-requires
 close-flex-requires c κs = (search (needs, side-offers), (search (needs, side-offers), (search (needs, side-caller), (search needs, (search needs, search needs)))))
 
 same-length : tie.Need-same-length
 same-length c = search needs
+
+same-length-2 : tie.Need-same-length-2
+same-length-2 c = search needs
 
 returns : tie.Need-returns
 returns c = search (needs, side-closes)
@@ -53,11 +50,10 @@ close-side-spec =
     word-requires
     slice-aggregate-export-type
     slice-aggregate-export-type-2
-    slice-aggregate-export-type-3
     export-type-requires
     slice-aggregate-close-flex
     slice-aggregate-close-flex-2
-    slice-aggregate-close-flex-3
     close-flex-requires
     same-length
+    same-length-2
     returns)

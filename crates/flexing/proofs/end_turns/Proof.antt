@@ -9,13 +9,17 @@ returns : tie.Need-returns
 returns c = search (needs, rests-over)
 
 close-all-requires : tie.Need-close-all-requires
-close-all-requires c κs = (search (needs, flexing-fitting), (search (needs, flexing-inside), (search needs, search needs)))
+close-all-requires c κs = (search (needs, flexing-fitting), (search (needs, flexing-inside), (search needs, (search needs, search needs))))
 
 same-length : tie.Need-same-length
 same-length c = search needs
+
+same-length-2 : tie.Need-same-length-2
+same-length-2 c = search needs
 
 returns-2 : tie.Need-returns-2
 returns-2 c = search (needs, rests-closed)
 
 pub end-turns-spec : {M : Type 1} → statement M
-end-turns-spec = tie.close (tie.spec returns close-all-requires same-length returns-2)
+end-turns-spec =
+    tie.close (tie.spec returns close-all-requires same-length same-length-2 returns-2)

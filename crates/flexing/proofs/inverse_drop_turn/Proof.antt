@@ -20,7 +20,7 @@ slice-aggregate-end-turns : tie.Need-slice-aggregate-end-turns
 slice-aggregate-end-turns c = search needs
 
 end-turns-requires : tie.Need-end-turns-requires
-end-turns-requires c κs = (search needs, (search needs, search (needs, turn-behind, c .before .before .before .before .before .before .before .before .before .before .before .before .before .before .before .before .before .before .pre .1 .1 .1 .1)))
+end-turns-requires c κs = (search needs, (search needs, (search needs, search (needs, turn-behind, c .before .before .before .before .before .before .before .before .before .before .before .before .before .before .before .before .before .before .before .pre .1 .1 .1 .1))))
 
 same-length-2 : tie.Need-same-length-2
 same-length-2 c = search needs
