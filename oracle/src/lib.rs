@@ -35,6 +35,8 @@ pub mod rng;
 pub mod rust;
 pub mod samples;
 pub mod sheet;
+pub mod sitting_generate;
+pub mod sittings;
 pub mod stored;
 pub mod tally;
 pub mod type_cases;
