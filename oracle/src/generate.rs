@@ -106,12 +106,7 @@ fn stir(rng: &mut Rng, asking: &mut Asking, question: &mut Question) {
 }
 
 /// The form and the words of a question.
-fn written(
-  rng: &mut Rng,
-  asking: &Asking,
-  question: &Question,
-  style: Style,
-) -> (Asked, Vec<u32>) {
+fn written(rng: &mut Rng, asking: &Asking, question: &Question, style: Style) -> (Asked, Vec<u32>) {
   match question {
     Question::Impl(query) => {
       let basic = u32::from(rng.chance(6));

@@ -36,6 +36,7 @@ pub mod rust;
 pub mod samples;
 pub mod sheet;
 pub mod sitting_generate;
+pub mod sitting_stored;
 pub mod sittings;
 pub mod stored;
 pub mod tally;

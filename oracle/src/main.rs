@@ -10,7 +10,7 @@ use std::{
 use oracle::{
   SOURCES,
   answers::{self, Options, take_flag, take_number},
-  damage, generate, samples, sitting_generate,
+  damage, generate, samples, sitting_generate, sitting_stored,
   sittings::{self, BETWEEN},
   stored,
   tally::Tally,
@@ -23,7 +23,8 @@ oracle gen [--seed N] [--count K] [--damaged PERCENT] [--sittings]
                                      prints case lines, and how often each outcome occurred;
                                      or lines of sittings, several calls in turn
 oracle source FILE                   prints a file of docs/src/vine/src as it is compiled here
-oracle stored make|check DIRECTORY   makes the stored list, or compares it with what is said today
+oracle stored make|check DIRECTORY   makes the stored list, or compares it with what is said today;
+oracle stored sittings DIRECTORY     makes its sittings alone
 oracle samples make|check DIRECTORY  the same for what `ask` is to print for the samples
 options: --limit L (step limit, at most 2000), --workspace W (the constant), --timeout-ms T,
          --max (tells the most nodes of a type table behind the Rust's answer)";
@@ -51,6 +52,9 @@ fn run(mut args: Vec<String>) -> Result<(), String> {
     Some("stored") => match &args[1..] {
       [make, directory] if make == "make" => {
         stored::make(Path::new(directory), &options).map_err(told)
+      }
+      [sittings, directory] if sittings == "sittings" => {
+        sitting_stored::make(Path::new(directory), &options).map_err(told)
       }
       [check, directory] if check == "check" => {
         stored::check(Path::new(directory), &options).map(|tally| println!("{tally}"))

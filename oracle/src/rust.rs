@@ -51,9 +51,11 @@ pub fn seated<T>(
   let shift = STEPS_LIMIT - limit;
   let first = &calls[0];
   let mut setting = Setting::new(&first.sheet);
-  let tables = Vec::from_iter(calls.iter().map(|call| {
-    passes(call).then(|| setting.read_table(&call.question, call.question[0]))
-  }));
+  let tables = Vec::from_iter(
+    calls
+      .iter()
+      .map(|call| passes(call).then(|| setting.read_table(&call.question, call.question[0]))),
+  );
   let mut cache = FinderCache::default();
   cache.candidates.build_since(&setting.chart, &setting.sigs);
   let mut diags = Diags::default();

@@ -58,7 +58,8 @@ fn printed(sample: &Path, options: &Options) -> Result<String, String> {
     return Ok(printed_in_turn(&sitting, raw, &options));
   }
   let asked = arguments.first().copied().unwrap_or_default();
-  let numbers: Vec<u32> = arguments[1..].iter().map(|word| number(word)).collect::<Result<_, _>>()?;
+  let numbers: Vec<u32> =
+    arguments[1..].iter().map(|word| number(word)).collect::<Result<_, _>>()?;
   let (asked, count) = match (asked, &numbers[..]) {
     ("impl", &[_, _, basic, count]) => (Asked::Impl { basic }, count),
     ("flex", &[_, _, count]) => (Asked::Flex, count),
