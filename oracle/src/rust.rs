@@ -136,6 +136,7 @@ impl Seat<'_> {
       Err(ClosingAssertion) => {
         self.finder.steps = start;
         let found = impl_again(&mut self.finder, &asked, &query, basic);
+        assert_eq!(self.count(), count, "the search again spends other steps");
         Answer::Assert(count, self.pack(&found, &types, asked.node_count()))
       }
     }
@@ -159,6 +160,7 @@ impl Seat<'_> {
       Err(ClosingAssertion) => {
         self.finder.steps = start;
         let found = flex_again(&mut self.finder, &asked, ty);
+        assert_eq!(self.count(), count, "the searches again spend other steps");
         Answer::Assert(count, self.pack(&found, &types, asked.node_count()))
       }
     }
