@@ -1,5 +1,5 @@
-// Finds the archive that `rt staticlib calls` writes, target/staticlib/libcalls.a of this repository, or in the directory
-// that VINE_FINDER_LIB names.
+// Finds the archives that `rt staticlib calls` and `rt staticlib sitting` write, libcalls.a and libsitting.a in
+// target/staticlib of this repository, or in the directory that VINE_FINDER_LIB names.
 
 use std::{env, path::PathBuf};
 
@@ -10,11 +10,14 @@ fn main() {
     Err(_) => root.join("../target/staticlib"),
   };
   println!("cargo::rerun-if-env-changed=VINE_FINDER_LIB");
-  let archive = directory.join("libcalls.a");
-  println!("cargo::rerun-if-changed={}", archive.display());
-  if !archive.exists() {
-    panic!("{} is not there: run `rt staticlib calls` in the repository first", archive.display());
-  }
   println!("cargo::rustc-link-search=native={}", directory.display());
-  println!("cargo::rustc-link-lib=static=calls");
+  for name in ["calls", "sitting"] {
+    let archive = directory.join(format!("lib{name}.a"));
+    println!("cargo::rerun-if-changed={}", archive.display());
+    if !archive.exists() {
+      let archive = archive.display();
+      panic!("{archive} is not there: run `rt staticlib {name}` in the repository first");
+    }
+    println!("cargo::rustc-link-lib=static={name}");
+  }
 }

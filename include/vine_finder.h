@@ -1,4 +1,9 @@
-/* Vine's impl finder, for C: the two calls of the archive that `rt staticlib calls` writes, target/staticlib/libcalls.a.
+/* Vine's impl finder, for C: two calls, alone and in a sitting. Two archives of target/staticlib have them:
+ *
+ *     rt staticlib calls      libcalls.a      vine_find_impl, vine_find_flex, vine_workspace_words
+ *     rt staticlib sitting    libsitting.a    vine_sitting_find_impl, vine_sitting_find_flex
+ *
+ * Neither has the functions of the other, and neither needs the other; a program may link one or both.
  *
  * A slice is two scalars, a pointer and its length in words. The pointers may be any where the length is 0. Sheet and
  * question are only read. Answer and workspace are written and must overlap nothing else that is lent.
@@ -35,8 +40,8 @@ uint64_t vine_find_flex(const uint32_t *sheet, size_t sheet_len, const uint32_t 
                         uint32_t source, uint32_t generics, uint32_t *answer, size_t answer_len, uint32_t *workspace,
                         size_t workspace_len, uint32_t count);
 
-/* The same calls in a sitting, in the archive that `rt staticlib sitting` writes (target/staticlib/libsitting.a): the count
- * is read from *spent and left there, and the result is the number, 0 if the call is answered. */
+/* The same calls in a sitting (libsitting.a): the count is read from *spent and left there, and the result is the number, 0
+ * if the call is answered. *spent must overlap nothing else that is lent. */
 uint32_t vine_sitting_find_impl(const uint32_t *sheet, size_t sheet_len, const uint32_t *question, size_t question_len,
                                 uint32_t source, uint32_t generics, uint32_t basic, uint32_t *answer, size_t answer_len,
                                 uint32_t *workspace, size_t workspace_len, uint32_t *spent);

@@ -1,6 +1,6 @@
 #!/usr/bin/env bash
 # Builds the oracle and tests it: the six Rust files are unchanged, the stored list (document 01's pinned cases among it)
-# comes out as stored, what the samples are to print is what the answers give, and on generated cases the Rust and the model of the limits do not differ.
+# comes out as stored, what the samples are to print is what the answers give, and on generated cases and sittings the Rust and the model of the limits do not differ.
 # It writes nothing outside oracle/target.
 set -euo pipefail
 cd "$(dirname "${BASH_SOURCE[0]}")"
@@ -39,6 +39,17 @@ for damaged in 0 100; do
   generated=$((generated + $(wc -l < target/answers.txt)))
 done
 
+# Generated sittings, likewise: each is answered by one Finder of the Rust, whose steps go on.
+sittings=target/sittings.txt
+"$oracle" gen --sittings --seed 3 --count 1000 > "$sittings" 2> target/outcomes.txt
+"$oracle" gen --sittings --seed 3 --count 1000 2> target/again.txt | cmp - "$sittings"
+"$oracle" --limits < "$sittings" > target/answers.txt
+if grep -n -E '(^| ; )(differ|crash|error)' target/answers.txt; then
+  echo "oracle: these answers to $sittings are wrong" >&2
+  exit 1
+fi
+seated=$(awk '/ in all$/ { print $1 }' target/outcomes.txt)
+
 # The smallest known input on which the Rust takes too long (docs/DIFFERENCES.md); document 01 gives 15.
 expect() {
   local answer
@@ -53,4 +64,4 @@ slow="impl 0 0 0 0 61 1 50 35 57 41 0 0 0 0 0 0 0 0 0 0 0 18 0 0 0 25 1 0 0 0 0 
 expect timeout "$slow" ""
 expect "no 15 17" "$slow" --limits
 
-echo "oracle: 6 files unchanged, $stored stored cases as stored ($pinned pinned), $samples as the Rust answers them, $generated generated cases without a difference"
+echo "oracle: 6 files unchanged, $stored stored cases as stored ($pinned pinned), $samples as the Rust answers them, $generated generated cases and $seated calls of generated sittings without a difference"

@@ -1,7 +1,7 @@
 //! The port beside the Rust: how a case of the oracle is run by the port, and what its buffers must hold after.
 
 use oracle::case::{Answer, Asked, Call};
-use vine_finder::{ANSWER_WORDS, Outcome, find_flex, find_impl, workspace_words};
+use vine_finder::{ANSWER_WORDS, Outcome, Sitting, find_flex, find_impl, workspace_words};
 
 pub mod classes;
 pub mod stack;
@@ -33,6 +33,19 @@ impl Default for Buffers {
 impl Buffers {
   /// Runs the port on a case, from noise, and says what it gave and what is wrong with the buffers after it.
   pub fn run(&mut self, call: &Call) -> (Answer, Option<String>) {
+    self.run_by(call, ask)
+  }
+
+  /// The same for a call in a sitting; the call's own count is not looked at.
+  pub fn run_in(&mut self, sitting: &mut Sitting, call: &Call) -> (Answer, Option<String>) {
+    self.run_by(call, |call, answer, workspace| ask_in(sitting, call, answer, workspace))
+  }
+
+  fn run_by(
+    &mut self,
+    call: &Call,
+    ask: impl FnOnce(&Call, &mut [u32], &mut [u32]) -> Outcome,
+  ) -> (Answer, Option<String>) {
     let answer_length = lent(call.answer_words, ANSWER_WORDS);
     let work_length = lent(call.work_words, workspace_words());
     self.answer.copy_from_slice(&self.noise[..ANSWER_WORDS + TAIL]);
@@ -85,5 +98,21 @@ pub fn ask(call: &Call, answer: &mut [u32], workspace: &mut [u32]) -> Outcome {
       find_impl(sheet, question, source, generics, basic, answer, workspace, count)
     }
     Asked::Flex => find_flex(sheet, question, source, generics, answer, workspace, count),
+  }
+}
+
+/// The same in a sitting, from what is spent there.
+pub fn ask_in(
+  sitting: &mut Sitting,
+  call: &Call,
+  answer: &mut [u32],
+  workspace: &mut [u32],
+) -> Outcome {
+  let Call { source, generics, ref sheet, ref question, .. } = *call;
+  match call.asked {
+    Asked::Impl { basic } => {
+      sitting.find_impl(sheet, question, source, generics, basic, answer, workspace)
+    }
+    Asked::Flex => sitting.find_flex(sheet, question, source, generics, answer, workspace),
   }
 }

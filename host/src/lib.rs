@@ -1,11 +1,13 @@
 //! Vine's impl finder for Rust: safe calls over the C interface of the port (include/vine_finder.h).
 //!
 //! [`find_impl`] and [`find_flex`] borrow all buffers. A [`Finder`] owns an answer buffer and a workspace, and lends them
-//! to each of its calls.
+//! to each of its calls. A [`Sitting`] holds the steps spent, which go on from call to call.
 
 mod answer;
+mod sitting;
 
 pub use answer::{Answer, Tree, TreeKind};
+pub use sitting::Sitting;
 
 /// The least length of an answer buffer, in words.
 pub const ANSWER_WORDS: usize = 10_240;

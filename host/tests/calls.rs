@@ -1,7 +1,7 @@
 //! The calls as Rust makes them: document 01's Pin, refusals, short buffers, what the buffers hold after.
 
 use vine_finder::{
-  ANSWER_WORDS, Finder, Outcome, Refusal, TreeKind, find_flex, find_impl, workspace_words,
+  ANSWER_WORDS, Finder, Outcome, Refusal, Sitting, TreeKind, find_flex, find_impl, workspace_words,
 };
 
 const PIN: [u32; 68] = [
@@ -45,6 +45,23 @@ fn the_step_limit_holds_between_calls() {
   assert_eq!(finder.find_impl(&PIN, &QUESTION, 1, 0, 0, 1_999).unwrap().count(), 2_000);
   let refused = finder.find_impl(&PIN, &QUESTION, 1, 0, 0, 2_000);
   assert_eq!(refused.unwrap_err(), Refusal { number: 18, count: 2_001 });
+}
+
+#[test]
+fn a_sitting_goes_on_from_call_to_call() {
+  let (mut answer, mut workspace) = (vec![NOISE; ANSWER_WORDS], vec![NOISE; workspace_words()]);
+  let mut sitting = Sitting { spent: 1_998 };
+  let mut ask = |sitting: &mut Sitting, source, question: &[u32]| {
+    sitting.find_impl(&PIN, question, source, 0, 0, &mut answer, &mut workspace)
+  };
+  assert_eq!(ask(&mut sitting, 1, &QUESTION), Outcome::Answered { count: 1_999 });
+  assert_eq!(ask(&mut sitting, 1, &[3, 1]), Outcome::Refused { number: 2, count: 1_999 });
+  assert_eq!(ask(&mut sitting, 0, &QUESTION), Outcome::Refused { number: 20, count: 2_000 });
+  assert_eq!(ask(&mut sitting, 1, &QUESTION), Outcome::Refused { number: 18, count: 2_001 });
+  assert_eq!(sitting.spent, 2_001);
+  let flex = sitting.find_flex(&PIN, &[3, 0, 0, 0, 4, 0, 0, 0], 1, 0, &mut answer, &mut workspace);
+  assert_eq!(flex, Outcome::Refused { number: 22, count: 2_001 });
+  assert_eq!((&answer[..16], answer[16]), (&ANSWER[..], NOISE));
 }
 
 #[test]

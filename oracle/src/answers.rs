@@ -7,6 +7,7 @@ use crate::{
   checks::{check_call, check_list},
   idx::most_types,
   model, rust,
+  sittings::{self, BETWEEN, Sitting},
 };
 
 #[derive(Debug, Clone)]
@@ -91,6 +92,12 @@ pub fn take_flag(args: &mut Vec<String>, name: &str) -> bool {
 }
 
 pub fn answer_line(line: &str, options: &Options) -> String {
+  if Sitting::is_line(line) {
+    return match Sitting::parse(line) {
+      Ok(sitting) => sittings::answers(&sitting, options).join(BETWEEN),
+      Err(why) => format!("error {why}"),
+    };
+  }
   match Case::parse(line) {
     Ok(case) => answer(&case, options),
     Err(why) => format!("error {why}"),
@@ -149,11 +156,16 @@ fn of_both(case: &Case, limit: u32) -> String {
     return modelled.to_string();
   }
   let answer = of_rust(case, limit);
+  differs(&answer, &modelled).unwrap_or_else(|| answer.to_string())
+}
+
+/// What is said where the Rust's answer, just given, is not the model's, or a type table of it has passed 256 nodes.
+pub(crate) fn differs(answer: &Answer, modelled: &Answer) -> Option<String> {
   if answer != modelled {
-    format!("differ {answer} | {modelled}")
-  } else if matches!(case, Case::Call(_)) && most_types() > model::MOST_NODES {
-    format!("differ {answer} | no 14: a type table has {} nodes", most_types())
+    Some(format!("differ {answer} | {modelled}"))
+  } else if !matches!(answer, Answer::List(_)) && most_types() > model::MOST_NODES {
+    Some(format!("differ {answer} | no 14: a type table has {} nodes", most_types()))
   } else {
-    answer.to_string()
+    None
   }
 }

@@ -48,7 +48,7 @@ pub enum Answer {
 
 impl Case {
   pub fn parse(line: &str) -> Result<Case, String> {
-    let mut fields = Fields(line.split_ascii_whitespace());
+    let mut fields = Fields::of(line);
     let mut form = fields.word()?;
     let (mut answer_words, mut work_words) = (ANSWER_WORDS, WORK_WORDS);
     if form == "call" {
@@ -77,27 +77,35 @@ impl Case {
       }
       _ => return Err(format!("unknown form {form}")),
     };
-    match fields.0.next() {
-      Some(word) => Err(format!("{word} past the end")),
-      None => Ok(case),
-    }
+    fields.end()?;
+    Ok(case)
   }
 }
 
-struct Fields<'a>(std::str::SplitAsciiWhitespace<'a>);
+/// The fields of a line.
+pub(crate) struct Fields<'a>(std::str::SplitAsciiWhitespace<'a>);
 
 impl<'a> Fields<'a> {
-  fn word(&mut self) -> Result<&'a str, String> {
+  pub(crate) fn of(line: &'a str) -> Fields<'a> {
+    Fields(line.split_ascii_whitespace())
+  }
+
+  pub(crate) fn word(&mut self) -> Result<&'a str, String> {
     self.0.next().ok_or("a field is missing".into())
   }
 
-  fn number(&mut self) -> Result<u32, String> {
+  pub(crate) fn number(&mut self) -> Result<u32, String> {
     let word = self.word()?;
     word.parse().map_err(|_| format!("{word} is no u32"))
   }
 
-  fn list(&mut self) -> Result<Vec<u32>, String> {
+  /// A length, and as many numbers.
+  pub(crate) fn list(&mut self) -> Result<Vec<u32>, String> {
     (0..self.number()?).map(|_| self.number()).collect()
+  }
+
+  pub(crate) fn end(&mut self) -> Result<(), String> {
+    self.0.next().map_or(Ok(()), |word| Err(format!("{word} past the end")))
   }
 }
 
@@ -126,9 +134,19 @@ impl Display for Case {
   }
 }
 
-fn write_list(f: &mut fmt::Formatter<'_>, words: &[u32]) -> fmt::Result {
+pub(crate) fn write_list(f: &mut fmt::Formatter<'_>, words: &[u32]) -> fmt::Result {
   write!(f, " {}", words.len())?;
   words.iter().try_for_each(|word| write!(f, " {word}"))
+}
+
+impl Answer {
+  /// The count reached; 0 for a listing.
+  pub fn count(&self) -> u32 {
+    match self {
+      Answer::Ok(count, _) | Answer::No(_, count) | Answer::Assert(count, _) => *count,
+      Answer::List(_) => 0,
+    }
+  }
 }
 
 impl Display for Answer {

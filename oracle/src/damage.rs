@@ -43,7 +43,7 @@ pub fn case(seed: u64, index: u64, work: u32) -> Case {
 }
 
 /// Changes a call so that the check of that number may refuse it.
-fn damage(call: &mut Call, number: u32, rng: &mut Rng) {
+pub(crate) fn damage(call: &mut Call, number: u32, rng: &mut Rng) {
   match number {
     1 => resize(&mut call.sheet, 16, 4_096, rng),
     2 => resize(&mut call.question, 3, 1_024, rng),

@@ -42,7 +42,7 @@ fn rein_in(call: &mut Call, rng: &mut Rng) {
 
 type Theme = fn(&mut Rng) -> Call;
 
-fn random_call(rng: &mut Rng) -> Call {
+pub(crate) fn random_call(rng: &mut Rng) -> Call {
   let themes: [(usize, Theme); 16] = [
     (34, impl_of_a_world),
     (20, flex_of_a_world),
@@ -72,29 +72,12 @@ enum Question {
 }
 
 /// Lays a sheet and a question out, and adds the numbers.
-fn call(world: World<'_>, mut asking: Asking, question: Question, generics: u32) -> Call {
+fn call(world: World<'_>, mut asking: Asking, mut question: Question, generics: u32) -> Call {
   let World { rng, sheet, source } = world;
-  if rng.chance(15) {
-    asking.table.add(kind::UNKNOWN, 0, &[]);
-  }
-  let mut question = question;
-  shuffle_nodes(rng, &mut asking.table, |change| match &mut question {
-    Question::Impl(query) => change(&mut query.args),
-    Question::Flex(word) => {
-      let mut words = vec![*word];
-      change(&mut words);
-      *word = words[0];
-    }
-  });
+  stir(rng, &mut asking, &mut question);
   let style = Style::random(rng);
   let words = sheet.words(style, rng);
-  let (asked, question) = match &question {
-    Question::Impl(query) => {
-      let basic = u32::from(rng.chance(6));
-      (Asked::Impl { basic }, impl_question(&asking.table, query, style, rng))
-    }
-    Question::Flex(word) => (Asked::Flex, flex_question(&asking.table, *word, style, rng)),
-  };
+  let (asked, question) = written(rng, &asking, &question, style);
   Call {
     asked,
     source,
@@ -105,6 +88,66 @@ fn call(world: World<'_>, mut asking: Asking, question: Question, generics: u32)
     answer_words: ANSWER_WORDS,
     work_words: WORK_WORDS,
   }
+}
+
+/// Adds a node that nothing names to some questions, and puts the nodes of some in another order.
+fn stir(rng: &mut Rng, asking: &mut Asking, question: &mut Question) {
+  if rng.chance(15) {
+    asking.table.add(kind::UNKNOWN, 0, &[]);
+  }
+  shuffle_nodes(rng, &mut asking.table, |change| match question {
+    Question::Impl(query) => change(&mut query.args),
+    Question::Flex(word) => {
+      let mut words = vec![*word];
+      change(&mut words);
+      *word = words[0];
+    }
+  });
+}
+
+/// The form and the words of a question.
+fn written(rng: &mut Rng, asking: &Asking, question: &Question, style: Style) -> (Asked, Vec<u32>) {
+  match question {
+    Question::Impl(query) => {
+      let basic = u32::from(rng.chance(6));
+      (Asked::Impl { basic }, impl_question(&asking.table, query, style, rng))
+    }
+    Question::Flex(word) => (Asked::Flex, flex_question(&asking.table, *word, style, rng)),
+  }
+}
+
+/// Several questions in one world, impl and flex: the sheet's words, the source and the generics, and the questions as calls.
+pub(crate) fn calls_of_a_world(rng: &mut Rng, many: usize) -> Vec<Call> {
+  let mut world = World::new(rng);
+  world.add_flex_traits();
+  for _ in 0..world.rng.range(1, 6) {
+    let trait_ = world.rng.below(world.sheet.traits.len()) as u32;
+    world.add_impl(trait_);
+  }
+  world.set_duplicate_and_erase();
+  let generics = world.rng.below(world.sheet.generics.len());
+  let asked = Vec::from_iter((0..many).map(|_| match world.rng.chance(50) {
+    true => impl_asked(&mut world, generics),
+    false => flex_asked(&mut world, generics),
+  }));
+  let World { rng, sheet, source } = world;
+  let style = Style::random(rng);
+  let words = sheet.words(style, rng);
+  let calls = asked.into_iter().map(|(mut asking, mut question)| {
+    stir(rng, &mut asking, &mut question);
+    let (asked, question) = written(rng, &asking, &question, style);
+    Call {
+      asked,
+      source,
+      generics: generics as u32,
+      count: 0,
+      sheet: words.clone(),
+      question,
+      answer_words: ANSWER_WORDS,
+      work_words: WORK_WORDS,
+    }
+  });
+  calls.collect()
 }
 
 /// A start count: most often 0, else near the limit, below it or far above.
@@ -129,13 +172,19 @@ fn impl_of_a_world(rng: &mut Rng) -> Call {
   }
   world.set_duplicate_and_erase();
   let generics = world.rng.below(world.sheet.generics.len());
+  let (asking, question) = impl_asked(&mut world, generics);
+  call(world, asking, question, generics as u32)
+}
+
+/// An impl question in a world, from generics of it.
+fn impl_asked(world: &mut World<'_>, generics: usize) -> (Asking, Question) {
   let mut asking =
     Asking { params: world.sheet.generics[generics].type_params, ..Asking::default() };
-  let query = ask(&mut world, &mut asking, generics);
+  let query = ask(world, &mut asking, generics);
   if world.rng.chance(35) {
     world.disturb(&mut asking);
   }
-  call(world, asking, Question::Impl(query), generics as u32)
+  (asking, Question::Impl(query))
 }
 
 /// A question that some impl fits, one of the generics' own parameters, or a random one.
@@ -176,6 +225,13 @@ fn flex_of_a_world(rng: &mut Rng) -> Call {
   }
   world.set_duplicate_and_erase();
   let generics = world.rng.below(world.sheet.generics.len());
+  let (asking, question) = flex_asked(&mut world, generics);
+  call(world, asking, question, generics as u32)
+}
+
+/// A flex question in a world whose last traits are Fork and Drop, from generics of it.
+fn flex_asked(world: &mut World<'_>, generics: usize) -> (Asking, Question) {
+  let traits = world.sheet.traits.len() as u32;
   let mut asking =
     Asking { params: world.sheet.generics[generics].type_params, ..Asking::default() };
   let word = match world.rng.weighted(&[60, 40]) {
@@ -192,7 +248,7 @@ fn flex_of_a_world(rng: &mut Rng) -> Call {
     world.disturb(&mut asking);
   }
   let word = word ^ u32::from(world.rng.chance(15));
-  call(world, asking, Question::Flex(word), generics as u32)
+  (asking, Question::Flex(word))
 }
 
 /// One impl and a question much like its signature: shared types, unknowns and inversions on both sides.

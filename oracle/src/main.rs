@@ -10,17 +10,21 @@ use std::{
 use oracle::{
   SOURCES,
   answers::{self, Options, take_flag, take_number},
-  damage, generate, samples, stored,
+  damage, generate, samples, sitting_generate, sitting_stored,
+  sittings::{self, BETWEEN},
+  stored,
   tally::Tally,
   worker,
 };
 
 const USAGE: &str = "\
 oracle [--limits | --model] [--stats] answers the case lines on standard input
-oracle gen [--seed N] [--count K] [--damaged PERCENT]
-                                     prints case lines, and how often each outcome occurred
+oracle gen [--seed N] [--count K] [--damaged PERCENT] [--sittings]
+                                     prints case lines, and how often each outcome occurred;
+                                     or lines of sittings, several calls in turn
 oracle source FILE                   prints a file of docs/src/vine/src as it is compiled here
-oracle stored make|check DIRECTORY   makes the stored list, or compares it with what is said today
+oracle stored make|check DIRECTORY   makes the stored list, or compares it with what is said today;
+oracle stored sittings DIRECTORY     makes its sittings alone
 oracle samples make|check DIRECTORY  the same for what `ask` is to print for the samples
 options: --limit L (step limit, at most 2000), --workspace W (the constant), --timeout-ms T,
          --max (tells the most nodes of a type table behind the Rust's answer)";
@@ -48,6 +52,9 @@ fn run(mut args: Vec<String>) -> Result<(), String> {
     Some("stored") => match &args[1..] {
       [make, directory] if make == "make" => {
         stored::make(Path::new(directory), &options).map_err(told)
+      }
+      [sittings, directory] if sittings == "sittings" => {
+        sitting_stored::make(Path::new(directory), &options).map_err(told)
       }
       [check, directory] if check == "check" => {
         stored::check(Path::new(directory), &options).map(|tally| println!("{tally}"))
@@ -86,7 +93,7 @@ fn answer_all(options: &Options, stats: bool) -> io::Result<()> {
   let mut out = BufWriter::new(io::stdout().lock());
   for line in io::stdin().lock().lines() {
     let answer = worker.answer(&line?)?;
-    tally.add(&answer);
+    answer.split(BETWEEN).for_each(|answer| tally.add(answer));
     writeln!(out, "{answer}")?;
   }
   out.flush()?;
@@ -101,15 +108,18 @@ struct Generated {
   seed: u64,
   count: u64,
   damaged: u64,
+  sittings: bool,
 }
 
 impl Generated {
   fn take(args: &mut Vec<String>) -> Result<Generated, String> {
+    let sittings = take_flag(args, "--sittings");
     let mut number = |name, otherwise| take_number(args, name).map(|n| n.unwrap_or(otherwise));
     Ok(Generated {
       seed: number("--seed", 1)?,
       count: number("--count", 1_000)?,
       damaged: number("--damaged", 0)?,
+      sittings,
     })
   }
 }
@@ -119,6 +129,13 @@ fn generate_all(from: &Generated, options: &Options) -> io::Result<()> {
   let mut tally = Tally::default();
   let mut out = BufWriter::new(io::stdout().lock());
   for index in 0..from.count {
+    if from.sittings {
+      let sitting = sitting_generate::sitting(from.seed, index);
+      writeln!(out, "{sitting}")?;
+      let answers = sittings::of_document(&sitting, options);
+      answers.iter().for_each(|answer| tally.add(&answer.to_string()));
+      continue;
+    }
     let case = if index * from.damaged % 100 < from.damaged {
       damage::case(from.seed, index, options.work)
     } else {

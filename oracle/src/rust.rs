@@ -1,4 +1,4 @@
-//! Runs the Rust on a case that passes checks 1 to 13.
+//! Runs the Rust on calls that pass checks 1 to 13: one, or several in turn by one `Finder`.
 
 use std::{
   any::Any,
@@ -33,25 +33,35 @@ pub fn quiet_panics() {
 }
 
 /// The Rust's answer to an impl or flex call under a step limit of at most 2,000.
+pub fn call(call: &Call, limit: u32) -> Answer {
+  seated(std::slice::from_ref(call), limit, |_| true, |mut seat| seat.ask(0))
+}
+
+/// One `Finder` for calls on one sheet from one source and generics: its steps begin at the first call's count and go on
+/// from call to call. The sheet passes its checks; `passes` tells whether a call's question does, and may be read.
 ///
 /// The limit is a constant of finder.rs. Counts only rise by 1 and are only compared with it, so a run from a higher
-/// count ends as one under a lower limit: the count is shifted by the difference before the call, and back after it.
-pub fn call(call: &Call, limit: u32) -> Answer {
+/// count ends as one under a lower limit: the count is shifted by the difference before the calls, and back after each.
+pub fn seated<T>(
+  calls: &[Call],
+  limit: u32,
+  passes: impl Fn(&Call) -> bool,
+  run: impl FnOnce(Seat<'_>) -> T,
+) -> T {
   let shift = STEPS_LIMIT - limit;
-  let mut setting = Setting::new(&call.sheet);
-  let types = setting.read_table(&call.question, call.question[0]);
+  let first = &calls[0];
+  let mut setting = Setting::new(&first.sheet);
+  let tables = Vec::from_iter(
+    calls
+      .iter()
+      .map(|call| passes(call).then(|| setting.read_table(&call.question, call.question[0]))),
+  );
   let mut cache = FinderCache::default();
   cache.candidates.build_since(&setting.chart, &setting.sigs);
   let mut diags = Diags::default();
-  let mut finder = finder(&setting, &mut diags, &mut cache, call.source, call.generics);
-  finder.steps = call.count + shift;
-  // From here on types are pushed by the Rust alone.
-  forget_most_types();
-  let run = Run { setting: &setting, call, nodes: types.node_count(), shift };
-  match call.asked {
-    Asked::Impl { basic } => run.find_impl(finder, types, basic == 1),
-    Asked::Flex => run.find_flex(finder, types),
-  }
+  let mut finder = finder(&setting, &mut diags, &mut cache, first.source, first.generics);
+  finder.steps = first.count + shift;
+  run(Seat { setting: &setting, finder, calls, tables, shift })
 }
 
 /// The impls that each definition's general set admits, a line for each.
@@ -80,58 +90,85 @@ fn finder<'a>(
   Finder::new(&setting.chart, &setting.sigs, diags, cache, source, generics, Span::NONE)
 }
 
-struct Run<'a> {
+/// A finder and the calls that it is asked in turn, with the questions' tables.
+pub struct Seat<'a> {
   setting: &'a Setting,
-  call: &'a Call,
-  nodes: usize,
+  finder: Finder<'a>,
+  calls: &'a [Call],
+  tables: Vec<Option<Types>>,
   shift: u32,
 }
 
-impl Run<'_> {
-  fn find_impl(&self, mut finder: Finder<'_>, mut types: Types, basic: bool) -> Answer {
-    let query = read_impl_type(&self.call.question, self.call.question[1], self.call.question[2]);
+impl Seat<'_> {
+  /// The count of steps as the last call left it.
+  pub fn count(&self) -> u32 {
+    self.finder.steps - self.shift
+  }
+
+  /// Puts the count to what document 01 gives where a limit that the Rust does not have has ended a call.
+  pub fn set_count(&mut self, count: u32) {
+    self.finder.steps = count + self.shift;
+  }
+
+  /// Asks call n, from the count that the last one left.
+  pub fn ask(&mut self, n: usize) -> Answer {
+    let types = self.tables[n].take().expect("a call that passes its checks, asked once");
+    // From here on types are pushed by the Rust alone.
+    forget_most_types();
+    match self.calls[n].asked {
+      Asked::Impl { basic } => self.find_impl(&self.calls[n].question, types, basic == 1),
+      Asked::Flex => self.find_flex(&self.calls[n].question, types),
+    }
+  }
+
+  fn find_impl(&mut self, question: &[u32], mut types: Types, basic: bool) -> Answer {
+    let query = read_impl_type(question, question[1], question[2]);
     let asked = types.clone();
-    let start = finder.steps;
-    let ended = catch(|| finder.try_find_impl(&mut types, &query, basic));
-    let count = finder.steps - self.shift;
+    let start = self.finder.steps;
+    let ended = catch(|| self.finder.try_find_impl(&mut types, &query, basic));
+    let count = self.count();
     match ended {
       Ok(Ok(tree)) => {
         let found = Found { fork: Some(plain_tree(&tree)), ..Found::default() };
-        Answer::Ok(count, self.pack(&found, &types))
+        Answer::Ok(count, self.pack(&found, &types, asked.node_count()))
       }
       Ok(Err(diag)) => Answer::No(refusal(&diag), count),
       Err(ClosingAssertion) => {
-        finder.steps = start;
-        let found = impl_again(&mut finder, &asked, &query, basic);
-        Answer::Assert(count, self.pack(&found, &types))
+        self.finder.steps = start;
+        let found = impl_again(&mut self.finder, &asked, &query, basic);
+        assert_eq!(self.count(), count, "the search again spends other steps");
+        Answer::Assert(count, self.pack(&found, &types, asked.node_count()))
       }
     }
   }
 
-  fn find_flex(&self, mut finder: Finder<'_>, mut types: Types) -> Answer {
-    let ty = Type::from_word(self.call.question[1]);
+  fn find_flex(&mut self, question: &[u32], mut types: Types) -> Answer {
+    let ty = Type::from_word(question[1]);
     let asked = types.clone();
-    let start = finder.steps;
-    let ended = catch(|| finder.find_flex(&mut types, ty));
-    let count = finder.steps - self.shift;
+    let start = self.finder.steps;
+    let told = self.finder.diags.errors.len();
+    let ended = catch(|| self.finder.find_flex(&mut types, ty));
+    let count = self.count();
     match ended {
       Ok(Ok(FlexImpls { inv, fork, drop, self_inverse })) => {
         let [fork, drop] = [fork, drop].map(|tree| tree.as_ref().map(plain_tree));
         let found = Found { fork, drop, inverted: inv.0, self_inverse };
-        Answer::Ok(count, self.pack(&found, &types))
+        Answer::Ok(count, self.pack(&found, &types, asked.node_count()))
       }
       // An ambiguous question is told of first; what follows it only says that an error was told.
-      Ok(Err(_)) => Answer::No(refusal(&finder.diags.errors[0]), count),
+      Ok(Err(_)) => Answer::No(refusal(&self.finder.diags.errors[told]), count),
       Err(ClosingAssertion) => {
-        finder.steps = start;
-        let found = flex_again(&mut finder, &asked, ty);
-        Answer::Assert(count, self.pack(&found, &types))
+        self.finder.steps = start;
+        let found = flex_again(&mut self.finder, &asked, ty);
+        assert_eq!(self.count(), count, "the searches again spend other steps");
+        Answer::Assert(count, self.pack(&found, &types, asked.node_count()))
       }
     }
   }
 
-  fn pack(&self, found: &Found, types: &Types) -> Vec<u32> {
-    let nodes = 0..self.nodes as u32;
+  /// The answer's words: what was found, and what the question's nodes have become.
+  fn pack(&self, found: &Found, types: &Types, nodes: usize) -> Vec<u32> {
+    let nodes = 0..nodes as u32;
     let TypeCtx { types, inner } =
       types.export(|t| nodes.map(|n| t.transfer(&Type::from_word(2 * n))).collect::<Vec<_>>());
     let nodes = types.nodes().map(|node| self.plain_node(node)).collect();

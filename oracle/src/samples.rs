@@ -1,7 +1,7 @@
 //! Ours: what `ask` is to print for the samples, from the oracle's own answers.
 //!
 //! A sample is a directory with a sheet, a question, the arguments behind them and what is printed: `sheet`, `question`,
-//! `arguments`, `expected`.
+//! `arguments`, `expected`. The arguments of a sitting name the files of its questions.
 
 use std::{fmt::Write, fs, path::Path};
 
@@ -10,6 +10,7 @@ use crate::{
   case::{ANSWER_WORDS, Asked, Call, Case, WORK_WORDS},
   rust,
   sheet::chain,
+  sittings::{self, Question, Sitting},
 };
 
 /// Writes what each sample is to print, or compares it; says how many there are.
@@ -45,9 +46,20 @@ fn printed(sample: &Path, options: &Options) -> Result<String, String> {
   let arguments = read("arguments")?;
   let mut arguments: Vec<&str> = arguments.split_ascii_whitespace().collect();
   let raw = arguments.pop_if(|last| *last == "raw").is_some();
+  let options = Options { limits: true, ..options.clone() };
+  if let ["sitting", source, generics, count, questions @ ..] = &arguments[..] {
+    let sitting = Sitting {
+      source: number(source)?,
+      generics: number(generics)?,
+      count: number(count)?,
+      sheet: words(&read("sheet")?)?,
+      questions: questions_of(questions, read)?,
+    };
+    return Ok(printed_in_turn(&sitting, raw, &options));
+  }
   let asked = arguments.first().copied().unwrap_or_default();
-  let numbers = arguments[1..].iter().map(|word| word.parse().map_err(|_| format!("{word}?")));
-  let numbers: Vec<u32> = numbers.collect::<Result<_, String>>()?;
+  let numbers: Vec<u32> =
+    arguments[1..].iter().map(|word| number(word)).collect::<Result<_, _>>()?;
   let (asked, count) = match (asked, &numbers[..]) {
     ("impl", &[_, _, basic, count]) => (Asked::Impl { basic }, count),
     ("flex", &[_, _, count]) => (Asked::Flex, count),
@@ -63,9 +75,51 @@ fn printed(sample: &Path, options: &Options) -> Result<String, String> {
     answer_words: ANSWER_WORDS,
     work_words: WORK_WORDS,
   };
-  let options = Options { limits: true, ..options.clone() };
   let line = answers::answer(&Case::Call(call.clone()), &options);
   Ok(rendered(&call, &line, raw))
+}
+
+fn number(word: &str) -> Result<u32, String> {
+  word.parse().map_err(|_| format!("{word}?"))
+}
+
+/// The questions that the arguments of a sitting name: `impl QUESTION BASIC` or `flex QUESTION`, any number of them.
+fn questions_of(
+  mut arguments: &[&str],
+  read: impl Fn(&str) -> Result<String, String>,
+) -> Result<Vec<Question>, String> {
+  let mut questions = Vec::new();
+  while !arguments.is_empty() {
+    let (asked, file, rest) = match arguments {
+      ["impl", file, basic, rest @ ..] => (Asked::Impl { basic: number(basic)? }, file, rest),
+      ["flex", file, rest @ ..] => (Asked::Flex, file, rest),
+      _ => return Err(format!("{}?", arguments.join(" "))),
+    };
+    let words = words(&read(file)?)?;
+    questions.push(Question { asked, words, answer_words: ANSWER_WORDS, work_words: WORK_WORDS });
+    arguments = rest;
+  }
+  Ok(questions)
+}
+
+/// What is printed for a sitting: each question's number, what its call gives, and the steps spent so far.
+fn printed_in_turn(sitting: &Sitting, raw: bool, options: &Options) -> String {
+  let mut out = String::new();
+  let mut count = sitting.count;
+  let answers = sittings::answers(sitting, options);
+  for (n, (question, line)) in sitting.questions.iter().zip(answers).enumerate() {
+    out += &format!("question {}\n", n + 1);
+    out += &rendered(&sitting.call(question, count), &line, raw);
+    count = count_of(&line);
+    out += &format!("spent: {count}\n");
+  }
+  out
+}
+
+/// The count of an answer line.
+fn count_of(line: &str) -> u32 {
+  let place = if line.starts_with("no ") { 2 } else { 1 };
+  line.split(' ').nth(place).and_then(|word| word.parse().ok()).expect("an answer")
 }
 
 /// Decimal words; `|` stands between words, and `#` begins a comment.

@@ -11,6 +11,7 @@ use crate::{
   edges::{self, Edge},
   generate,
   model::MOST_NODES,
+  sitting_stored,
   tally::{Tally, outcome},
   type_cases::{self, TypeCase},
   type_generate,
@@ -128,7 +129,8 @@ pub fn make(directory: &Path, options: &Options) -> io::Result<()> {
     fs::write(directory.join(block.name).with_extension("bin"), to_bytes(&block.stored))?;
     println!("{:>8} {}", block.stored.len(), block.name);
   }
-  make_types(directory)
+  make_types(directory)?;
+  sitting_stored::make(directory, options)
 }
 
 /// The cases of the type table.
@@ -321,6 +323,7 @@ pub fn check(directory: &Path, options: &Options) -> Result<Tally, String> {
     check_stored(name, &mut oracle, &read(directory, name)?, &mut tally)?;
   }
   check_types(directory, &mut tally)?;
+  sitting_stored::check(directory, options, &mut tally)?;
   Ok(tally)
 }
 

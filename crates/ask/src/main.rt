@@ -1,167 +1,47 @@
-// Asks one question, for a person: a sheet and a question from files of decimal words, and what the call gives as text.
+// Asks questions, for a person: a sheet and questions from files of decimal words, and what the calls give as text.
 //
 //     ask impl SHEET QUESTION SOURCE GENERICS BASIC COUNT [raw]
 //     ask flex SHEET QUESTION SOURCE GENERICS COUNT [raw]
+//     ask sitting SHEET SOURCE GENERICS COUNT (impl QUESTION BASIC | flex QUESTION).. [raw]
 //
-// The workspace is lent from main's own frame.
+// Every question is asked in a sitting, by the spent count that it lends: it goes on from one question to the next. The workspace is lent from main's own frame.
+mod arguments;
 mod files;
 mod print;
 
-use libc::STDERR_FILENO;
+use arguments::Form;
+use arguments::Given;
+use arguments::Numbers;
+use arguments::Turn;
 ghost use Prim.Native.Nat.{_≤_};
 
-// Which call is asked for.
-enum Asked {
-    Impl,
-    Flex,
-    Neither,
-}
-
-// The numbers of a call, behind the files; `raw` asks for the answer's words too.
-struct Numbers {
-    source: u32,
-    generics: u32,
-    basic: u32,
-    count: u32,
-    raw: bool,
-}
-
-enum Given {
-    All { numbers: Numbers },
-    Wrong,
-}
-
-fn usage() {
-    io::write_all(
-        STDERR_FILENO,
-        b"usage: ask impl SHEET QUESTION SOURCE GENERICS BASIC COUNT [raw]\n",
-    );
-    io::write_all(
-        STDERR_FILENO,
-        b"       ask flex SHEET QUESTION SOURCE GENERICS COUNT [raw]\n",
-    );
-    io::write_all(
-        STDERR_FILENO,
-        b"SHEET and QUESTION are files of decimal words; spaces, line ends and | stand between words,\n",
-    );
-    io::write_all(
-        STDERR_FILENO,
-        b"and # begins a comment. raw prints the answer's words too.\n",
-    );
-}
-
-// Whether argument k is a text.
-fn is_arg(k: usize, text: &[u8]) -> bool {
-    let mut arg = io::buffer();
-    let n = os::arg(k, &mut arg);
-    same(&arg[..n], text)
-}
-
-// Whether two texts are equal.
-fn same(a: &[u8], b: &[u8]) -> bool {
-    if a.len() != b.len() {
-        return false;
-    }
-    let mut i = 0;
-    while i < a.len() {
-        if i < b.len() {
-            if a[i] != b[i] {
-                return false;
-            }
-        }
-        i += 1;
-    }
-    true
-}
-
-fn call_asked() -> Asked {
-    if is_arg(1, b"impl") {
-        return Asked::Impl;
-    }
-    if is_arg(1, b"flex") {
-        return Asked::Flex;
-    }
-    Asked::Neither
-}
-
-// Argument k as a number.
-fn number_arg(k: usize) -> notation::read::Parsed {
-    let mut arg = io::buffer();
-    let n = os::arg(k, &mut arg);
-    notation::read::number(&arg[..n])
-}
-
-// Which argument is the start count.
-fn last_number(flex: bool) -> usize
-    ensures { λ r. ⌜ r ≤ 7 ⌝ }
-{
-    if flex { 6 } else { 7 }
-}
-
-// The numbers of an impl call, or of a flex call, which has no basic flag.
-fn numbers_given(flex: bool) -> Given {
-    let last = last_number(flex);
-    let n = os::arg_count();
-    let raw = n == last + 2;
-    if n != last + 1 && !raw {
-        return Given::Wrong;
-    }
-    if raw && !is_arg(last + 1, b"raw") {
-        return Given::Wrong;
-    }
-    let notation::read::Parsed::Word(source) = number_arg(4) else {
-        return Given::Wrong;
-    };
-    let notation::read::Parsed::Word(generics) = number_arg(5) else {
-        return Given::Wrong;
-    };
-    let notation::read::Parsed::Word(basic) = number_arg(6) else {
-        return Given::Wrong;
-    };
-    let notation::read::Parsed::Word(count) = number_arg(last) else {
-        return Given::Wrong;
-    };
-    Given::All {
-        numbers: Numbers {
-            source: source,
-            generics: generics,
-            basic: basic,
-            count: count,
-            raw: raw,
-        },
-    }
-}
-
-// The call that is asked for.
+// The call that is asked for: its number, 0 where it is answered.
 fn call(
-    flex: bool,
     k: Numbers,
+    form: Form,
     s: &[u32],
     q: &[u32],
     answer: &mut [u32],
     ws: &mut [u32],
-) -> calls::Outcome {
-    if flex {
-        return calls::find_flex(s, q, k.source, k.generics, answer, ws, k.count);
+    spent: &mut u32,
+) -> u32 {
+    if form.flex {
+        return sitting::vine_sitting_find_flex(s, q, k.source, k.generics, answer, ws, spent);
     }
-    calls::try_find_impl(s, q, k.source, k.generics, k.basic, answer, ws, k.count)
+    sitting::vine_sitting_find_impl(s, q, k.source, k.generics, form.basic, answer, ws, spent)
 }
 
 // Makes the call, and prints what it gives.
-fn ask(flex: bool, k: Numbers, s: &[u32], q: &[u32], ws: &mut [u32]) {
+fn ask(k: Numbers, form: Form, s: &[u32], q: &[u32], ws: &mut [u32], spent: &mut u32) {
     let mut answer = [0u32; 10240];
-    let outcome = call(flex, k, s, q, &mut answer, ws);
-    match outcome {
-        calls::Outcome::Answered { count } => print::answered(
-            flex,
-            k.raw,
-            k.count,
-            count,
-            q,
-            &answer,
-        ),
-        calls::Outcome::Refused { number, count } => print::refused(number, k.count, count),
+    let start = *spent;
+    let number = call(k, form, s, q, &mut answer, ws, spent);
+    let count = *spent;
+    if number != 0 {
+        print::refused(number, start, count);
+        return;
     }
+    print::answered(form.flex, k.raw, start, count, q, &answer);
 }
 
 // The smaller of two lengths.
@@ -171,42 +51,109 @@ fn at_most(n: usize, most: usize) -> usize
     if n < most { n } else { most }
 }
 
-// Asks with the words of two files: one word more than the limits allow is enough to be refused.
-fn ask_files(flex: bool, k: Numbers, ws: &mut [u32]) {
-    let mut s = [0u32; 4097];
+// Asks with the front of a buffer as the question.
+fn ask_front(
+    k: Numbers,
+    form: Form,
+    s: &[u32],
+    q: &[u32],
+    m: usize,
+    ws: &mut [u32],
+    spent: &mut u32,
+) {
+    let m = at_most(m, q.len());
+    ask(k, form, s, &q[..m], ws, spent);
+}
+
+// Asks the question of a file, and tells whether it was read: one word more than the limit allows is enough to be refused.
+fn ask_file(
+    k: Numbers,
+    form: Form,
+    s: &[u32],
+    file: usize,
+    ws: &mut [u32],
+    spent: &mut u32,
+) -> bool {
     let mut q = [0u32; 1025];
+    let files::File::Words { count: m } = files::read_file(file, &mut q) else {
+        return false;
+    };
+    ask_front(k, form, s, &q, m, ws, spent);
+    true
+}
+
+// Asks one question: a sitting that ends with it.
+fn ask_one(k: Numbers, form: Form, s: &[u32], ws: &mut [u32]) {
+    let mut spent = k.count;
+    ask_file(k, form, s, 3, ws, &mut spent);
+}
+
+// Asks a question of a sitting, and prints the steps spent in it so far; tells whether it could be read.
+fn ask_turn(
+    k: Numbers,
+    form: Form,
+    s: &[u32],
+    n: u32,
+    file: usize,
+    ws: &mut [u32],
+    spent: &mut u32,
+) -> bool {
+    print::question(n);
+    if !ask_file(k, form, s, file, ws, spent) {
+        return false;
+    }
+    print::spent(*spent);
+    true
+}
+
+// The number of the next question; arguments run out long before such numbers do.
+fn one_more(n: u32) -> u32 {
+    if n < 1000000 { n + 1 } else { n }
+}
+
+// Asks the questions of a sitting in turn, up to one that cannot be read.
+fn ask_several(k: Numbers, end: usize, s: &[u32], ws: &mut [u32]) {
+    let mut spent = k.count;
+    let mut n = 0;
+    let mut at = arguments::FIRST;
+    while at < end {
+        let Turn::Question { form } = arguments::turn_at(at, end) else {
+            return;
+        };
+        n = one_more(n);
+        if !ask_turn(k, form, s, n, at + 1, ws, &mut spent) {
+            return;
+        }
+        at = arguments::behind(form.flex, at, end);
+    }
+}
+
+// Asks what is given, with the front of a buffer as the sheet.
+fn ask_sheet(given: Given, s: &[u32], n: usize, ws: &mut [u32]) {
+    let n = at_most(n, s.len());
+    match given {
+        Given::One { numbers, form } => ask_one(numbers, form, &s[..n], ws),
+        Given::Several { numbers, end } => ask_several(numbers, end, &s[..n], ws),
+        Given::Wrong => arguments::usage(),
+    }
+}
+
+// Asks with the sheet of a file: one word more than the limit allows is enough to be refused.
+fn ask_given(given: Given, ws: &mut [u32]) {
+    let mut s = [0u32; 4097];
     let files::File::Words { count: n } = files::read_file(2, &mut s) else {
         return;
     };
-    let files::File::Words { count: m } = files::read_file(3, &mut q) else {
-        return;
-    };
-    ask_fronts(flex, k, &s, n, &q, m, ws);
-}
-
-// Asks with the fronts of two buffers.
-fn ask_fronts(flex: bool, k: Numbers, s: &[u32], n: usize, q: &[u32], m: usize, ws: &mut [u32]) {
-    let n = at_most(n, s.len());
-    let m = at_most(m, q.len());
-    ask(flex, k, &s[..n], &q[..m], ws);
-}
-
-// Asks an impl question or a flex question.
-fn run(flex: bool, ws: &mut [u32]) {
-    let given = numbers_given(flex);
-    match given {
-        Given::All { numbers } => ask_files(flex, numbers, ws),
-        Given::Wrong => usage(),
-    }
+    ask_sheet(given, &s, n, ws);
 }
 
 // What the arguments ask for.
 fn serve(ws: &mut [u32]) {
-    let asked = call_asked();
-    match asked {
-        Asked::Impl => run(false, ws),
-        Asked::Flex => run(true, ws),
-        Asked::Neither => usage(),
+    let given = arguments::asked_for();
+    match given {
+        Given::One { numbers, form } => ask_given(given, ws),
+        Given::Several { numbers, end } => ask_given(given, ws),
+        Given::Wrong => arguments::usage(),
     }
 }
 

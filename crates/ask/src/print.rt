@@ -18,6 +18,20 @@ fn steps(start: u32, count: u32) {
     text(b")\n");
 }
 
+// Which question of a sitting is asked.
+pub fn question(n: u32) {
+    text(b"question ");
+    decimal(n);
+    text(b"\n");
+}
+
+// The steps spent in a sitting so far.
+pub fn spent(count: u32) {
+    text(b"spent: ");
+    decimal(count);
+    text(b"\n");
+}
+
 // A refusal: its number and what it means.
 pub fn refused(number: u32, start: u32, count: u32) {
     let mut out = io::buffer();

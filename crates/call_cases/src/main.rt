@@ -1,41 +1,13 @@
-// Replays the stored cases of the files that its arguments name through the two calls, on buffers full of marks. For each file it
-// prints how many calls there are and how many are wrong in number, count, answer, or in what the buffers hold after, and how many
-// calls got each number (0 for an answer).
+// Replays the stored cases of the files that its arguments name through the two calls, and the stored sittings behind them call by
+// call, on buffers full of marks. For each sitting it prints the spent count after each call; for each file how many calls there
+// are and how many are wrong in number, count, answer, or in what the buffers hold after, and how many calls got each number (0 for
+// an answer).
 mod compare;
+mod counts;
+mod reading;
+mod sittings;
 
 use compare::Stored;
-use libc::STDOUT_FILENO;
-ghost use Prim.Native.Nat.{_≤_};
-
-// What is counted: under 0 to 26 the numbers, then all calls, then the wrong ones.
-const CALLS: usize = 27;
-
-const WRONG: usize = 28;
-
-// The smaller of two lengths.
-fn at_most(n: usize, most: usize) -> usize
-    ensures { λ r. ⌜ r ≤ most ⌝ }
-{
-    if n < most { n } else { most }
-}
-
-// Counts one more at a place.
-fn tally(counts: &mut [u32], k: usize) {
-    if k < counts.len() {
-        if counts[k] < 1000000 {
-            counts[k] += 1;
-        }
-    }
-}
-
-// Fills a buffer with a mark.
-fn fill(ws: &mut [u32], mark: u32) {
-    let mut i = 0;
-    while i < ws.len() {
-        ws[i] = mark;
-        i += 1;
-    }
-}
 
 // The call of a case: head is its first seven words.
 fn call(head: &[u32], s: &[u32], q: &[u32], answer: &mut [u32], ws: &mut [u32]) -> calls::Outcome {
@@ -59,39 +31,11 @@ fn call_fronts(
     answer: &mut [u32],
     ws: &mut [u32],
 ) -> calls::Outcome {
-    let n = at_most(n, s.len());
-    let m = at_most(m, q.len());
-    let most = at_most(words::wide(words::word(head, 5)), answer.len());
-    let lent = at_most(words::wide(words::word(head, 6)), ws.len());
+    let n = reading::at_most(n, s.len());
+    let m = reading::at_most(m, q.len());
+    let most = reading::at_most(words::wide(words::word(head, 5)), answer.len());
+    let lent = reading::at_most(words::wide(words::word(head, 6)), ws.len());
     call(head, &s[..n], &q[..m], &mut answer[..most], &mut ws[..lent])
-}
-
-// Reads a slice's length and words, and answers the length.
-fn read_slice(fd: i32, buf: &mut [u32]) -> usize {
-    let n = words::wide(cases::read_word(fd));
-    cases::read_words(fd, buf, n);
-    n
-}
-
-// Reads what is stored of a call's end; the answer's words go into a buffer.
-fn read_stored(fd: i32, buf: &mut [u32]) -> Stored {
-    let number = cases::read_word(fd);
-    let count = cases::read_word(fd);
-    let length = read_slice(fd, buf);
-    Stored {
-        number: number,
-        count: count,
-        length: length,
-    }
-}
-
-// Counts a call's end and whether it is right.
-fn note(counts: &mut [u32], number: u32, right: bool) {
-    tally(counts, CALLS);
-    tally(counts, words::wide(number));
-    if !right {
-        tally(counts, WRONG);
-    }
 }
 
 // Makes the call of a case that was read, and compares what it gives.
@@ -107,13 +51,13 @@ fn replay_call(
     counts: &mut [u32],
 ) {
     let mut answer = [0u32; 10304];
-    fill(&mut answer, compare::MARK);
-    fill(ws, compare::MARK);
+    reading::fill(&mut answer, compare::MARK);
+    reading::fill(ws, compare::MARK);
     let outcome = call_fronts(head, s, n, q, m, &mut answer, ws);
     let right = compare::agrees(outcome, k)
         && compare::answer_holds(k, expected, &answer)
         && compare::work_holds(k, ws);
-    note(counts, compare::number_of(outcome), right);
+    counts::note(counts, compare::number_of(outcome), right);
 }
 
 // Replays the next case; a listing is no call, and is passed over.
@@ -128,9 +72,9 @@ fn replay(
     cases::read_word(fd);
     let mut head = [0u32; 7];
     cases::read_words(fd, &mut head, 7);
-    let n = read_slice(fd, s);
-    let m = read_slice(fd, q);
-    let k = read_stored(fd, expected);
+    let n = reading::read_slice(fd, s);
+    let m = reading::read_slice(fd, q);
+    let k = reading::read_stored(fd, expected);
     if words::word(&head, 0) == 2 {
         return;
     }
@@ -150,45 +94,6 @@ fn replay_all(fd: i32, ws: &mut [u32], counts: &mut [u32]) {
     }
 }
 
-fn text(t: &[u8]) {
-    io::write_all(STDOUT_FILENO, t);
-}
-
-fn decimal(n: u32) {
-    io::print_decimal(STDOUT_FILENO, n as u64);
-}
-
-// Prints how many calls got a number, if there are any.
-fn print_number(k: usize, n: u32) {
-    if n == 0 {
-        return;
-    }
-    text(b", ");
-    decimal(n);
-    text(b" of ");
-    io::print_decimal(STDOUT_FILENO, k as u64);
-}
-
-fn print_numbers(counts: &[u32]) {
-    let mut k = 0;
-    while k < CALLS {
-        print_number(k, words::word(counts, k));
-        k += 1;
-    }
-}
-
-// Prints what came of a file.
-fn print_counts(path: &[u8], counts: &[u32]) {
-    text(path);
-    text(b": ");
-    decimal(words::word(counts, CALLS));
-    text(b" calls, ");
-    decimal(words::word(counts, WRONG));
-    text(b" wrong");
-    print_numbers(counts);
-    text(b"\n");
-}
-
 // Replays the file of an argument, and prints what came of it.
 fn run(k: usize, ws: &mut [u32]) {
     let mut path = io::buffer();
@@ -200,8 +105,9 @@ fn run(k: usize, ws: &mut [u32]) {
     }
     let mut counts = [0u32; 29];
     replay_all(fd, ws, &mut counts);
+    sittings::replay_all(fd, ws, &mut counts);
     libc::close(fd);
-    print_counts(&path[..n], &counts);
+    counts::print_counts(&path[..n], &counts);
 }
 
 // Replays the files of all arguments.

@@ -2,6 +2,9 @@
 // `Struct 0[A, B]`, `Closure 2[A, B]` (the last is what it returns), `Param 0`, `Fn 7`, `Key 5`, `Default`, `Error`.
 ghost use Rattle.io.specs.Counts.{Counts};
 
+// The words of a node's record: next, kind, inverted, id, children.
+const NODE: usize = 5;
+
 const TUPLE: u32 = 2;
 
 const REF: u32 = 9;
@@ -82,22 +85,22 @@ fn put_between(out: &mut [u8], at: usize, first: bool) -> usize
     crate::put_text(out, at, b", ")
 }
 
-// Puts what stands before a type's children.
-fn put_front(out: &mut [u8], at: usize, a: &[u32], h: usize, t: u32) -> usize
+// Puts what stands before the children of a type, whose node has this record.
+fn put_front(out: &mut [u8], at: usize, node: &[u32], t: u32) -> usize
     ensures { λ r. ⌜ Counts r (now (out .exit)) ⌝ }
 {
-    let kind = words::offset(a, h, 1);
-    let turned = t % 2 != words::offset(a, h, 2) % 2;
+    let kind = words::word(node, 1);
+    let turned = t % 2 != words::word(node, 2) % 2;
     let n = put_mark(out, at, if turned { b'~' } else { 0 });
-    let n = put_head(out, n, kind, words::offset(a, h, 3), t / 2);
-    put_mark(out, n, opening(kind, words::offset(a, h, 4) != 0))
+    let n = put_head(out, n, kind, words::word(node, 3), t / 2);
+    put_mark(out, n, opening(kind, words::word(node, 4) != 0))
 }
 
 // Puts what stands behind them.
-fn put_back(out: &mut [u8], at: usize, a: &[u32], h: usize) -> usize
+fn put_back(out: &mut [u8], at: usize, node: &[u32]) -> usize
     ensures { λ r. ⌜ Counts r (now (out .exit)) ⌝ }
 {
-    let open = opening(words::offset(a, h, 1), words::offset(a, h, 4) != 0);
+    let open = opening(words::word(node, 1), words::word(node, 4) != 0);
     put_mark(out, at, closing(open))
 }
 
@@ -139,17 +142,17 @@ fn put_nested(out: &mut [u8], at: usize, a: &[u32], table: usize, t: u32, left: 
     if left == 0 {
         return crate::put_text(out, at, b"..");
     }
-    let h = words::place(a, table, words::wide(t / 2));
-    let n = put_front(out, at, a, h, t);
+    let node = walker::nth_record(a, table, words::wide(t / 2), NODE);
+    let n = put_front(out, at, node, t);
     let n = put_children(
         out,
         n,
         a,
         table,
-        words::wide(words::offset(a, h, 4)),
+        words::wide(words::word(node, 4)),
         left - 1,
     );
-    put_back(out, n, a, h)
+    put_back(out, n, node)
 }
 
 // How deep types may be nested: as many nodes as a table has.

@@ -97,3 +97,10 @@ pub fn second(sheet: &[u32], index: usize, k: usize) -> u32
 {
     field(next(head(sheet, index)), k)
 }
+
+// Record `id` of the chain from a place, likewise: the caller's own words, uncopied.
+pub fn nth_record<'a>(sheet: &'a [u32], first: usize, id: usize, len: usize) -> &'a [u32]
+    ensures { λ r. ⌜ now r ≡ record-words (now (sheet .entry)) (word-at (chain (now (sheet .entry)) first) id) len ⌝ }
+{
+    record(nth(sheet, first, id), len)
+}

@@ -19,8 +19,9 @@ use Rattle.notation.proofs.types.put_between.Reads as put-between-reads
 use Rattle.notation.proofs.types.put_front.Reads as put-front-reads
 use Rattle.words.proofs.next.Reads as next-reads
 use Rattle.words.proofs.offset.Reads as offset-reads
-use Rattle.words.proofs.place.Reads as place-reads
+use Rattle.walker.proofs.nth_record.Reads as nth-record-reads
 use Rattle.words.proofs.wide.Reads as wide-reads
+use Rattle.words.proofs.word.Reads as word-reads
 use Rattle.notation.proofs.types.+put_children+put_nested.{statement}
 use Rattle.notation.proofs.types.+put_children+put_nested.Tie.{close}
 
@@ -60,7 +61,7 @@ abbrev put-children-calls : ℕ → put-children-lts.Claims
 put-children-calls t = (least-reads.Asked, least-reads.Learnt, put-between-reads.Asked, put-between-reads.Learnt, offset-reads.Asked, offset-reads.Learnt, put-nested-below t, put-nested.Post, next-reads.Asked, next-reads.Learnt)
 
 abbrev put-nested-calls : ℕ → put-nested-lts.Claims
-put-nested-calls t = (put-text-reads.Asked, put-text-reads.Learnt, wide-reads.Asked, wide-reads.Learnt, place-reads.Asked, place-reads.Learnt, put-front-reads.Asked, put-front-reads.Learnt, offset-reads.Asked, offset-reads.Learnt, put-children-below t, put-children.Post, put-back-reads.Asked, put-back-reads.Learnt)
+put-nested-calls t = (put-text-reads.Asked, put-text-reads.Learnt, wide-reads.Asked, wide-reads.Learnt, nth-record-reads.Asked, nth-record-reads.Learnt, put-front-reads.Asked, put-front-reads.Learnt, word-reads.Asked, word-reads.Learnt, put-children-below t, put-children.Post, put-back-reads.Asked, put-back-reads.Learnt)
 
 put-children-least-requires : (t : ℕ) → put-children-lts.Need-least-requires (put-children-calls t) (put-children-at t) put-children.Post put-children-Inv-loop put-children-μ-loop
 put-children-least-requires t c κs = search needs
@@ -125,14 +126,14 @@ put-nested-returns t c = search (needs, front-length)
 put-nested-wide-requires : (t : ℕ) → put-nested-lts.Need-wide-requires (put-nested-calls t) (put-nested-at t) put-nested.Post
 put-nested-wide-requires t c κs = search needs
 
-put-nested-place-requires : (t : ℕ) → put-nested-lts.Need-place-requires (put-nested-calls t) (put-nested-at t) put-nested.Post
-put-nested-place-requires t c κs = search needs
+put-nested-nth-record-requires : (t : ℕ) → put-nested-lts.Need-nth-record-requires (put-nested-calls t) (put-nested-at t) put-nested.Post
+put-nested-nth-record-requires t c κs = search needs
 
 put-nested-put-front-requires : (t : ℕ) → put-nested-lts.Need-put-front-requires (put-nested-calls t) (put-nested-at t) put-nested.Post
 put-nested-put-front-requires t c κs = search needs
 
-put-nested-offset-requires : (t : ℕ) → put-nested-lts.Need-offset-requires (put-nested-calls t) (put-nested-at t) put-nested.Post
-put-nested-offset-requires t c κs = search needs
+put-nested-word-requires : (t : ℕ) → put-nested-lts.Need-word-requires (put-nested-calls t) (put-nested-at t) put-nested.Post
+put-nested-word-requires t c κs = search needs
 
 put-nested-wide-requires-2 : (t : ℕ) → put-nested-lts.Need-wide-requires-2 (put-nested-calls t) (put-nested-at t) put-nested.Post
 put-nested-wide-requires-2 t c κs = search needs
@@ -180,9 +181,9 @@ pub +put-children+put-nested-spec : {M : Type 1} → statement M
     (put-nested-same-length t)
     (put-nested-returns t)
     (put-nested-wide-requires t)
-    (put-nested-place-requires t)
+    (put-nested-nth-record-requires t)
     (put-nested-put-front-requires t)
-    (put-nested-offset-requires t)
+    (put-nested-word-requires t)
     (put-nested-wide-requires-2 t)
     (put-nested-sub-put-children t)
     (put-nested-put-children-requires t)

@@ -3,8 +3,8 @@ use Prim.Native.Nat.{_≤_, _<_, _-_}
 use mathlib.Core.Path.{_≡_}
 use lib.ListN.{length, take}
 use borrow.Author.Needs.{needs}
-use Rattle.ask.proofs.same.Statement.{statement}
-use Rattle.ask.proofs.same.Tie as tie
+use Rattle.ask.proofs.arguments.same.Statement.{statement}
+use Rattle.ask.proofs.arguments.same.Tie as tie
 
 abbrev Inv-loop : tie.InvT-loop
 Inv-loop a b i₀ i = (i ≤ length a)

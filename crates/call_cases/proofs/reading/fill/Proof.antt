@@ -3,8 +3,8 @@ use Prim.Native.Nat.{_≤_, _<_, _-_}
 use mathlib.Core.Path.{_≡_}
 use lib.ListN.{length, take}
 use borrow.Author.Needs.{needs}
-use Rattle.call_cases.proofs.fill.Statement.{statement}
-use Rattle.call_cases.proofs.fill.Tie as tie
+use Rattle.call_cases.proofs.reading.fill.Statement.{statement}
+use Rattle.call_cases.proofs.reading.fill.Tie as tie
 
 abbrev Inv-loop : tie.InvT-loop
 Inv-loop ws₀ mark i₀ ws i = (length ws ≡ length ws₀) × (i ≤ length ws₀)

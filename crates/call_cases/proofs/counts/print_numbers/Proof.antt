@@ -3,8 +3,8 @@ use Prim.Native.Nat.{_≤_, _<_, _-_}
 use mathlib.Core.Path.{_≡_}
 use lib.ListN.{length, take}
 use borrow.Author.Needs.{needs}
-use Rattle.call_cases.proofs.print_numbers.Statement.{statement}
-use Rattle.call_cases.proofs.print_numbers.Tie as tie
+use Rattle.call_cases.proofs.counts.print_numbers.Statement.{statement}
+use Rattle.call_cases.proofs.counts.print_numbers.Tie as tie
 
 abbrev Inv-loop : tie.InvT-loop
 Inv-loop counts k₀ k = (k ≤ 27)

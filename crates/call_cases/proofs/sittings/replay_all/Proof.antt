@@ -1,0 +1,56 @@
+-- `replay_all`: so many sittings.
+use Prim.Native.Nat.{_≤_, _<_, _-_}
+use mathlib.Core.Path.{_≡_}
+use lib.ListN.{length}
+use borrow.Author.Needs.{needs}
+use Rattle.call_cases.proofs.sittings.replay_all.Statement.{statement}
+use Rattle.call_cases.proofs.sittings.replay_all.Tie as tie
+
+abbrev Inv-loop : tie.InvT-loop
+Inv-loop fd ws₀ sums₀ n i₀ ws sums i = (length ws ≡ length ws₀) × (length sums ≡ length sums₀) × (i ≤ n)
+
+abbrev μ-loop : tie.MeasureT-loop
+μ-loop fd ws₀ sums₀ n i₀ ws sums i = n - i
+
+read-word-requires : tie.Need-read-word-requires Inv-loop μ-loop
+read-word-requires c κs = search needs
+
+loop-holds : tie.Need-loop-holds Inv-loop μ-loop
+loop-holds c = search needs
+
+replay-requires : tie.Need-replay-requires Inv-loop μ-loop
+replay-requires c κs = search needs
+
+add-i : tie.Need-add-i Inv-loop μ-loop
+add-i c = search needs
+
+loop-less : tie.Need-loop-less Inv-loop μ-loop
+loop-less c = search needs
+
+loop-again : tie.Need-loop-again Inv-loop μ-loop
+loop-again c = search needs
+
+same-length : tie.Need-same-length Inv-loop μ-loop
+same-length c = search needs
+
+same-length-2 : tie.Need-same-length-2 Inv-loop μ-loop
+same-length-2 c = search needs
+
+returns : tie.Need-returns Inv-loop μ-loop
+returns c = search needs
+
+pub replay-all-spec : {M : Type 1} → statement M
+replay-all-spec =
+    tie.close
+    (tie.spec
+    Inv-loop
+    μ-loop
+    read-word-requires
+    loop-holds
+    replay-requires
+    add-i
+    loop-less
+    loop-again
+    same-length
+    same-length-2
+    returns)
