@@ -9,7 +9,7 @@ use std::{
   time::{Duration, Instant},
 };
 
-use bench::{Buffers, ask, classes, stack};
+use bench::{Buffers, adversary::*, ask, classes, stack, worst};
 use oracle::{case::Answer, case::Call, model, rust};
 use vine_finder::{ANSWER_WORDS, workspace_words};
 
@@ -29,6 +29,14 @@ fn main() -> ExitCode {
   match args.iter().map(String::as_str).collect::<Vec<_>>()[..] {
     [] => bench(),
     ["stack", size] => on_a_stack(size.parse().unwrap()),
+    ["once", side] => {
+      worst::once(side);
+      ExitCode::SUCCESS
+    }
+    ["try"] => {
+      try_all();
+      ExitCode::SUCCESS
+    }
     _ => {
       eprintln!("usage: bench");
       ExitCode::FAILURE
@@ -191,4 +199,27 @@ fn stacks() -> bool {
   let how = if ran { "run" } else { "do NOT run" };
   println!("the calls at the limits {how} in a thread with {} KiB of stack", STACK >> 10);
   ran
+}
+
+fn try_all() {
+  let base = Search { flex: false, levels: 1, branch: 13, meeting: Meeting::Nothing, stuff: Stuff::Tuples, dense: 1, links: 0, generics: 0, structs: 0 };
+  let list = [
+    ("nothing", base),
+    ("nothing, generics", Search { generics: 500, ..base }),
+    ("alike 115", Search { meeting: Meeting::Alike, dense: 115, ..base }),
+    ("unknowns", Search { meeting: Meeting::Unknowns, dense: 115, links: 11, ..base }),
+    ("unknowns 12", Search { meeting: Meeting::Unknowns, dense: 115, links: 12, ..base }),
+    ("inverse", Search { meeting: Meeting::Inverse, dense: 90, links: 45, ..base }),
+    ("inverse structs", Search { meeting: Meeting::Inverse, dense: 90, links: 45, stuff: Stuff::Structs(0), structs: 300, ..base }),
+    ("inverse structs", Search { meeting: Meeting::Inverse, dense: 90, links: 45, stuff: Stuff::Structs(0), structs: 600, ..base }),
+  ];
+  for (name, search) in list {
+    for levels in [0, 1] {
+      let search = Search { levels, ..search };
+      let call = search.call();
+      let took = worst::timed(&call, worst::Side::Port, Duration::from_secs(60));
+      std::fs::write(format!("/tmp/me/wc/{}-{levels}.case", name.replace(' ', "-")), oracle::case::Case::Call(call.clone()).to_string()).unwrap();
+      println!("{name} levels {levels}: sheet {} question {} {took:?}", call.sheet.len(), call.question.len());
+    }
+  }
 }
