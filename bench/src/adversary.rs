@@ -7,29 +7,39 @@ use oracle::{
   },
   layout::Style,
   rng::Rng,
-  sheet::{flag, kind},
+  sheet::kind,
 };
+
+pub mod joins;
+pub mod search;
+pub mod sheets;
+
+use joins::{Join, Place, Shape};
+use search::{Meeting, Search};
+use sheets::{Charts, Ending};
 
 /// Equal records with equal tails stand once, so that as much as can be has room.
 const TIGHT: Style = Style { share: true, overlap: false, shuffle: false, gaps: 0 };
 const SHEET_WORDS: usize = 4_096;
 const QUESTION_WORDS: usize = 1_024;
 const IMPLS: usize = 128;
-const NODES: usize = 256;
+const DEFINITIONS: usize = 128;
 
-/// An input and what it is.
+/// An input, what it is, and which part of a call it is to slow down.
 pub struct Worst {
+  pub part: &'static str,
   pub name: String,
   pub call: Call,
 }
 
-/// A call of source 0 and generics 0 on a sheet for the arguments of trait 0; in a flex call, for the Tuple of them.
+/// A call of source 0 and generics 0 on a sheet for the arguments of trait 0; in a flex call, for enum 0 of them, whose
+/// inverse nothing meets.
 fn call(sheet: &Sheet, table: &Table, args: &[u32], flex: bool) -> Call {
   let rng = &mut Rng::new(0);
   let mut table = table.clone();
   let question = if flex {
-    let tuple = table.add(kind::TUPLE, 0, args);
-    flex_question(&table, tuple, TIGHT, rng)
+    let word = table.add(kind::ENUM, 0, args);
+    flex_question(&table, word, TIGHT, rng)
   } else {
     let query = Query { trait_: 1, args: args.to_vec() };
     impl_question(&table, &query, TIGHT, rng)
@@ -46,22 +56,28 @@ fn call(sheet: &Sheet, table: &Table, args: &[u32], flex: bool) -> Call {
   }
 }
 
-/// A sheet with one definition, and trait 0 of so many arguments, or of one Tuple of them, which is Fork and Drop then.
+/// Whether a call is within the sizes of document 01, so that its checks are not cut short.
+pub fn fits(call: &Call) -> bool {
+  call.sheet.len() <= SHEET_WORDS && call.question.len() <= QUESTION_WORDS
+}
+
+/// A sheet with one definition, and trait 0 of so many arguments, or of enum 0 of them, which is Fork and Drop then.
 fn bare(arity: usize, flex: bool) -> Sheet {
   let arity = if flex { 1 } else { arity as u32 };
   Sheet {
     definitions: vec![Definition::default()],
     generics: vec![Generics::default()],
     traits: vec![Trait { definition: 0, arity, inherent: 0 }],
+    enums: vec![0],
     fork: u32::from(flex),
     drop: u32::from(flex),
     ..Sheet::default()
   }
 }
 
-/// A query of trait 0 for some types, or for the Tuple of them.
+/// A query of trait 0 for some types, or for enum 0 of them.
 fn query(table: &mut Table, args: &[u32], flex: bool) -> Query {
-  let args = if flex { vec![table.add(kind::TUPLE, 0, args)] } else { args.to_vec() };
+  let args = if flex { vec![table.add(kind::ENUM, 0, args)] } else { args.to_vec() };
   Query { trait_: 1, args }
 }
 
@@ -70,28 +86,20 @@ fn bind(sheet: &mut Sheet, impl_: Impl) {
   sheet.impls.push(impl_);
 }
 
-/// What stands in the middle of a type that is built: Tuples, or structs by their id.
-#[derive(Debug, Clone, Copy, PartialEq, Eq)]
-pub enum Stuff {
-  Tuples,
-  Structs(u32),
-}
-
-impl Stuff {
-  fn add(self, table: &mut Table, children: &[u32]) -> u32 {
-    match self {
-      Stuff::Tuples => table.add(kind::TUPLE, 0, children),
-      Stuff::Structs(id) => table.add(kind::STRUCT, id, children),
-    }
+/// A Tuple, or the struct of an id.
+fn node(table: &mut Table, id: Option<u32>, children: &[u32]) -> u32 {
+  match id {
+    None => table.add(kind::TUPLE, 0, children),
+    Some(id) => table.add(kind::STRUCT, id, children),
   }
 }
 
 /// So many nodes of eight children: the node below, and seven times the last one.
-fn dense(table: &mut Table, stuff: Stuff, nodes: usize) -> u32 {
-  let last = stuff.add(table, &[]);
+fn dense(table: &mut Table, id: Option<u32>, nodes: usize) -> u32 {
+  let last = node(table, id, &[]);
   let mut children = [last; 8];
   for _ in 1..nodes {
-    children[0] = stuff.add(table, &children);
+    children[0] = node(table, id, &children);
   }
   children[0]
 }
@@ -106,115 +114,115 @@ fn links(table: &mut Table, count: usize, mut seven: impl FnMut(&mut Table) -> [
   word
 }
 
-/// How the types of a question and of a candidate meet, before the candidate fails.
-#[derive(Debug, Clone, Copy, PartialEq, Eq)]
-pub enum Meeting {
-  /// Nothing but what fails.
-  Nothing,
-  /// Two types of one shape: a join for each node.
-  Alike,
-  /// Unknowns of the candidate, each of which is bound to a dense type.
-  Unknowns,
-  /// Places where a dense type meets its own inverse.
-  Inverse,
+/// The inputs that are timed, each for a part of a call. Joins have at most so many levels.
+pub fn all(levels: usize) -> Vec<Worst> {
+  let mut all = checks_and_sets();
+  all.extend(joins(levels));
+  all.extend(searches());
+  all
 }
 
-/// A search in which `branch` candidates of a question ask a sub-question, to so many levels, and all others fail in the last
-/// argument, after the first two have met with success.
-#[derive(Debug, Clone, Copy)]
-pub struct Search {
-  pub flex: bool,
-  pub levels: usize,
-  pub branch: usize,
-  pub meeting: Meeting,
-  pub stuff: Stuff,
-  /// Nodes of the dense type.
-  pub dense: usize,
-  /// Links that are met.
-  pub links: usize,
-  /// Generics or structs that fill the sheet in front of those that are used.
-  pub generics: usize,
-  pub structs: usize,
+fn checks_and_sets() -> Vec<Worst> {
+  let charts = Charts {
+    definitions: DEFINITIONS,
+    children: DEFINITIONS,
+    imports: 0,
+    bindings: 380,
+    impls: IMPLS,
+    closed: false,
+  };
+  let worst = |part, name: &str, call| Worst { part, name: name.into(), call };
+  vec![
+    worst(
+      "checks",
+      "500 generics with a table of 285 nodes",
+      sheets::tables(490, 275, 140, Ending::Passed),
+    ),
+    worst("checks", "the same, refused 9", sheets::tables(490, 275, 140, Ending::Sheet)),
+    worst("checks", "the same, refused 13", sheets::tables(490, 275, 135, Ending::Question)),
+    worst("candidate sets", "128 definitions that share all chains", charts.call()),
+    worst("candidate sets", "the same, no edge open", Charts { closed: true, ..charts }.call()),
+  ]
 }
 
-impl Search {
-  pub fn call(&self) -> Call {
-    let mut sheet = bare(3, self.flex);
-    sheet.structs = vec![(0, 1); self.structs + 2];
-    sheet.generics.extend(vec![Generics::default(); self.generics]);
-    let recursive = self.recursive(&mut sheet);
-    for _ in 0..self.branch {
-      bind(&mut sheet, recursive.clone());
+fn joins(levels: usize) -> Vec<Worst> {
+  use Shape::*;
+  let places = [
+    (Place::Search, "join in the search"),
+    (Place::ImplClosing, "closing join, impl"),
+    (Place::FlexClosing, "closing join, flex"),
+    (Place::ForkDrop, "fork with drop"),
+  ];
+  let shapes = [Times(2), Times(8), Fibonacci, FibonacciBack, Inverted, Unknowns, UnknownBetween];
+  let mut all = Vec::new();
+  for (place, part) in places {
+    for (shape, error) in shapes.iter().flat_map(|&shape| [(shape, false), (shape, true)]) {
+      let levels = levels.min(joins::most(place, shape));
+      let bottom = if error { "Error" } else { "no match" };
+      let name = format!("{shape:?}, {levels} levels, {bottom}");
+      all.push(Worst { part, name, call: Join { place, shape, levels, error }.call() });
     }
-    sheet.generics.push(Generics { type_params: 1, ..Generics::default() });
-    for place in self.branch..IMPLS {
-      let failing = self.failing(sheet.generics.len() as u32 - 1, place as u32);
-      bind(&mut sheet, failing);
+  }
+  let (links, levels) = (50.min(3 * levels), 40.min(levels));
+  let name = format!("{links} joins between towers of {levels}");
+  all.push(Worst { part: "fork with drop", name, call: joins::restless(links, levels) });
+  all
+}
+
+fn searches() -> Vec<Worst> {
+  use Meeting::*;
+  let base = Search::default();
+  let list = [
+    ("candidates of few words", Search { meeting: Nothing, ..base }),
+    (
+      "candidates with generics far down their chain",
+      Search { meeting: Nothing, generics: 550, ..base },
+    ),
+    ("candidates with tables of 230 nodes", Search { meeting: Import, dense: 220, ..base }),
+    ("types of 110 nodes alike", Search { meeting: Alike, dense: 110, ..base }),
+    (
+      "84 unknowns meet a type of 110 nodes",
+      Search { meeting: Unknowns, dense: 110, links: 12, ..base },
+    ),
+    (
+      "a type of 90 Tuples meets its inverse, 315 times",
+      Search { meeting: Inverse, dense: 90, links: 45, ..base },
+    ),
+    (
+      "a type of 90 structs meets its inverse, 315 times",
+      Search { meeting: Inverse, of_structs: true, dense: 90, links: 45, structs: 600, ..base },
+    ),
+  ];
+  let mut all = Vec::new();
+  for flex in [false, true] {
+    for (name, search) in list {
+      let part = if flex { "search, flex" } else { "search, impl" };
+      all.push(Worst { part, name: name.into(), call: Search { flex, ..search }.call() });
     }
-    let mut table = Table::default();
-    let args = self.asked(&mut table);
-    call(&sheet, &table, &args, self.flex)
   }
+  all
+}
 
-  /// The struct that stands round what is asked below, and the one that dense types have.
-  fn round(&self) -> u32 {
-    self.structs as u32
-  }
-
-  fn dense(&self, table: &mut Table) -> u32 {
-    let stuff = match self.stuff {
-      Stuff::Tuples => Stuff::Tuples,
-      Stuff::Structs(_) => Stuff::Structs(self.structs as u32 + 1),
-    };
-    dense(table, stuff, self.dense)
-  }
-
-  /// T[A, B, S[C]], which needs T[A, B, C].
-  fn recursive(&self, sheet: &mut Sheet) -> Impl {
-    let mut generics = Generics { type_params: 3, ..Generics::default() };
-    let inner = [0, 1, 2].map(|id| generics.table.add(kind::PARAM, id, &[]));
-    let needed = query(&mut generics.table, &inner, self.flex);
-    generics.impl_params.push(needed);
-    let mut impl_ =
-      Impl { generics: sheet.generics.len() as u32, flags: flag::NAMED, ..Impl::default() };
-    let mut outer = [0, 1, 2].map(|id| impl_.table.add(kind::PARAM, id, &[]));
-    outer[2] = impl_.table.add(kind::STRUCT, self.round(), &[outer[2]]);
-    impl_.query = query(&mut impl_.table, &outer, self.flex);
-    sheet.generics.push(generics);
-    impl_
-  }
-
-  /// A candidate that fails in its third argument, a Key of its own.
-  fn failing(&self, generics: u32, key: u32) -> Impl {
-    let mut impl_ = Impl { generics, flags: flag::NAMED, ..Impl::default() };
-    let table = &mut impl_.table;
-    let fails = table.add(kind::KEY, key, &[]);
-    let (first, second) = match self.meeting {
-      Meeting::Nothing => (table.add(0, 0, &[]), table.add(0, 0, &[])),
-      Meeting::Alike => (self.dense(table), table.add(0, 0, &[])),
-      Meeting::Unknowns => {
-        let dense = table.add(0, 0, &[]);
-        (dense, links(table, self.links, |table| [(); 7].map(|()| table.add(0, 0, &[]))))
-      }
-      Meeting::Inverse => {
-        let dense = table.add(kind::PARAM, 0, &[]);
-        (dense, links(table, self.links, |_| [dense + 1; 7]))
-      }
-    };
-    impl_.query = query(table, &[first, second, fails], self.flex);
-    impl_
-  }
-
-  /// The arguments that are asked for.
-  fn asked(&self, table: &mut Table) -> [u32; 3] {
-    let dense = self.dense(table);
-    let met = match self.meeting {
-      Meeting::Nothing | Meeting::Alike => table.add(kind::TUPLE, 0, &[]),
-      Meeting::Unknowns | Meeting::Inverse => links(table, self.links, |_| [dense; 7]),
-    };
-    let leaf = table.add(kind::NEVER, 0, &[]);
-    let nested =
-      (0..self.levels).fold(leaf, |word, _| table.add(kind::STRUCT, self.round(), &[word]));
-    [dense, met, nested]
-  }
+/// An input by chance.
+pub fn random(rng: &mut Rng, levels: usize) -> Worst {
+  let (part, name, call) = match rng.below(4) {
+    0 => {
+      let charts = sheets::random(rng);
+      ("candidate sets", format!("{charts:?}"), charts.call())
+    }
+    1 => {
+      let (generics, nodes) = (rng.range(1, 900), rng.range(1, 500));
+      let name = format!("{generics} generics with a table of {nodes} nodes");
+      ("checks", name, sheets::tables(generics, nodes, rng.range(1, 140), Ending::Passed))
+    }
+    2 => {
+      let join = joins::random(rng, levels);
+      ("joins", format!("{join:?}"), join.call())
+    }
+    _ => {
+      let search = search::random(rng);
+      ("search", format!("{search:?}"), search.call())
+    }
+  };
+  Worst { part, name, call }
 }

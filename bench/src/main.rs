@@ -9,7 +9,7 @@ use std::{
   time::{Duration, Instant},
 };
 
-use bench::{Buffers, adversary::*, ask, classes, stack, worst};
+use bench::{Buffers, ask, classes, stack, worst};
 use oracle::{case::Answer, case::Call, model, rust};
 use vine_finder::{ANSWER_WORDS, workspace_words};
 
@@ -21,6 +21,9 @@ const SHARED: [(&str, fn(usize) -> Call); 2] =
   [("search", classes::shared_in_search), ("closing join", classes::shared_in_closing)];
 const LEVELS: [usize; 8] = [8, 16, 20, 24, 28, 32, 40, 50];
 const TOO_LONG: Duration = Duration::from_millis(300);
+/// How many levels the joins of the worst inputs have, and how many inputs are tried by chance, where nothing is said.
+const WORST_LEVELS: usize = 16;
+const WORST_TRIES: usize = 100;
 /// The stack in which the deepest searches are to run, besides the workspace.
 const STACK: usize = 512 << 10;
 
@@ -33,15 +36,22 @@ fn main() -> ExitCode {
       worst::once(side);
       ExitCode::SUCCESS
     }
-    ["try"] => {
-      try_all();
-      ExitCode::SUCCESS
-    }
+    ["--worst", ref rest @ ..] => worst_alone(rest),
     _ => {
-      eprintln!("usage: bench");
+      eprintln!("usage: bench [--worst [LEVELS] [TRIES] [SEED]]");
       ExitCode::FAILURE
     }
   }
+}
+
+/// The worst inputs alone, and a search by chance for worse ones. It fails if one takes more than a second.
+fn worst_alone(args: &[&str]) -> ExitCode {
+  let number =
+    |place: usize, otherwise| args.get(place).map_or(otherwise, |arg| arg.parse().unwrap());
+  let levels = number(0, WORST_LEVELS);
+  let listed = worst::table(levels);
+  let by_chance = worst::by_chance(number(1, WORST_TRIES), number(2, 1) as u64, levels);
+  if listed && by_chance { ExitCode::SUCCESS } else { ExitCode::FAILURE }
 }
 
 fn bench() -> ExitCode {
@@ -51,6 +61,8 @@ fn bench() -> ExitCode {
   let agreed = timing.join().unwrap();
   println!();
   let shared = shared();
+  println!();
+  worst::table(WORST_LEVELS);
   println!();
   let ran = stacks();
   if agreed && shared && ran { ExitCode::SUCCESS } else { ExitCode::FAILURE }
@@ -199,27 +211,4 @@ fn stacks() -> bool {
   let how = if ran { "run" } else { "do NOT run" };
   println!("the calls at the limits {how} in a thread with {} KiB of stack", STACK >> 10);
   ran
-}
-
-fn try_all() {
-  let base = Search { flex: false, levels: 1, branch: 13, meeting: Meeting::Nothing, stuff: Stuff::Tuples, dense: 1, links: 0, generics: 0, structs: 0 };
-  let list = [
-    ("nothing", base),
-    ("nothing, generics", Search { generics: 500, ..base }),
-    ("alike 115", Search { meeting: Meeting::Alike, dense: 115, ..base }),
-    ("unknowns", Search { meeting: Meeting::Unknowns, dense: 115, links: 11, ..base }),
-    ("unknowns 12", Search { meeting: Meeting::Unknowns, dense: 115, links: 12, ..base }),
-    ("inverse", Search { meeting: Meeting::Inverse, dense: 90, links: 45, ..base }),
-    ("inverse structs", Search { meeting: Meeting::Inverse, dense: 90, links: 45, stuff: Stuff::Structs(0), structs: 300, ..base }),
-    ("inverse structs", Search { meeting: Meeting::Inverse, dense: 90, links: 45, stuff: Stuff::Structs(0), structs: 600, ..base }),
-  ];
-  for (name, search) in list {
-    for levels in [0, 1] {
-      let search = Search { levels, ..search };
-      let call = search.call();
-      let took = worst::timed(&call, worst::Side::Port, Duration::from_secs(60));
-      std::fs::write(format!("/tmp/me/wc/{}-{levels}.case", name.replace(' ', "-")), oracle::case::Case::Call(call.clone()).to_string()).unwrap();
-      println!("{name} levels {levels}: sheet {} question {} {took:?}", call.sheet.len(), call.question.len());
-    }
-  }
 }

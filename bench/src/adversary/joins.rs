@@ -1,0 +1,197 @@
+//! Joins of types that share what is below them, in each place where a call joins types.
+
+use oracle::{
+  case::Call,
+  draft::{Generics, Impl, Query, Sheet, Table},
+  rng::Rng,
+  sheet::{flag, kind},
+};
+
+use super::{bare, bind, call, query};
+
+/// Where types are joined.
+#[derive(Debug, Clone, Copy, PartialEq, Eq)]
+pub enum Place {
+  /// A candidate's signature with the question.
+  Search,
+  /// The question with the last import of an impl call; of a flex call.
+  ImplClosing,
+  FlexClosing,
+  /// Fork's type with drop's.
+  ForkDrop,
+}
+
+/// How a type is round the one below.
+#[derive(Debug, Clone, Copy, PartialEq, Eq)]
+pub enum Shape {
+  /// So many times.
+  Times(usize),
+  /// The one below and the one below that; in the other order.
+  Fibonacci,
+  FibonacciBack,
+  /// Twice, the second time inverted.
+  Inverted,
+  /// Once between two unknowns.
+  Unknowns,
+  /// Twice, with an unknown between.
+  UnknownBetween,
+}
+
+/// Two types of one shape and so many levels meet. At the bottom they fail, or there is Error, which is indeterminate.
+#[derive(Debug, Clone, Copy)]
+pub struct Join {
+  pub place: Place,
+  pub shape: Shape,
+  pub levels: usize,
+  pub error: bool,
+}
+
+impl Shape {
+  /// A type of a shape round two others, to so many levels. Unknowns stand on one side of a join and Never on the other.
+  fn round(self, table: &mut Table, bottom: u32, levels: usize, known: bool) -> u32 {
+    let mut below = bottom;
+    let mut last = bottom;
+    let never = table.add(kind::NEVER, 0, &[]);
+    for _ in 0..levels {
+      let mut other = || if known { never } else { table.add(0, 0, &[]) };
+      let children = match self {
+        Shape::Times(times) => vec![last; times],
+        Shape::Fibonacci => vec![last, below],
+        Shape::FibonacciBack => vec![below, last],
+        Shape::Inverted => vec![last, last ^ 1],
+        Shape::Unknowns => vec![other(), last, other()],
+        Shape::UnknownBetween => vec![last, other(), last],
+      };
+      below = last;
+      last = table.add(kind::TUPLE, 0, &children);
+    }
+    last
+  }
+}
+
+impl Join {
+  pub fn call(&self) -> Call {
+    match self.place {
+      Place::Search => self.in_search(),
+      Place::ImplClosing => self.in_closing(false),
+      Place::FlexClosing => self.in_closing(true),
+      Place::ForkDrop => self.fork_with_drop(),
+    }
+  }
+
+  /// What is innermost on a side: a struct of that side, or Error.
+  fn bottom(&self, table: &mut Table, side: u32) -> u32 {
+    if self.error { table.add(kind::ERROR, 0, &[]) } else { table.add(kind::STRUCT, side, &[]) }
+  }
+
+  fn side(&self, table: &mut Table, side: u32) -> u32 {
+    let bottom = self.bottom(table, side);
+    self.shape.round(table, bottom, self.levels, side == 0)
+  }
+
+  /// T[x, y] is asked for, and there is an impl for T[A, A].
+  fn in_search(&self) -> Call {
+    let mut sheet = bare(2, false);
+    sheet.structs = vec![(0, 0); 2];
+    for_any(&mut sheet, [0, 0], false);
+    let mut table = Table::default();
+    let args = [0, 1].map(|side| self.side(&mut table, side));
+    call(&sheet, &table, &args, false)
+  }
+
+  /// A type meets its own copy after the search. Round Error it is indeterminate. Round Default the search has found it to be the
+  /// inverse of its like, since both have one Default, and its copy, which has another, fails.
+  fn in_closing(&self, flex: bool) -> Call {
+    let mut sheet = bare(3, flex);
+    let mut table = Table::default();
+    let bottom = table.add(if self.error { kind::ERROR } else { kind::DEFAULT }, 0, &[]);
+    let [x, y] = [0, 1].map(|_| self.shape.round(&mut table, bottom, self.levels, false));
+    let reference = table.add(kind::REF, 0, &[x]);
+    if self.error {
+      for_any(&mut sheet, [0, 2, 4], flex);
+    } else {
+      for_any(&mut sheet, [0, 2, 3], flex);
+    }
+    call(&sheet, &table, &[reference, x, y], flex)
+  }
+
+  /// An unknown that fork's impl and drop's have a type for each.
+  fn fork_with_drop(&self) -> Call {
+    fork_and_drop([0, 1].map(|side| {
+      let mut table = Table::default();
+      let word = self.side(&mut table, side);
+      (table, word)
+    }))
+  }
+}
+
+/// An unknown is asked for, with an impl of Fork and one of Drop for a type of a table each.
+fn fork_and_drop(types: [(Table, u32); 2]) -> Call {
+  let mut sheet = bare(1, true);
+  sheet.structs = vec![(0, 0); 2];
+  sheet.traits.push(sheet.traits[0]);
+  sheet.drop = 2;
+  for (trait_, (mut table, word)) in (1..).zip(types) {
+    let query = Query { trait_, ..query(&mut table, &[word], true) };
+    bind(&mut sheet, Impl { flags: flag::NAMED, table, query, ..Impl::default() });
+  }
+  let mut table = Table::default();
+  let unknown = table.add(0, 0, &[]);
+  call(&sheet, &table, &[unknown], true)
+}
+
+/// An impl of trait 0 for any types, by type words over its parameters.
+fn for_any<const N: usize>(sheet: &mut Sheet, args: [u32; N], flex: bool) {
+  let generics = sheet.generics.len() as u32;
+  let type_params = N as u32;
+  sheet.generics.push(Generics { type_params, ..Generics::default() });
+  let mut table = Table::default();
+  (0..type_params).for_each(|id| {
+    table.add(kind::PARAM, id, &[]);
+  });
+  let query = query(&mut table, &args, flex);
+  bind(sheet, Impl { generics, flags: flag::NAMED, table, query });
+}
+
+/// A tower that is indeterminate is met again and again, and between a join changes the table: links of a tower, an unknown
+/// that meets Never, and the link before.
+pub fn restless(links: usize, levels: usize) -> Call {
+  fork_and_drop([true, false].map(|known| {
+    let mut table = Table::default();
+    let bottom = table.add(kind::ERROR, 0, &[]);
+    let tower = Shape::Times(6).round(&mut table, bottom, levels, known);
+    let never = table.add(kind::NEVER, 0, &[]);
+    let mut link = table.add(kind::TUPLE, 0, &[]);
+    for _ in 0..links {
+      let other = if known { never } else { table.add(0, 0, &[]) };
+      link = table.add(kind::TUPLE, 0, &[tower, other, link]);
+    }
+    (table, link)
+  }))
+}
+
+/// The most levels of a shape that have room in a place, with a table of 256 nodes and a question of 1,024 words.
+pub fn most(place: Place, shape: Shape) -> usize {
+  let cells = |times: usize| 5 + 2 * times;
+  let (nodes, words) = match shape {
+    Shape::Times(times) => (1, cells(times)),
+    Shape::Fibonacci | Shape::FibonacciBack | Shape::Inverted => (1, cells(2)),
+    Shape::Unknowns => (3, cells(3) + 10),
+    Shape::UnknownBetween => (2, cells(3) + 5),
+  };
+  match place {
+    Place::Search => (240 / (2 * nodes)).min(960 / (2 * words)),
+    Place::ImplClosing | Place::FlexClosing => (240 / (4 * nodes)).min(960 / (2 * words)),
+    Place::ForkDrop => 240 / (2 * nodes),
+  }
+}
+
+/// A join by chance, of at most so many levels.
+pub fn random(rng: &mut Rng, levels: usize) -> Join {
+  use Shape::*;
+  let place = rng.pick(&[Place::Search, Place::ImplClosing, Place::FlexClosing, Place::ForkDrop]);
+  let times = Times(rng.range(2, 8));
+  let shape = rng.pick(&[times, Fibonacci, FibonacciBack, Inverted, Unknowns, UnknownBetween]);
+  let levels = rng.range(1, levels.min(most(place, shape)));
+  Join { place, shape, levels, error: rng.chance(50) }
+}
