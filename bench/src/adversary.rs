@@ -153,7 +153,8 @@ fn joins(levels: usize) -> Vec<Worst> {
     (Place::FlexClosing, "closing join, flex"),
     (Place::ForkDrop, "fork with drop"),
   ];
-  let shapes = [Times(2), Times(8), Fibonacci, FibonacciBack, Inverted, Unknowns, UnknownBetween];
+  let shapes =
+    [Times(2), Times(8), Fibonacci, FibonacciBack, Inverted, Unknowns, UnknownBetween, Skew];
   let mut all = Vec::new();
   for (place, part) in places {
     for (shape, error) in shapes.iter().flat_map(|&shape| [(shape, false), (shape, true)]) {
@@ -194,10 +195,14 @@ fn searches() -> Vec<Worst> {
     ),
   ];
   let mut all = Vec::new();
-  for flex in [false, true] {
+  for (part, flex, levels) in [
+    ("one question", false, 0),
+    ("search, impl", false, base.levels),
+    ("search, flex", true, base.levels),
+  ] {
     for (name, search) in list {
-      let part = if flex { "search, flex" } else { "search, impl" };
-      all.push(Worst { part, name: name.into(), call: Search { flex, ..search }.call() });
+      let call = Search { flex, levels, ..search }.call();
+      all.push(Worst { part, name: name.into(), call });
     }
   }
   all

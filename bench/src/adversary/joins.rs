@@ -35,6 +35,8 @@ pub enum Shape {
   Unknowns,
   /// Twice, with an unknown between.
   UnknownBetween,
+  /// Eight times, where the other is round the eight below it: every level meets every level.
+  Skew,
 }
 
 /// Two types of one shape and so many levels meet. At the bottom they fail, or there is Error, which is indeterminate.
@@ -49,23 +51,25 @@ pub struct Join {
 impl Shape {
   /// A type of a shape round two others, to so many levels. Unknowns stand on one side of a join and Never on the other.
   fn round(self, table: &mut Table, bottom: u32, levels: usize, known: bool) -> u32 {
-    let mut below = bottom;
-    let mut last = bottom;
+    let mut below = vec![bottom; 8];
     let never = table.add(kind::NEVER, 0, &[]);
     for _ in 0..levels {
+      let last = below[0];
       let mut other = || if known { never } else { table.add(0, 0, &[]) };
       let children = match self {
         Shape::Times(times) => vec![last; times],
-        Shape::Fibonacci => vec![last, below],
-        Shape::FibonacciBack => vec![below, last],
+        Shape::Fibonacci => vec![last, below[1]],
+        Shape::FibonacciBack => vec![below[1], last],
         Shape::Inverted => vec![last, last ^ 1],
         Shape::Unknowns => vec![other(), last, other()],
         Shape::UnknownBetween => vec![last, other(), last],
+        Shape::Skew if known => vec![last; 8],
+        Shape::Skew => below.clone(),
       };
-      below = last;
-      last = table.add(kind::TUPLE, 0, &children);
+      below.rotate_right(1);
+      below[0] = table.add(kind::TUPLE, 0, &children);
     }
-    last
+    below[0]
   }
 }
 
@@ -105,7 +109,9 @@ impl Join {
     let mut sheet = bare(3, flex);
     let mut table = Table::default();
     let bottom = table.add(if self.error { kind::ERROR } else { kind::DEFAULT }, 0, &[]);
-    let [x, y] = [0, 1].map(|_| self.shape.round(&mut table, bottom, self.levels, false));
+    let known = self.shape == Shape::Skew;
+    let [x, y] =
+      [known, false].map(|known| self.shape.round(&mut table, bottom, self.levels, known));
     let reference = table.add(kind::REF, 0, &[x]);
     if self.error {
       for_any(&mut sheet, [0, 2, 4], flex);
@@ -159,7 +165,7 @@ pub fn restless(links: usize, levels: usize) -> Call {
   fork_and_drop([true, false].map(|known| {
     let mut table = Table::default();
     let bottom = table.add(kind::ERROR, 0, &[]);
-    let tower = Shape::Times(6).round(&mut table, bottom, levels, known);
+    let tower = Shape::Skew.round(&mut table, bottom, levels, known);
     let never = table.add(kind::NEVER, 0, &[]);
     let mut link = table.add(kind::TUPLE, 0, &[]);
     for _ in 0..links {
@@ -178,6 +184,7 @@ pub fn most(place: Place, shape: Shape) -> usize {
     Shape::Fibonacci | Shape::FibonacciBack | Shape::Inverted => (1, cells(2)),
     Shape::Unknowns => (3, cells(3) + 10),
     Shape::UnknownBetween => (2, cells(3) + 5),
+    Shape::Skew => (1, cells(8)),
   };
   match place {
     Place::Search => (240 / (2 * nodes)).min(960 / (2 * words)),
@@ -191,7 +198,8 @@ pub fn random(rng: &mut Rng, levels: usize) -> Join {
   use Shape::*;
   let place = rng.pick(&[Place::Search, Place::ImplClosing, Place::FlexClosing, Place::ForkDrop]);
   let times = Times(rng.range(2, 8));
-  let shape = rng.pick(&[times, Fibonacci, FibonacciBack, Inverted, Unknowns, UnknownBetween]);
+  let shape =
+    rng.pick(&[times, Fibonacci, FibonacciBack, Inverted, Unknowns, UnknownBetween, Skew]);
   let levels = rng.range(1, levels.min(most(place, shape)));
   Join { place, shape, levels, error: rng.chance(50) }
 }
