@@ -158,10 +158,10 @@ fn joins(levels: usize) -> Vec<Worst> {
   let mut all = Vec::new();
   for (place, part) in places {
     for (shape, error) in shapes.iter().flat_map(|&shape| [(shape, false), (shape, true)]) {
-      let levels = levels.min(joins::most(place, shape));
+      let join = joins::fitted(Join { place, shape, levels, error });
       let bottom = if error { "Error" } else { "no match" };
-      let name = format!("{shape:?}, {levels} levels, {bottom}");
-      all.push(Worst { part, name, call: Join { place, shape, levels, error }.call() });
+      let name = format!("{shape:?}, {} levels, {bottom}", join.levels);
+      all.push(Worst { part, name, call: join.call() });
     }
   }
   let (links, levels) = (50.min(3 * levels), 40.min(levels));
@@ -230,4 +230,32 @@ pub fn random(rng: &mut Rng, levels: usize) -> Worst {
     }
   };
   Worst { part, name, call }
+}
+
+#[cfg(test)]
+mod tests {
+  use oracle::{
+    answers::{self, Options},
+    case::{Answer, Case},
+  };
+
+  use super::*;
+
+  /// Every input is within the sizes, and none but those that are meant to be is refused by a check.
+  #[test]
+  fn all_pass_the_checks() {
+    for levels in [5, 16, 60, 120] {
+      for Worst { part, name, call } in all(levels) {
+        assert!(fits(&call), "{part}, {name}: {} and {}", call.sheet.len(), call.question.len());
+        let refused = answers::refused(&Case::Call(call), Options::default().work);
+        let number = match refused {
+          None => 0,
+          Some(Answer::No(number, _)) => number,
+          Some(_) => unreachable!("the answer to a call"),
+        };
+        let meant = name.rsplit_once("refused ").map_or(0, |(_, number)| number.parse().unwrap());
+        assert_eq!(number, meant, "{part}, {name}");
+      }
+    }
+  }
 }

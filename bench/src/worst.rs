@@ -25,8 +25,9 @@ use crate::{
 /// How long an input may take, and how long the port is waited for.
 const IN_TIME: Duration = Duration::from_secs(1);
 const GIVEN_UP: Duration = Duration::from_secs(3);
-/// How long a quick call is run again.
+/// How long and how often a call is run, but for slow ones.
 const RUNS: Duration = Duration::from_millis(40);
+const LEAST_RUNS: usize = 3;
 const LOOK: Duration = Duration::from_micros(500);
 const MOST_MEMORY: u64 = 2 << 30;
 /// How much stack the child's thread has: the Rust recurses deeply.
@@ -123,11 +124,13 @@ fn best_of(call: &Call, side: Side) -> Took {
   let mut workspace = vec![1; workspace_words()];
   let begun = Instant::now();
   let mut best = Duration::MAX;
+  let mut runs = 0;
   loop {
     let started = Instant::now();
     let answer = side.answer(call, &mut buffer, &mut workspace);
     best = best.min(started.elapsed());
-    if begun.elapsed() > RUNS {
+    runs += 1;
+    if begun.elapsed() > RUNS && (runs >= LEAST_RUNS || begun.elapsed() > IN_TIME) {
       let (number, count, words) = match answer {
         Answer::No(number, count) => (number, count, Vec::new()),
         Answer::Ok(count, _) if side == Side::Port => {
@@ -168,7 +171,8 @@ pub fn table(levels: usize) -> bool {
 fn print_row(worst: &Worst, port: Option<Took>) {
   let Worst { part, name, call } = worst;
   let checked = port.is_none_or(|took| took.number == 0 || took.number > 13);
-  let rust = if checked { timed(call, Side::Rust, IN_TIME) } else { None };
+  let rust = if checked { timed(call, Side::Rust, GIVEN_UP) } else { None };
+  let rust = rust.filter(|took| took.time <= IN_TIME);
   let millis = |took: Option<Took>, otherwise: &str| match took {
     Some(took) => format!("{:.3}", took.time.as_secs_f64() * 1e3),
     None => otherwise.into(),
@@ -190,15 +194,22 @@ fn differs(call: &Call, port: Took) -> bool {
   model.is_some_and(|model| !same(model))
 }
 
+/// An input by chance that is within document 01's sizes.
+fn fitting(rng: &mut Rng, levels: usize) -> Worst {
+  loop {
+    let worst = adversary::random(rng, levels);
+    if adversary::fits(&worst.call) {
+      return worst;
+    }
+  }
+}
+
 /// Tries so many inputs by chance, and prints the slowest of each part. Whether all have ended in time.
 pub fn by_chance(tries: usize, seed: u64, levels: usize) -> bool {
   let rng = &mut Rng::new(seed);
   let mut slowest: Vec<(Duration, Worst)> = Vec::new();
   for _ in 0..tries {
-    let worst = adversary::random(rng, levels);
-    if !adversary::fits(&worst.call) {
-      continue;
-    }
+    let worst = fitting(rng, levels);
     let time = timed(&worst.call, Side::Port, GIVEN_UP).map_or(GIVEN_UP, |took| took.time);
     match slowest.iter_mut().find(|(_, known)| known.part == worst.part) {
       Some(known) if known.0 < time => *known = (time, worst),

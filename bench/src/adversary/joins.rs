@@ -7,7 +7,7 @@ use oracle::{
   sheet::{flag, kind},
 };
 
-use super::{bare, bind, call, query};
+use super::{bare, bind, call, fits, query};
 
 /// Where types are joined.
 #[derive(Debug, Clone, Copy, PartialEq, Eq)]
@@ -176,21 +176,22 @@ pub fn restless(links: usize, levels: usize) -> Call {
   }))
 }
 
-/// The most levels of a shape that have room in a place, with a table of 256 nodes and a question of 1,024 words.
-pub fn most(place: Place, shape: Shape) -> usize {
-  let cells = |times: usize| 5 + 2 * times;
-  let (nodes, words) = match shape {
-    Shape::Times(times) => (1, cells(times)),
-    Shape::Fibonacci | Shape::FibonacciBack | Shape::Inverted => (1, cells(2)),
-    Shape::Unknowns => (3, cells(3) + 10),
-    Shape::UnknownBetween => (2, cells(3) + 5),
-    Shape::Skew => (1, cells(8)),
+/// The join with as many of its levels as have room in tables of 256 nodes and in the words of sheet and question.
+pub fn fitted(mut join: Join) -> Join {
+  let nodes = match join.shape {
+    Shape::Unknowns => 3,
+    Shape::UnknownBetween => 2,
+    _ => 1,
   };
-  match place {
-    Place::Search => (240 / (2 * nodes)).min(960 / (2 * words)),
-    Place::ImplClosing | Place::FlexClosing => (240 / (4 * nodes)).min(960 / (2 * words)),
-    Place::ForkDrop => 240 / (2 * nodes),
+  let tables = match join.place {
+    Place::Search | Place::ForkDrop => 2,
+    Place::ImplClosing | Place::FlexClosing => 4,
+  };
+  join.levels = join.levels.min(240 / (tables * nodes));
+  while !fits(&join.call()) {
+    join.levels -= 1;
   }
+  join
 }
 
 /// A join by chance, of at most so many levels.
@@ -200,6 +201,5 @@ pub fn random(rng: &mut Rng, levels: usize) -> Join {
   let times = Times(rng.range(2, 8));
   let shape =
     rng.pick(&[times, Fibonacci, FibonacciBack, Inverted, Unknowns, UnknownBetween, Skew]);
-  let levels = rng.range(1, levels.min(most(place, shape)));
-  Join { place, shape, levels, error: rng.chance(50) }
+  fitted(Join { place, shape, levels: rng.range(1, levels), error: rng.chance(50) })
 }
