@@ -164,7 +164,7 @@ fn joins(levels: usize) -> Vec<Worst> {
       all.push(Worst { part, name, call: join.call() });
     }
   }
-  let (links, levels) = (50.min(3 * levels), 40.min(levels));
+  let (links, levels) = (30.min(3 * levels), 75.min(levels));
   let name = format!("{links} joins between towers of {levels}");
   all.push(Worst { part: "fork with drop", name, call: joins::restless(links, levels) });
   all
@@ -195,6 +195,12 @@ fn searches() -> Vec<Worst> {
     ),
   ];
   let mut all = Vec::new();
+  let results = search::results(130);
+  all.push(Worst {
+    part: "results",
+    name: "four to each of three sub-questions".into(),
+    call: results,
+  });
   for (part, flex, levels) in [
     ("one question", false, 0),
     ("search, impl", false, base.levels),

@@ -109,15 +109,16 @@ impl Join {
     let mut sheet = bare(3, flex);
     let mut table = Table::default();
     let bottom = table.add(if self.error { kind::ERROR } else { kind::DEFAULT }, 0, &[]);
-    let known = self.shape == Shape::Skew;
-    let [x, y] =
-      [known, false].map(|known| self.shape.round(&mut table, bottom, self.levels, known));
-    let reference = table.add(kind::REF, 0, &[x]);
+    let mut side = |known| self.shape.round(&mut table, bottom, self.levels, known);
+    let x = side(self.shape == Shape::Skew);
     if self.error {
+      let y = if self.shape == Shape::Skew { side(false) } else { x };
       for_any(&mut sheet, [0, 2, 4], flex);
-    } else {
-      for_any(&mut sheet, [0, 2, 3], flex);
+      return call(&sheet, &table, &[x, y, x], flex);
     }
+    let y = side(false);
+    let reference = table.add(kind::REF, 0, &[x]);
+    for_any(&mut sheet, [0, 2, 3], flex);
     call(&sheet, &table, &[reference, x, y], flex)
   }
 
@@ -183,11 +184,14 @@ pub fn fitted(mut join: Join) -> Join {
     Shape::UnknownBetween => 2,
     _ => 1,
   };
-  let tables = match join.place {
-    Place::Search | Place::ForkDrop => 2,
-    Place::ImplClosing | Place::FlexClosing => 4,
+  // How many tables' worth of the type stand in one table at the end.
+  let copies = match (join.place, join.error && join.shape != Shape::Skew) {
+    (Place::Search | Place::ForkDrop, _) | (Place::ImplClosing, true) => 2,
+    (Place::FlexClosing, true) => 3,
+    (Place::ImplClosing, false) => 4,
+    (Place::FlexClosing, false) => 6,
   };
-  join.levels = join.levels.min(240 / (tables * nodes));
+  join.levels = join.levels.min(240 / (copies * nodes));
   while !fits(&join.call()) {
     join.levels -= 1;
   }

@@ -2,7 +2,7 @@
 
 use oracle::{
   case::Call,
-  draft::{Generics, Impl, Sheet, Table},
+  draft::{Generics, Impl, Query, Sheet, Table},
   rng::Rng,
   sheet::{flag, kind},
 };
@@ -140,6 +140,38 @@ impl Default for Search {
       structs: 0,
     }
   }
+}
+
+/// A search whose results are many and large, and come to nothing: each of 23 candidates asks three sub-questions of four
+/// results each, one behind the other, and a last one that has none. The question has a type of so many nodes.
+pub fn results(nodes: usize) -> Call {
+  let mut sheet = bare(2, false);
+  sheet.structs = vec![(0, 0)];
+  sheet.traits.push(sheet.traits[0]);
+  let mut asking = Generics { type_params: 2, ..Generics::default() };
+  let inner = [0, 1].map(|id| asking.table.add(kind::PARAM, id, &[]));
+  for trait_ in [1, 1, 1, 2] {
+    asking.impl_params.push(Query { trait_, args: inner.to_vec() });
+  }
+  sheet.generics.push(asking);
+  for place in 0..27 {
+    let mut impl_ = Impl { generics: 1, flags: flag::NAMED, ..Impl::default() };
+    let [a, b] = [0, 1].map(|id| impl_.table.add(kind::PARAM, id, &[]));
+    let last = if place < 23 {
+      impl_.table.add(kind::STRUCT, 0, &[b])
+    } else {
+      impl_.generics = 2;
+      impl_.table.add(kind::NEVER, 0, &[])
+    };
+    impl_.query = query(&mut impl_.table, &[a, last], false);
+    bind(&mut sheet, impl_);
+  }
+  sheet.generics.push(Generics { type_params: 2, ..Generics::default() });
+  let mut table = Table::default();
+  let first = dense(&mut table, None, nodes);
+  let never = table.add(kind::NEVER, 0, &[]);
+  let second = table.add(kind::STRUCT, 0, &[never]);
+  call(&sheet, &table, &[first, second], false)
 }
 
 /// A search by chance.
