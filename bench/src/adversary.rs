@@ -135,11 +135,11 @@ fn checks_and_sets() -> Vec<Worst> {
   vec![
     worst(
       "checks",
-      "500 generics with a table of 285 nodes",
-      sheets::tables(490, 275, 140, Ending::Passed),
+      "500 generics with a table of 400 nodes",
+      sheets::tables(500, 400, 140, Ending::Passed),
     ),
-    worst("checks", "the same, refused 9", sheets::tables(490, 275, 140, Ending::Sheet)),
-    worst("checks", "the same, refused 13", sheets::tables(490, 275, 135, Ending::Question)),
+    worst("checks", "the same, refused 9", sheets::tables(500, 400, 140, Ending::Sheet)),
+    worst("checks", "the same, refused 13", sheets::tables(500, 400, 135, Ending::Question)),
     worst("candidate sets", "128 definitions that share all chains", charts.call()),
     worst("candidate sets", "the same, no edge open", Charts { closed: true, ..charts }.call()),
   ]

@@ -62,7 +62,7 @@ impl Side {
   }
 }
 
-/// What a child says of a call: the best time of its runs, the number of its refusal or 0, the count, and a sum of the answer's
+/// What a child says of a call: the best processor time of its runs, the number of its refusal or 0, the count, and a sum of the answer's
 /// words.
 #[derive(Debug, Clone, Copy)]
 pub struct Took {
@@ -119,6 +119,18 @@ pub fn once(side: &str) {
   println!("{} {} {} {}", took.time.as_nanos(), took.number, took.count, took.sum);
 }
 
+/// The processor time of this thread, which other work on the machine does not add to.
+fn processor_time() -> Duration {
+  unsafe extern "C" {
+    fn clock_gettime(clock: i32, time: *mut [i64; 2]) -> i32;
+  }
+  const THREAD: i32 = 3;
+  let mut time = [0; 2];
+  // The C library writes seconds and nanoseconds.
+  unsafe { clock_gettime(THREAD, &mut time) };
+  Duration::new(time[0] as u64, time[1] as u32)
+}
+
 fn best_of(call: &Call, side: Side) -> Took {
   let mut buffer = vec![0; ANSWER_WORDS];
   let mut workspace = vec![1; workspace_words()];
@@ -126,9 +138,9 @@ fn best_of(call: &Call, side: Side) -> Took {
   let mut best = Duration::MAX;
   let mut runs = 0;
   loop {
-    let started = Instant::now();
+    let started = processor_time();
     let answer = side.answer(call, &mut buffer, &mut workspace);
-    best = best.min(started.elapsed());
+    best = best.min(processor_time() - started);
     runs += 1;
     if begun.elapsed() > RUNS && (runs >= LEAST_RUNS || begun.elapsed() > IN_TIME) {
       let (number, count, words) = match answer {

@@ -19,11 +19,15 @@ pub enum Ending {
   Question,
 }
 
-/// So many generics, all with one table of so many nodes: the table is walked once for each. Then a question of so many nodes.
+/// So many generics, all with one table of so many nodes, which share their eight cells: the table is walked once for each. Then
+/// a question of so many nodes.
 pub fn tables(generics: usize, nodes: usize, asked: usize, ending: Ending) -> Call {
   let mut sheet = bare(1, false);
   let mut shared = Generics::default();
-  dense(&mut shared.table, None, nodes);
+  let last = shared.table.add(kind::TUPLE, 0, &[]);
+  for _ in 1..nodes {
+    shared.table.add(kind::TUPLE, 0, &[last; 8]);
+  }
   sheet.generics = vec![shared; generics];
   let mut impl_ = Impl { flags: flag::NAMED, ..Impl::default() };
   let word = impl_.table.add(kind::TUPLE, 0, if ending == Ending::Sheet { &[0] } else { &[] });
