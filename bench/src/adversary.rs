@@ -167,6 +167,9 @@ fn joins(levels: usize) -> Vec<Worst> {
   let (links, levels) = (30.min(3 * levels), 75.min(levels));
   let name = format!("{links} joins between towers of {levels}");
   all.push(Worst { part: "fork with drop", name, call: joins::restless(links, levels) });
+  let (links, levels) = (20.min(links), 45.min(levels));
+  let name = format!("the same, {links} and {levels}, with self-dual structs");
+  all.push(Worst { part: "fork with drop", name, call: joins::mirrored(links, levels, 40, 500) });
   all
 }
 

@@ -7,7 +7,7 @@ use oracle::{
   sheet::{flag, kind},
 };
 
-use super::{bare, bind, call, fits, query};
+use super::{bare, bind, call, dense, fits, query};
 
 /// Where types are joined.
 #[derive(Debug, Clone, Copy, PartialEq, Eq)]
@@ -124,18 +124,21 @@ impl Join {
 
   /// An unknown that fork's impl and drop's have a type for each.
   fn fork_with_drop(&self) -> Call {
-    fork_and_drop([0, 1].map(|side| {
-      let mut table = Table::default();
-      let word = self.side(&mut table, side);
-      (table, word)
-    }))
+    fork_and_drop(
+      [0, 1].map(|side| {
+        let mut table = Table::default();
+        let word = self.side(&mut table, side);
+        (table, word)
+      }),
+      0,
+    )
   }
 }
 
-/// An unknown is asked for, with an impl of Fork and one of Drop for a type of a table each.
-fn fork_and_drop(types: [(Table, u32); 2]) -> Call {
+/// An unknown is asked for, with an impl of Fork and one of Drop for a type of a table each, and so many structs more than two.
+fn fork_and_drop(types: [(Table, u32); 2], structs: usize) -> Call {
   let mut sheet = bare(1, true);
-  sheet.structs = vec![(0, 0); 2];
+  sheet.structs = vec![(0, 1); structs + 2];
   sheet.traits.push(sheet.traits[0]);
   sheet.drop = 2;
   for (trait_, (mut table, word)) in (1..).zip(types) {
@@ -163,18 +166,46 @@ fn for_any<const N: usize>(sheet: &mut Sheet, args: [u32; N], flex: bool) {
 /// A tower that is indeterminate is met again and again, and between a join changes the table: links of a tower, an unknown
 /// that meets Never, and the link before.
 pub fn restless(links: usize, levels: usize) -> Call {
-  fork_and_drop([true, false].map(|known| {
+  fork_and_drop(
+    [true, false].map(|known| {
+      let mut table = Table::default();
+      let bottom = table.add(kind::ERROR, 0, &[]);
+      let tower = Shape::Skew.round(&mut table, bottom, levels, known);
+      let never = table.add(kind::NEVER, 0, &[]);
+      let mut link = table.add(kind::TUPLE, 0, &[]);
+      for _ in 0..links {
+        let other = if known { never } else { table.add(0, 0, &[]) };
+        link = table.add(kind::TUPLE, 0, &[tower, other, link]);
+      }
+      (table, link)
+    }),
+    0,
+  )
+}
+
+/// As `restless`, where each level of the towers also meets, four times, the inverse of a type of so many structs that is its own
+/// inverse; so many other structs stand before theirs.
+pub fn mirrored(links: usize, levels: usize, nodes: usize, structs: usize) -> Call {
+  let types = [true, false].map(|known| {
     let mut table = Table::default();
-    let bottom = table.add(kind::ERROR, 0, &[]);
-    let tower = Shape::Skew.round(&mut table, bottom, levels, known);
+    let dense = dense(&mut table, Some(structs as u32 + 1), nodes);
+    let mut below = [table.add(kind::ERROR, 0, &[]); 4];
+    for _ in 0..levels {
+      let [a, b, c, d] = if known { [below[0]; 4] } else { below };
+      let mirror = if known { dense } else { dense ^ 1 };
+      let level = table.add(kind::TUPLE, 0, &[a, b, c, d, mirror, mirror, mirror, mirror]);
+      below.rotate_right(1);
+      below[0] = level;
+    }
     let never = table.add(kind::NEVER, 0, &[]);
-    let mut link = table.add(kind::TUPLE, 0, &[]);
+    let mut link = dense;
     for _ in 0..links {
       let other = if known { never } else { table.add(0, 0, &[]) };
-      link = table.add(kind::TUPLE, 0, &[tower, other, link]);
+      link = table.add(kind::TUPLE, 0, &[link, below[0], other]);
     }
     (table, link)
-  }))
+  });
+  fork_and_drop(types, structs)
 }
 
 /// The join with as many of its levels as have room in tables of 256 nodes and in the words of sheet and question.
