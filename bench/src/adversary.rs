@@ -173,16 +173,17 @@ fn joins(levels: usize) -> Vec<Worst> {
   all
 }
 
-fn searches() -> Vec<Worst> {
+/// Searches that spend all steps, by what their failing candidates meet.
+fn meetings() -> Vec<(&'static str, Search)> {
   use Meeting::*;
   let base = Search::default();
-  let list = [
+  vec![
     ("candidates of few words", Search { meeting: Nothing, ..base }),
     (
       "candidates with generics far down their chain",
       Search { meeting: Nothing, generics: 550, ..base },
     ),
-    ("candidates with tables of 230 nodes", Search { meeting: Import, dense: 220, ..base }),
+    ("candidates with tables of 220 nodes", Search { meeting: Import, dense: 220, ..base }),
     ("types of 110 nodes alike", Search { meeting: Alike, dense: 110, ..base }),
     (
       "84 unknowns meet a type of 110 nodes",
@@ -196,20 +197,17 @@ fn searches() -> Vec<Worst> {
       "a type of 90 structs meets its inverse, 315 times",
       Search { meeting: Inverse, of_structs: true, dense: 90, links: 45, structs: 600, ..base },
     ),
-  ];
-  let mut all = Vec::new();
-  let results = search::results(130);
-  all.push(Worst {
-    part: "results",
-    name: "four to each of three sub-questions".into(),
-    call: results,
-  });
-  for (part, flex, levels) in [
-    ("one question", false, 0),
-    ("search, impl", false, base.levels),
-    ("search, flex", true, base.levels),
-  ] {
-    for (name, search) in list {
+  ]
+}
+
+fn searches() -> Vec<Worst> {
+  let name = "four to each of three sub-questions".into();
+  let mut all = vec![Worst { part: "results", name, call: search::results(130) }];
+  let steps = Search::default().levels;
+  for (part, flex, levels) in
+    [("one question", false, 0), ("search, impl", false, steps), ("search, flex", true, steps)]
+  {
+    for (name, search) in meetings() {
       let call = Search { flex, levels, ..search }.call();
       all.push(Worst { part, name: name.into(), call });
     }
@@ -228,6 +226,12 @@ pub fn random(rng: &mut Rng, levels: usize) -> Worst {
       let (generics, nodes) = (rng.range(1, 900), rng.range(1, 500));
       let name = format!("{generics} generics with a table of {nodes} nodes");
       ("checks", name, sheets::tables(generics, nodes, rng.range(1, 140), Ending::Passed))
+    }
+    2 if rng.chance(30) => {
+      let (links, levels) = (rng.range(1, 40), rng.range(1, levels));
+      let (nodes, structs) = (rng.range(1, 60), rng.range(0, 600));
+      let name = format!("mirrored, {links} links, {levels} levels, {nodes} of {structs} structs");
+      ("joins", name, joins::mirrored(links, levels, nodes, structs))
     }
     2 => {
       let join = joins::random(rng, levels);

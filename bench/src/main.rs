@@ -1,6 +1,6 @@
 //! `bench`: the port and the Rust on the same calls, class by class, in one process; each side reads the sheet's words, makes
-//! chart and candidate sets of them, and answers. Then calls on shared types, with the port alone; and the stack that the
-//! deepest searches take.
+//! chart and candidate sets of them, and answers. Then calls on shared types, with the port alone; the worst inputs for each
+//! part of a call, which `--worst` prints alone; and the stack that the deepest searches take.
 
 use std::{
   env, hint,
