@@ -164,6 +164,11 @@ fn joins(levels: usize) -> Vec<Worst> {
       all.push(Worst { part, name, call: join.call() });
     }
   }
+  for (part, nodes, flex) in [("closing join, impl", 127, false), ("closing join, flex", 84, true)]
+  {
+    let name = format!("{nodes} nodes meet their copies");
+    all.push(Worst { part, name, call: joins::copied(nodes, flex) });
+  }
   let (links, levels) = (30.min(3 * levels), 75.min(levels));
   let name = format!("{links} joins between towers of {levels}");
   all.push(Worst { part: "fork with drop", name, call: joins::restless(links, levels) });

@@ -163,6 +163,15 @@ fn for_any<const N: usize>(sheet: &mut Sheet, args: [u32; N], flex: bool) {
   bind(sheet, Impl { generics, flags: flag::NAMED, table, query });
 }
 
+/// A type of so many nodes of eight children meets its own copy with success, and all of it is answered.
+pub fn copied(nodes: usize, flex: bool) -> Call {
+  let mut sheet = bare(1, flex);
+  for_any(&mut sheet, [0], flex);
+  let mut table = Table::default();
+  let word = dense(&mut table, None, nodes);
+  call(&sheet, &table, &[word], flex)
+}
+
 /// A tower that is indeterminate is met again and again, and between a join changes the table: links of a tower, an unknown
 /// that meets Never, and the link before.
 pub fn restless(links: usize, levels: usize) -> Call {
