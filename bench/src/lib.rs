@@ -3,8 +3,10 @@
 use oracle::case::{Answer, Asked, Call};
 use vine_finder::{ANSWER_WORDS, Outcome, Sitting, find_flex, find_impl, workspace_words};
 
+pub mod adversary;
 pub mod classes;
 pub mod stack;
+pub mod worst;
 
 /// How many words more than the least are lent, which no call may touch.
 const TAIL: usize = 64;

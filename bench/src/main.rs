@@ -1,6 +1,6 @@
 //! `bench`: the port and the Rust on the same calls, class by class, in one process; each side reads the sheet's words, makes
-//! chart and candidate sets of them, and answers. Then calls on shared types, with the port alone; and the stack that the
-//! deepest searches take.
+//! chart and candidate sets of them, and answers. Then calls on shared types, with the port alone; the worst inputs for each
+//! part of a call, which `--worst` prints alone; and the stack that the deepest searches take.
 
 use std::{
   env, hint,
@@ -9,7 +9,7 @@ use std::{
   time::{Duration, Instant},
 };
 
-use bench::{Buffers, ask, classes, stack};
+use bench::{Buffers, ask, classes, stack, worst};
 use oracle::{case::Answer, case::Call, model, rust};
 use vine_finder::{ANSWER_WORDS, workspace_words};
 
@@ -21,6 +21,9 @@ const SHARED: [(&str, fn(usize) -> Call); 2] =
   [("search", classes::shared_in_search), ("closing join", classes::shared_in_closing)];
 const LEVELS: [usize; 8] = [8, 16, 20, 24, 28, 32, 40, 50];
 const TOO_LONG: Duration = Duration::from_millis(300);
+/// How many levels the joins of the worst inputs have, and how many inputs are tried by chance, where nothing is said.
+const WORST_LEVELS: usize = 16;
+const WORST_TRIES: usize = 100;
 /// The stack in which the deepest searches are to run, besides the workspace.
 const STACK: usize = 512 << 10;
 
@@ -29,11 +32,26 @@ fn main() -> ExitCode {
   match args.iter().map(String::as_str).collect::<Vec<_>>()[..] {
     [] => bench(),
     ["stack", size] => on_a_stack(size.parse().unwrap()),
+    ["once", side] => {
+      worst::once(side);
+      ExitCode::SUCCESS
+    }
+    ["--worst", ref rest @ ..] => worst_alone(rest),
     _ => {
-      eprintln!("usage: bench");
+      eprintln!("usage: bench [--worst [LEVELS] [TRIES] [SEED]]");
       ExitCode::FAILURE
     }
   }
+}
+
+/// The worst inputs alone, and a search by chance for worse ones. It fails if one takes more than a second.
+fn worst_alone(args: &[&str]) -> ExitCode {
+  let number =
+    |place: usize, otherwise| args.get(place).map_or(otherwise, |arg| arg.parse().unwrap());
+  let levels = number(0, WORST_LEVELS);
+  let listed = worst::table(levels);
+  let by_chance = worst::by_chance(number(1, WORST_TRIES), number(2, 1) as u64, levels);
+  if listed && by_chance { ExitCode::SUCCESS } else { ExitCode::FAILURE }
 }
 
 fn bench() -> ExitCode {
@@ -43,6 +61,8 @@ fn bench() -> ExitCode {
   let agreed = timing.join().unwrap();
   println!();
   let shared = shared();
+  println!();
+  worst::table(WORST_LEVELS);
   println!();
   let ran = stacks();
   if agreed && shared && ran { ExitCode::SUCCESS } else { ExitCode::FAILURE }

@@ -1,0 +1,195 @@
+//! Searches of 2,000 steps, with as many candidates to each question as there can be, which fail as late as can be.
+
+use oracle::{
+  case::Call,
+  draft::{Generics, Impl, Query, Sheet, Table},
+  rng::Rng,
+  sheet::{flag, kind},
+};
+
+use super::{IMPLS, bare, bind, call, dense, links, query};
+
+/// How the types of a question and of a candidate meet, before the candidate fails.
+#[derive(Debug, Clone, Copy, PartialEq, Eq)]
+pub enum Meeting {
+  /// Nothing but what fails.
+  Nothing,
+  /// Nothing: the candidate's types are many, and its first argument fails.
+  Import,
+  /// Two types of one shape: a join for each node.
+  Alike,
+  /// Unknowns of the candidate, each of which is bound to a dense type.
+  Unknowns,
+  /// Places where a dense type meets its own inverse.
+  Inverse,
+}
+
+/// A search in which `branch` candidates of a question ask a sub-question, to so many levels, and all others fail in the last
+/// argument, after the first two have met with success.
+#[derive(Debug, Clone, Copy)]
+pub struct Search {
+  pub flex: bool,
+  pub levels: usize,
+  pub branch: usize,
+  pub meeting: Meeting,
+  /// Dense types are of structs.
+  pub of_structs: bool,
+  /// Nodes of the dense type.
+  pub dense: usize,
+  /// Links that are met.
+  pub links: usize,
+  /// Generics or structs that fill the sheet in front of those that are used.
+  pub generics: usize,
+  pub structs: usize,
+}
+
+impl Search {
+  pub fn call(&self) -> Call {
+    let mut sheet = bare(3, self.flex);
+    sheet.structs = vec![(0, 1); self.structs + 2];
+    sheet.generics.extend(vec![Generics::default(); self.generics]);
+    let recursive = self.recursive(&mut sheet);
+    for _ in 0..self.branch {
+      bind(&mut sheet, recursive.clone());
+    }
+    sheet.generics.push(Generics { type_params: 1, ..Generics::default() });
+    for place in self.branch..IMPLS {
+      let failing = self.failing(sheet.generics.len() as u32 - 1, place as u32);
+      bind(&mut sheet, failing);
+    }
+    let mut table = Table::default();
+    let args = self.asked(&mut table);
+    call(&sheet, &table, &args, self.flex)
+  }
+
+  /// The struct that stands round what is asked below, and the one that dense types have.
+  fn round(&self) -> u32 {
+    self.structs as u32
+  }
+
+  fn dense(&self, table: &mut Table) -> u32 {
+    dense(table, self.of_structs.then_some(self.round() + 1), self.dense)
+  }
+
+  /// T[A, B, S[C]], which needs T[A, B, C].
+  fn recursive(&self, sheet: &mut Sheet) -> Impl {
+    let mut generics = Generics { type_params: 3, ..Generics::default() };
+    let inner = [0, 1, 2].map(|id| generics.table.add(kind::PARAM, id, &[]));
+    let needed = query(&mut generics.table, &inner, self.flex);
+    generics.impl_params.push(needed);
+    let mut impl_ =
+      Impl { generics: sheet.generics.len() as u32, flags: flag::NAMED, ..Impl::default() };
+    let mut outer = [0, 1, 2].map(|id| impl_.table.add(kind::PARAM, id, &[]));
+    outer[2] = impl_.table.add(kind::STRUCT, self.round(), &[outer[2]]);
+    impl_.query = query(&mut impl_.table, &outer, self.flex);
+    sheet.generics.push(generics);
+    impl_
+  }
+
+  /// A candidate that fails in its third argument, a Key of its own.
+  fn failing(&self, generics: u32, key: u32) -> Impl {
+    let mut impl_ = Impl { generics, flags: flag::NAMED, ..Impl::default() };
+    let table = &mut impl_.table;
+    let fails = table.add(kind::KEY, key, &[]);
+    let (first, second) = match self.meeting {
+      Meeting::Nothing => (table.add(0, 0, &[]), table.add(0, 0, &[])),
+      Meeting::Import => (fails, self.dense(table)),
+      Meeting::Alike => (self.dense(table), table.add(0, 0, &[])),
+      Meeting::Unknowns => {
+        let dense = table.add(0, 0, &[]);
+        (dense, links(table, self.links, |table| [(); 7].map(|()| table.add(0, 0, &[]))))
+      }
+      Meeting::Inverse => {
+        let dense = table.add(kind::PARAM, 0, &[]);
+        (dense, links(table, self.links, |_| [dense + 1; 7]))
+      }
+    };
+    impl_.query = query(table, &[first, second, fails], self.flex);
+    impl_
+  }
+
+  /// The arguments that are asked for.
+  fn asked(&self, table: &mut Table) -> [u32; 3] {
+    let dense = match self.meeting {
+      Meeting::Nothing | Meeting::Import => table.add(kind::TUPLE, 0, &[]),
+      _ => self.dense(table),
+    };
+    let met = match self.meeting {
+      Meeting::Nothing | Meeting::Import | Meeting::Alike => table.add(kind::TUPLE, 0, &[]),
+      Meeting::Unknowns | Meeting::Inverse => links(table, self.links, |_| [dense; 7]),
+    };
+    let leaf = table.add(kind::NEVER, 0, &[]);
+    let nested =
+      (0..self.levels).fold(leaf, |word, _| table.add(kind::STRUCT, self.round(), &[word]));
+    [dense, met, nested]
+  }
+}
+
+impl Default for Search {
+  /// A search that spends all steps, with candidates that meet nothing.
+  fn default() -> Search {
+    Search {
+      flex: false,
+      levels: 3,
+      branch: 13,
+      meeting: Meeting::Nothing,
+      of_structs: false,
+      dense: 1,
+      links: 0,
+      generics: 0,
+      structs: 0,
+    }
+  }
+}
+
+/// A search whose results are many and large, and come to nothing: each of 23 candidates asks three sub-questions of four
+/// results each, one behind the other, and a last one that has none. The question has a type of so many nodes.
+pub fn results(nodes: usize) -> Call {
+  let mut sheet = bare(2, false);
+  sheet.structs = vec![(0, 0)];
+  sheet.traits.push(sheet.traits[0]);
+  let mut asking = Generics { type_params: 2, ..Generics::default() };
+  let inner = [0, 1].map(|id| asking.table.add(kind::PARAM, id, &[]));
+  for trait_ in [1, 1, 1, 2] {
+    asking.impl_params.push(Query { trait_, args: inner.to_vec() });
+  }
+  sheet.generics.push(asking);
+  for place in 0..27 {
+    let mut impl_ = Impl { generics: 1, flags: flag::NAMED, ..Impl::default() };
+    let [a, b] = [0, 1].map(|id| impl_.table.add(kind::PARAM, id, &[]));
+    let last = if place < 23 {
+      impl_.table.add(kind::STRUCT, 0, &[b])
+    } else {
+      impl_.generics = 2;
+      impl_.table.add(kind::NEVER, 0, &[])
+    };
+    impl_.query = query(&mut impl_.table, &[a, last], false);
+    bind(&mut sheet, impl_);
+  }
+  sheet.generics.push(Generics { type_params: 2, ..Generics::default() });
+  let mut table = Table::default();
+  let first = dense(&mut table, None, nodes);
+  let never = table.add(kind::NEVER, 0, &[]);
+  let second = table.add(kind::STRUCT, 0, &[never]);
+  call(&sheet, &table, &[first, second], false)
+}
+
+/// A search by chance.
+pub fn random(rng: &mut Rng) -> Search {
+  use Meeting::*;
+  let (levels, branch) = rng.pick(&[(2, 44), (3, 12), (3, 13), (4, 7), (5, 5), (6, 4), (10, 2)]);
+  let meeting = rng.pick(&[Nothing, Import, Alike, Unknowns, Inverse]);
+  let of_structs = rng.chance(50);
+  let filler = rng.range(0, 400);
+  Search {
+    flex: rng.chance(30),
+    levels,
+    branch,
+    meeting,
+    of_structs,
+    dense: rng.range(1, if meeting == Import { 230 } else { 120 }),
+    links: rng.range(1, if meeting == Unknowns { 14 } else { 60 }),
+    generics: if of_structs { 0 } else { filler },
+    structs: if of_structs { filler } else { 0 },
+  }
+}
