@@ -7,8 +7,8 @@ use Rattle.marks.proofs.keep_at.Tie as tie
 keeps-requires : tie.Need-keeps-requires
 keeps-requires c κs = search needs
 
-offset-requires : tie.Need-offset-requires
-offset-requires c κs = search needs
+noted-requires : tie.Need-noted-requires
+noted-requires c κs = search needs
 
 next-mark-requires : tie.Need-next-mark-requires
 next-mark-requires c κs = search needs
@@ -25,4 +25,4 @@ returns-3 c = search (needs, step-broken)
 pub keep-at-spec : {M : Type 1} → statement M
 keep-at-spec =
     tie.close
-    (tie.spec keeps-requires offset-requires next-mark-requires returns returns-2 returns-3)
+    (tie.spec keeps-requires noted-requires next-mark-requires returns returns-2 returns-3)
