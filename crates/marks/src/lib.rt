@@ -57,12 +57,12 @@ fn keep_at(s: &[u32], len: usize, ws: &[u32], h: usize, b: usize, i: usize) -> u
     requires { ⌜ b + length (now s) ≤ length (now ws) ⌝ }
     ensures { λ r. ⌜ r ≡ keep-step (now (s .entry)) len (now (ws .entry)) h b i ⌝ }
 {
-    let k = keeps(s, len, i);
     let m = noted(ws, h, i);
-    if k {
-        if m == 1 {
-            return next_mark(s, ws, b, i);
-        }
+    if m != 1 {
+        return 0;
+    }
+    if keeps(s, len, i) {
+        return next_mark(s, ws, b, i);
     }
     0
 }
