@@ -22,7 +22,7 @@ ghost use Rattle.steps.specs.Asking.{finder-of, Sound, Scratch, Asking, 
 ghost use Rattle.steps.specs.Behind.{brought, Behind, ParamIn};
 ghost use Rattle.steps.specs.Built.{NoneLeft, LeafStep, SmallIds, Autos};
 ghost use Rattle.steps.specs.Params.{ParamStep, ParamsStep};
-ghost use Rattle.steps.specs.Candidate.{Fitted, Seeks, PartOpens};
+ghost use Rattle.steps.specs.Candidate.{Fitted, NoneNeeded, Seeks, PartOpens};
 ghost use Rattle.steps.specs.Next.{NextId};
 use admitted::Candidate;
 use admitted::Found;
@@ -299,6 +299,18 @@ fn no_questions(n: usize) -> Queries
     }
 }
 
+// No sub-questions.
+fn none_needed() -> Queries
+    ensures { λ r. ⌜ NoneNeeded r ⌝ }
+{
+    Queries {
+        n: 0,
+        trs: [0, 0, 0, 0],
+        counts: [0, 0, 0, 0],
+        args: [0, 0, 0, 0, 0, 0, 0, 0, 0, 0, 0, 0, 0, 0, 0, 0],
+    }
+}
+
 // Sub-questions as they are asked: more than four are FULL.
 fn fitted(qs: Queries) -> Queries
     ensures { λ r. ⌜ Fitted qs r ⌝ }
@@ -331,6 +343,11 @@ fn seek(
     requires { ⌜ base + fresh-count (now sheet) i ≤ length (types-of (now dst)) ⌝ }
     ensures { λ r. ⌜ Seeks (now (sheet .entry)) i base (now (dst .entry)) r (now (dst .exit)) ⌝ }
 {
+    let g = chart::impl_generics(sheet, i);
+    let head = chart::impl_params_head(sheet, g);
+    if head == 0 {
+        return none_needed();
+    }
     let qs = opening::need(sheet, dst, places, map, base, i);
     fitted(qs)
 }
