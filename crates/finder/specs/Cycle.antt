@@ -493,9 +493,23 @@ module _ (L d : ℕ) (s sets : Words) (f : Finder) (search : Searching s sets f)
     pub asked-goes : (r : Asked) (out : Words) → Collects L (sub-one (ask-below d (finder-of s f)) (drop (from + 1) (queries-of qs))) m c (putMid 8970 (length us - 8970) us ys) r out → Answers (within (ltb L) (find-subimpls (ask-below d (finder-of s f)) (types-of ws) (drop from (queries-of qs))) count) r out
     asked-goes r out x = sub-goes L d (finder-of s f) (search .sound) ws us ys _ qs from count first t h room copied gone came-back c m p r out x
 
--- New slices for an import.
-pub scratch-new : Scratch (replicate 1024 0) (replicate 1024 0)
-scratch-new = record { places-long = long; map-long = long }
-  where
-    long : 1024 ≤ length (replicate {A = ℕ} 1024 0)
-    long = subst (λ n. 1024 ≤ n) (sym (length-replicate {0} {A = ℕ} 1024 0)) (le-refl 1024)
+-- New slices for an import: of n words, from a sheet of at most five times as many.
+module _ (n : ℕ) (s : Words) (h : length s ≤ 5 * n) where
+  long : length s ≤ 5 * length (replicate {A = ℕ} n 0)
+  long = subst (λ k. length s ≤ 5 * k) (sym (length-replicate {0} {A = ℕ} n 0)) h
+
+  new-slices : (m : ℕ) → n ≤ m → 256 ≤ m → Scratch s (replicate n 0) (replicate m 0)
+  new-slices m l k = record {
+    places-long = long;
+    map-long = subst (λ j. length s ≤ 5 * j) (sym (length-replicate {0} {A = ℕ} m 0)) (omega arith);
+    marks-long = subst (λ j. 256 ≤ j) (sym (length-replicate {0} {A = ℕ} m 0)) k;
+  }
+
+pub scratch-small : (s : Words) → length s ≤ 320 → Scratch s (replicate 64 0) (replicate 256 0)
+scratch-small s h = new-slices 64 s (omega arith) 256 (omega arith) (omega arith)
+
+pub scratch-middle : (s : Words) → length s ≤ 1280 → Scratch s (replicate 256 0) (replicate 256 0)
+scratch-middle s h = new-slices 256 s (omega arith) 256 (omega arith) (omega arith)
+
+pub scratch-wide : (s : Words) (f : Finder) → Sound (finder-of s f) → Scratch s (replicate 1024 0) (replicate 1024 0)
+scratch-wide s f h = let short = h .ready .short in new-slices 1024 s (omega (arith, short)) 1024 (omega arith) (omega arith)

@@ -26,10 +26,48 @@ const RESULTS: usize = 10764;
 
 const REST: usize = 17940;
 
-// The words that an import from the sheet needs for the places of a table's records, and for its mapping.
-const SCRATCH: usize = 1024;
+// An import from the sheet needs words for the places of a table's records and for its mapping, a fifth of the sheet's: for a small sheet, for one of
+// middle size, and for any; and as many for marks as a table has nodes. They are zeroed each time, so that fewer are faster.
+const SMALL: usize = 64;
 
-// Built-in fork and drop, then the generics' impl parameters.
+const MIDDLE: usize = 256;
+
+const WIDE: usize = 1024;
+
+const SMALL_SHEET: usize = 320;
+
+const MIDDLE_SHEET: usize = 1280;
+
+// Built-in fork and drop, then the generics' impl parameters, in slices for a sheet of middle size.
+fn begin_middle(sheet: &[u32], ws: &mut [u32], f: Finder, basic: u32, q: Query, count: u32) -> Asked
+    requires { ⌜ Sound (finder-of (now sheet) f) ⌝ }
+    requires { ⌜ Asking (now ws) q ⌝ }
+    requires { ⌜ 10764 ≤ length (now ws) ⌝ }
+    requires { ⌜ basic < 2 ⌝ }
+    requires { ⌜ count ≤ 4000000000 ⌝ }
+    requires { ⌜ length (now sheet) ≤ 1280 ⌝ }
+    ensures { λ r. ⌜ Begins (finder-of (now (sheet .entry)) f) (eqb basic 1) (now (ws .entry)) (query-of q) count r (now (ws .exit)) ⌝ }
+{
+    let mut places = [0u32; MIDDLE];
+    let mut map = [0u32; MIDDLE];
+    steps::before_candidates(sheet, ws, &mut places, &mut map, f, basic, q, count)
+}
+
+// The same in slices for any sheet.
+fn begin_wide(sheet: &[u32], ws: &mut [u32], f: Finder, basic: u32, q: Query, count: u32) -> Asked
+    requires { ⌜ Sound (finder-of (now sheet) f) ⌝ }
+    requires { ⌜ Asking (now ws) q ⌝ }
+    requires { ⌜ 10764 ≤ length (now ws) ⌝ }
+    requires { ⌜ basic < 2 ⌝ }
+    requires { ⌜ count ≤ 4000000000 ⌝ }
+    ensures { λ r. ⌜ Begins (finder-of (now (sheet .entry)) f) (eqb basic 1) (now (ws .entry)) (query-of q) count r (now (ws .exit)) ⌝ }
+{
+    let mut places = [0u32; WIDE];
+    let mut map = [0u32; WIDE];
+    steps::before_candidates(sheet, ws, &mut places, &mut map, f, basic, q, count)
+}
+
+// Built-in fork and drop, then the generics' impl parameters, if there are any.
 fn begin(sheet: &[u32], ws: &mut [u32], f: Finder, basic: u32, q: Query, count: u32) -> Asked
     requires { ⌜ Sound (finder-of (now sheet) f) ⌝ }
     requires { ⌜ Asking (now ws) q ⌝ }
@@ -38,9 +76,54 @@ fn begin(sheet: &[u32], ws: &mut [u32], f: Finder, basic: u32, q: Query, count: 
     requires { ⌜ count ≤ 4000000000 ⌝ }
     ensures { λ r. ⌜ Begins (finder-of (now (sheet .entry)) f) (eqb basic 1) (now (ws .entry)) (query-of q) count r (now (ws .exit)) ⌝ }
 {
-    let mut places = [0u32; SCRATCH];
-    let mut map = [0u32; SCRATCH];
-    steps::before_candidates(sheet, ws, &mut places, &mut map, f, basic, q, count)
+    if steps::no_params(sheet, f) {
+        return steps::built_ins(sheet, ws, f, basic, q, count);
+    }
+    if sheet.len() <= MIDDLE_SHEET {
+        return begin_middle(sheet, ws, f, basic, q, count);
+    }
+    begin_wide(sheet, ws, f, basic, q, count)
+}
+
+// Opens a candidate behind slot 4, in slices for a small sheet.
+fn open_small(sheet: &[u32], ws: &mut [u32], f: Finder, q: Query, i: usize) -> Queries
+    requires { ⌜ Sound (finder-of (now sheet) f) ⌝ }
+    requires { ⌜ Asking (now ws) q ⌝ }
+    requires { ⌜ 10764 ≤ length (now ws) ⌝ }
+    requires { ⌜ i < many (now sheet) header·impls ⌝ }
+    requires { ⌜ length (now sheet) ≤ 320 ⌝ }
+    ensures { λ r. ⌜ Opens (now (sheet .entry)) (now (ws .entry)) (query-of q) i r (now (ws .exit)) ⌝ }
+{
+    let mut places = [0u32; SMALL];
+    let mut map = [0u32; MIDDLE];
+    steps::open_candidate(sheet, ws, &mut places, &mut map, f, q, i)
+}
+
+// The same in slices for a sheet of middle size.
+fn open_middle(sheet: &[u32], ws: &mut [u32], f: Finder, q: Query, i: usize) -> Queries
+    requires { ⌜ Sound (finder-of (now sheet) f) ⌝ }
+    requires { ⌜ Asking (now ws) q ⌝ }
+    requires { ⌜ 10764 ≤ length (now ws) ⌝ }
+    requires { ⌜ i < many (now sheet) header·impls ⌝ }
+    requires { ⌜ length (now sheet) ≤ 1280 ⌝ }
+    ensures { λ r. ⌜ Opens (now (sheet .entry)) (now (ws .entry)) (query-of q) i r (now (ws .exit)) ⌝ }
+{
+    let mut places = [0u32; MIDDLE];
+    let mut map = [0u32; MIDDLE];
+    steps::open_candidate(sheet, ws, &mut places, &mut map, f, q, i)
+}
+
+// The same in slices for any sheet.
+fn open_wide(sheet: &[u32], ws: &mut [u32], f: Finder, q: Query, i: usize) -> Queries
+    requires { ⌜ Sound (finder-of (now sheet) f) ⌝ }
+    requires { ⌜ Asking (now ws) q ⌝ }
+    requires { ⌜ 10764 ≤ length (now ws) ⌝ }
+    requires { ⌜ i < many (now sheet) header·impls ⌝ }
+    ensures { λ r. ⌜ Opens (now (sheet .entry)) (now (ws .entry)) (query-of q) i r (now (ws .exit)) ⌝ }
+{
+    let mut places = [0u32; WIDE];
+    let mut map = [0u32; WIDE];
+    steps::open_candidate(sheet, ws, &mut places, &mut map, f, q, i)
 }
 
 // Opens a candidate behind slot 4: the table there is that of its sub-questions.
@@ -51,9 +134,13 @@ fn open_one(sheet: &[u32], ws: &mut [u32], f: Finder, q: Query, i: usize) -> Que
     requires { ⌜ i < many (now sheet) header·impls ⌝ }
     ensures { λ r. ⌜ Opens (now (sheet .entry)) (now (ws .entry)) (query-of q) i r (now (ws .exit)) ⌝ }
 {
-    let mut places = [0u32; SCRATCH];
-    let mut map = [0u32; SCRATCH];
-    steps::open_candidate(sheet, ws, &mut places, &mut map, f, q, i)
+    if sheet.len() <= SMALL_SHEET {
+        return open_small(sheet, ws, f, q, i);
+    }
+    if sheet.len() <= MIDDLE_SHEET {
+        return open_middle(sheet, ws, f, q, i);
+    }
+    open_wide(sheet, ws, f, q, i)
 }
 
 // A question, with `depth` levels left for it and what it asks: `_find_impl`.

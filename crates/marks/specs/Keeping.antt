@@ -59,14 +59,19 @@ module _ (s ws : Words) (b i next : ℕ) (q : next ≡ at s i) where
 unfoldable pub keep-step : Words → ℕ → Words → ℕ → ℕ → ℕ → ℕ
 keep-step s len ws h b i = elim (record-keeps s len i) [ false ↦ 0 | true ↦ elim (flag ws h i) [ false ↦ 0 | true ↦ next-mark s ws b i ] ]
 
+-- The heads in the record do not keep the rule.
+pub step-heads : (s : Words) (len : ℕ) (ws : Words) (h b i m : ℕ) → m ≡ at ws (h + i) → m ≢ 1 → 0 ≡ keep-step s len ws h b i
+unfolding keep-step
+step-heads s len ws h b i m q d = go (record-keeps s len i) ∙ ap (λ (x : Bool). elim (record-keeps s len i) as (λ y. ℕ) [ false ↦ 0 | true ↦ elim x as (λ y. ℕ) [ false ↦ 0 | true ↦ next-mark s ws b i ] ]) (sym (ne-eqb (at ws (h + i)) 1 (λ x. d (q ∙ x))))
+  where
+    go : (k : Bool) → _≡_ {A = ℕ} 0 (elim k as (λ y. ℕ) [ false ↦ 0 | true ↦ 0 ])
+    go true = refl
+    go false = refl
+
 module _ (s : Words) (len : ℕ) (ws : Words) (h b i : ℕ) (k : Bool) (e : k ≡ record-keeps s len i) where
   pub step-broken : k ≡ false → 0 ≡ keep-step s len ws h b i
   unfolding keep-step
   step-broken f = rw (sym e ∙ f, keep-step)
-
-  pub step-heads : (m : ℕ) → m ≡ at ws (h + i) → k ≡ true → m ≢ 1 → 0 ≡ keep-step s len ws h b i
-  unfolding keep-step
-  step-heads m q f d = rw (sym e ∙ f, ne-eqb (at ws (h + i)) 1 (λ x. d (q ∙ x)), keep-step)
 
   pub step-next : (m : ℕ) → m ≡ at ws (h + i) → k ≡ true → m ≡ 1 → (r : ℕ) → r ≡ next-mark s ws b i → r ≡ keep-step s len ws h b i
   unfolding keep-step
@@ -118,7 +123,7 @@ module _ (s : Words) (len : ℕ) (long : 0 < len) (ws us : Words) (h b : ℕ) (a
 
         flagged : record-keeps s len i ≡ true → Dec (at us (h + i) ≡ 1) → keep-step s len us h b i ≡ kept i
         flagged e (yes m) = sym (step-next s len us h b i true (sym e) (at us (h + i)) refl refl m (next-mark s us b i) refl) ∙ linked (subst T (sym e) tt) (ℕ-discrete (at s i) 0) ∙ as-next e m
-        flagged e (no d) = sym (step-heads s len us h b i true (sym e) (at us (h + i)) refl refl d) ∙ heads-not e d
+        flagged e (no d) = sym (step-heads s len us h b i (at us (h + i)) refl d) ∙ heads-not e d
 
         go : (x : Bool) → record-keeps s len i ≡ x → keep-step s len us h b i ≡ kept i
         go true e = flagged e (ℕ-discrete (at us (h + i)) 1)

@@ -28,8 +28,17 @@ pub fn keeps(s: &[u32], len: usize, i: usize) -> bool
     i + len <= next
 }
 
+// What the plane from b has noted of a place.
+fn noted(ws: &[u32], b: usize, i: usize) -> u32
+    requires { ⌜ b + i < length (now ws) ⌝ }
+    ensures { λ r. ⌜ r ≡ at (now (ws .entry)) (b + i) ⌝ }
+{
+    ws[b + i]
+}
+
 // What is noted of the next of the record at a place: 1 where there is none, 0 where it lies past the end.
 fn next_mark(s: &[u32], ws: &[u32], b: usize, i: usize) -> u32
+    requires { ⌜ b + length (now s) ≤ length (now ws) ⌝ }
     ensures { λ r. ⌜ r ≡ next-mark (now (s .entry)) (now (ws .entry)) b i ⌝ }
 {
     let next = words::next(s, i);
@@ -39,19 +48,21 @@ fn next_mark(s: &[u32], ws: &[u32], b: usize, i: usize) -> u32
     if s.len() <= next {
         return 0;
     }
-    words::offset(ws, b, next)
+    noted(ws, b, next)
 }
 
 // What is noted of a place: whether the chain from there keeps the rule, as far as the record there and what is noted of its next say.
 fn keep_at(s: &[u32], len: usize, ws: &[u32], h: usize, b: usize, i: usize) -> u32
+    requires { ⌜ h + i < length (now ws) ⌝ }
+    requires { ⌜ b + length (now s) ≤ length (now ws) ⌝ }
     ensures { λ r. ⌜ r ≡ keep-step (now (s .entry)) len (now (ws .entry)) h b i ⌝ }
 {
-    let k = keeps(s, len, i);
-    let m = words::offset(ws, h, i);
-    if k {
-        if m == 1 {
-            return next_mark(s, ws, b, i);
-        }
+    let m = noted(ws, h, i);
+    if m != 1 {
+        return 0;
+    }
+    if keeps(s, len, i) {
+        return next_mark(s, ws, b, i);
     }
     0
 }
@@ -98,6 +109,23 @@ pub fn head_mark(s: &[u32], lo: usize, ws: &[u32], c: usize, w: usize) -> u32
     words::offset(ws, c, w)
 }
 
+// The same, where the plane is there.
+fn head_noted(s: &[u32], lo: usize, ws: &[u32], c: usize, w: usize) -> u32
+    requires { ⌜ c + length (now s) ≤ length (now ws) ⌝ }
+    ensures { λ r. ⌜ r ≡ head-mark (now (s .entry)) lo (now (ws .entry)) c w ⌝ }
+{
+    if w == 0 {
+        return 1;
+    }
+    if w < lo {
+        return 0;
+    }
+    if s.len() <= w {
+        return 0;
+    }
+    noted(ws, c, w)
+}
+
 // Notes, in the plane from b, what the plane from c says of the head `off` words past each place.
 pub fn note_heads(s: &[u32], lo: usize, off: usize, ws: &mut [u32], c: usize, b: usize)
     requires { ⌜ (c + length (now s) ≤ b) × (b + length (now s) ≤ length (now ws)) ⌝ }
@@ -105,7 +133,7 @@ pub fn note_heads(s: &[u32], lo: usize, off: usize, ws: &mut [u32], c: usize, b:
 {
     let mut i = 0;
     while i < s.len() {
-        let r = head_mark(s, lo, ws, c, words::wide(words::offset(s, i, off)));
+        let r = head_noted(s, lo, ws, c, words::wide(words::offset(s, i, off)));
         ws[b + i] = r;
         i += 1;
     }
@@ -113,10 +141,12 @@ pub fn note_heads(s: &[u32], lo: usize, off: usize, ws: &mut [u32], c: usize, b:
 
 // Whether the planes from x and y both mark a place.
 fn both_marked(ws: &[u32], x: usize, y: usize, i: usize) -> u32
+    requires { ⌜ x + i < length (now ws) ⌝ }
+    requires { ⌜ y + i < length (now ws) ⌝ }
     ensures { λ r. ⌜ r ≡ bit (flag (now (ws .entry)) x i && flag (now (ws .entry)) y i) ⌝ }
 {
-    if words::offset(ws, x, i) == 1 {
-        if words::offset(ws, y, i) == 1 {
+    if noted(ws, x, i) == 1 {
+        if noted(ws, y, i) == 1 {
             return 1;
         }
         return 0;

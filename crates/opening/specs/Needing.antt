@@ -1,5 +1,5 @@
 -- One candidate's impl parameters, imported under the types that stand for its type parameters: its sub-questions.
-use Prim.Native.Nat.{ℕ, _+_, _≤_, _<_}
+use Prim.Native.Nat.{ℕ, _+_, _*_, _≤_, _<_}
 use mathlib.Core.Path.{_≡_, refl, sym, _∙_, ap, ap₂, subst}
 use mathlib.Core.Bool.{Bool, true, false}
 use mathlib.Core.List.{List}
@@ -88,7 +88,7 @@ module _ (s : Words) (sound : Sound s) (i : ℕ) (h : i < many s header·impls) 
     pub generics-neat : Neat (table s head)
     generics-neat = params-neat s sound g head there e
 
-    pub need-lent : (places map : Words) → 1024 ≤ length places → 1024 ≤ length map → Lent s head places map
+    pub need-lent : (places map : Words) → length s ≤ 5 * length places → (length s ≤ 5 * length map) × (256 ≤ length map) → Lent s head places map
     need-lent places map j k = generics-lent s sound g head places map there e j k
 
     module _ (qs : Queries) (eq : queries-of qs ≡ (impl-params s g) .1) where

@@ -39,15 +39,15 @@ module _ (s : Words) (sound : Sound s) where
   abbrev pub finder : Finder
   finder = record { sheet = s; source = sound .source; generics = sound .generics }
 
-  -- Slices of 1,024 words serve every import from it: for a table whose records fit into it,
-  fits : (head : ℕ) (places map : Words) → 5 * length (chain s head) ≤ length s → 1024 ≤ length places → 1024 ≤ length map → Lent s head places map
-  fits head places map f h k = record { places-long = omega (arith, sound .short); map-long = omega (arith, sound .short); marks-long = omega arith }
+  -- Slices of a fifth of its words serve every import from it: for a table whose records fit into it,
+  fits : (head : ℕ) (places map : Words) → 5 * length (chain s head) ≤ length s → length s ≤ 5 * length places → (length s ≤ 5 * length map) × (256 ≤ length map) → Lent s head places map
+  fits head places map f h k = record { places-long = omega arith; map-long = omega (arith, k .0); marks-long = k .1 }
 
   -- as those of impls and of generics do.
-  pub signature-lent : (i head : ℕ) (places map : Words) → i < many s header·impls → head ≡ field s header·impls i impl·table → 1024 ≤ length places → 1024 ≤ length map → Lent s head places map
+  pub signature-lent : (i head : ℕ) (places map : Words) → i < many s header·impls → head ≡ field s header·impls i impl·table → length s ≤ 5 * length places → (length s ≤ 5 * length map) × (256 ≤ length map) → Lent s head places map
   signature-lent i head places map h e j k = fits head places map (subst (λ x. 5 * length (chain s x) ≤ length s) (sym e) (impl-few s (sound .ready .chains) i h)) j k
 
-  pub generics-lent : (g head : ℕ) (places map : Words) → g < many s header·generics → head ≡ field s header·generics g generics·table → 1024 ≤ length places → 1024 ≤ length map → Lent s head places map
+  pub generics-lent : (g head : ℕ) (places map : Words) → g < many s header·generics → head ≡ field s header·generics g generics·table → length s ≤ 5 * length places → (length s ≤ 5 * length map) × (256 ≤ length map) → Lent s head places map
   generics-lent g head places map h e j k = fits head places map (subst (λ x. 5 * length (chain s x) ≤ length s) (sym e) (generics-few s (sound .ready .chains) g h)) j k
 
   -- One impl parameter of generics g, whose table has that head.

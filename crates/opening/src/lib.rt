@@ -4,7 +4,7 @@ ghost use mathlib.Core.Path.{_≡_};
 ghost use mathlib.Core.Bool.{true};
 ghost use mathlib.Core.List.{map as map-list};
 ghost use mathlib.Core.Option.{none, some};
-ghost use Prim.Native.Nat.{_+_, _<_, _≤_};
+ghost use Prim.Native.Nat.{_+_, _*_, _<_, _≤_};
 ghost use lib.ListN.{length};
 ghost use Rattle.rules.specs.Layout.{header·generics, header·impls};
 ghost use Rattle.rules.specs.Sheet.{field, many};
@@ -203,8 +203,8 @@ pub fn meet_param(
 ) -> Signed
     requires { ⌜ Sound (now sheet) ⌝ }
     requires { ⌜ generics < many (now sheet) header·generics ⌝ }
-    requires { ⌜ 1024 ≤ length (now places) ⌝ }
-    requires { ⌜ 1024 ≤ length (now map) ⌝ }
+    requires { ⌜ length (now sheet) ≤ 5 * length (now places) ⌝ }
+    requires { ⌜ (length (now sheet) ≤ 5 * length (now map)) × (256 ≤ length (now map)) ⌝ }
     requires { ⌜ Packed (now dst) ⌝ }
     requires { ⌜ Neat (types-of (now dst)) ⌝ }
     requires { ⌜ q .n ≤ 4 ⌝ }
@@ -229,8 +229,8 @@ fn sign_with(
 ) -> Signed
     requires { ⌜ Sound (now sheet) ⌝ }
     requires { ⌜ i < many (now sheet) header·impls ⌝ }
-    requires { ⌜ 1024 ≤ length (now places) ⌝ }
-    requires { ⌜ 1024 ≤ length (now map) ⌝ }
+    requires { ⌜ length (now sheet) ≤ 5 * length (now places) ⌝ }
+    requires { ⌜ (length (now sheet) ≤ 5 * length (now map)) × (256 ≤ length (now map)) ⌝ }
     requires { ⌜ Packed (now dst) ⌝ }
     requires { ⌜ q .n ≤ 4 ⌝ }
     requires { ⌜ AllIn (length (types-of (now dst))) ((query-of q) .1) ⌝ }
@@ -258,8 +258,8 @@ fn sign_from(
 ) -> Signed
     requires { ⌜ Sound (now sheet) ⌝ }
     requires { ⌜ i < many (now sheet) header·impls ⌝ }
-    requires { ⌜ 1024 ≤ length (now places) ⌝ }
-    requires { ⌜ 1024 ≤ length (now map) ⌝ }
+    requires { ⌜ length (now sheet) ≤ 5 * length (now places) ⌝ }
+    requires { ⌜ (length (now sheet) ≤ 5 * length (now map)) × (256 ≤ length (now map)) ⌝ }
     requires { ⌜ Packed (now dst) ⌝ }
     requires { ⌜ q .n ≤ 4 ⌝ }
     requires { ⌜ AllIn (length (types-of (now dst))) ((query-of q) .1) ⌝ }
@@ -284,8 +284,8 @@ pub fn sign(
 ) -> Signed
     requires { ⌜ Sound (now sheet) ⌝ }
     requires { ⌜ i < many (now sheet) header·impls ⌝ }
-    requires { ⌜ 1024 ≤ length (now places) ⌝ }
-    requires { ⌜ 1024 ≤ length (now map) ⌝ }
+    requires { ⌜ length (now sheet) ≤ 5 * length (now places) ⌝ }
+    requires { ⌜ (length (now sheet) ≤ 5 * length (now map)) × (256 ≤ length (now map)) ⌝ }
     requires { ⌜ Packed (now dst) ⌝ }
     requires { ⌜ q .n ≤ 4 ⌝ }
     requires { ⌜ AllIn (length (types-of (now dst))) ((query-of q) .1) ⌝ }
@@ -377,8 +377,8 @@ fn need_with(
 ) -> Queries
     requires { ⌜ Sound (now sheet) ⌝ }
     requires { ⌜ i < many (now sheet) header·impls ⌝ }
-    requires { ⌜ 1024 ≤ length (now places) ⌝ }
-    requires { ⌜ 1024 ≤ length (now map) ⌝ }
+    requires { ⌜ length (now sheet) ≤ 5 * length (now places) ⌝ }
+    requires { ⌜ (length (now sheet) ≤ 5 * length (now map)) × (256 ≤ length (now map)) ⌝ }
     requires { ⌜ Packed (now dst) ⌝ }
     requires { ⌜ TypeWords (now ps) ⌝ }
     ensures { λ r. ⌜ Needs (needed-by (now (sheet .entry)) i (params-of true (now (ps .entry))) (types-of (now (dst .entry)))) r (now (dst .exit)) ⌝ }
@@ -401,8 +401,8 @@ pub fn need(
 ) -> Queries
     requires { ⌜ Sound (now sheet) ⌝ }
     requires { ⌜ i < many (now sheet) header·impls ⌝ }
-    requires { ⌜ 1024 ≤ length (now places) ⌝ }
-    requires { ⌜ 1024 ≤ length (now map) ⌝ }
+    requires { ⌜ length (now sheet) ≤ 5 * length (now places) ⌝ }
+    requires { ⌜ (length (now sheet) ≤ 5 * length (now map)) × (256 ≤ length (now map)) ⌝ }
     requires { ⌜ Packed (now dst) ⌝ }
     requires { ⌜ base + fresh-count (now sheet) i ≤ length (types-of (now dst)) ⌝ }
     ensures { λ r. ⌜ Follows (now (sheet .entry)) i base (now (dst .entry)) r (now (dst .exit)) ⌝ }

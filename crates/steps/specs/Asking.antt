@@ -1,5 +1,5 @@
 -- What the members of the search rely on: a checked call, the sets of its source, lent slices, and a neat table whose nodes the question's types are.
-use Prim.Native.Nat.{ℕ, _+_, _≤_, _<_}
+use Prim.Native.Nat.{ℕ, _+_, _*_, _≤_, _<_}
 use mathlib.Core.Path.{_≡_, refl, sym, _∙_, ap, subst}
 use mathlib.Core.Bool.{Bool}
 use mathlib.Core.List.{List, [], map}
@@ -43,13 +43,14 @@ pub record Searching (s sets : Words) (f : Finder) : Type 0 where
   pub stands : Stands s (f .source) sets
   pub low : f .limit ≤ 4000000000
 
--- Slices lent for imports.
-pub record Scratch (places map : Words) : Type 0 where
-  pub places-long : 1024 ≤ length places
-  pub map-long : 1024 ≤ length map
+-- Slices lent for imports from s: a table of a checked sheet has at most a fifth as many nodes as the sheet has words.
+pub record Scratch (s places map : Words) : Type 0 where
+  pub places-long : length s ≤ 5 * length places
+  pub map-long : length s ≤ 5 * length map
+  pub marks-long : 256 ≤ length map
 
-pub scratch-kept : (ps ms qs ns : Words) → Scratch ps ms → length qs ≡ length ps → length ns ≡ length ms → Scratch qs ns
-scratch-kept ps ms qs ns h e d = record { places-long = omega (arith, h .places-long); map-long = omega (arith, h .map-long) }
+pub scratch-kept : (s ps ms qs ns : Words) → Scratch s ps ms → length qs ≡ length ps → length ns ≡ length ms → Scratch s qs ns
+scratch-kept s ps ms qs ns h e d = record { places-long = omega (arith, h .places-long); map-long = omega (arith, h .map-long); marks-long = omega (arith, h .marks-long) }
 
 -- A question of the table in slot 0.
 pub record Asking (ws : Words) (q : Query) : Type 0 where

@@ -1,14 +1,16 @@
 -- How a question begins: built-in fork and drop, then the generics' impl parameters; a basic one has neither.
 use Prim.Native.Nat.{ℕ, _≤_}
-use mathlib.Core.Path.{_≡_, refl, _∙_, ap, subst}
+use mathlib.Core.Path.{_≡_, refl, sym, _∙_, ap, subst}
+use mathlib.Core.Bool.{true}
 use mathlib.Core.Logic.{_≢_}
-use mathlib.Core.List.{List, [], map}
+use mathlib.Core.List.{List, [], _∷_, map}
 use native.Mathlib.Omega.{arith}
-use borrow.Author.Tests.{ne-eqb}
+use borrow.Author.Tests.{ne-eqb, eqb-true}
 use lib.Dec.{eqb, ltb}
 use Rattle.rules.specs.Lists.{Words}
-use Rattle.rules.specs.Sheet.{at}
-use Rattle.rules.specs.Types.{Types}
+use Rattle.rules.specs.Layout.{header·generics, generics·impl-params}
+use Rattle.rules.specs.Sheet.{at, chain, chain-of, field}
+use Rattle.rules.specs.Types.{Types, ImplType}
 use Rattle.rules.specs.Run.{Run, _>>=_, within}
 use Rattle.rules.specs.Search.{Trees, Result, add-results, impl-params, find-auto-impls, from-impl-params, before-candidates}
 use Rattle.rules.specs.Search as rules
@@ -20,10 +22,11 @@ use Rattle.slots.specs.Gathering.{Row}
 use Rattle.slots.specs.Turns.{Answers, answers-refused, answers-found, answers-same, then-got, then-refused}
 use Rattle.queries.specs.declared.Query.{Query}
 use Rattle.queries.specs.Queries.{query-of}
+use Rattle.queries.specs.Gathering.{params-from, param-of, params-of-generics}
 use Rattle.steps.specs.declared.Finder.{Finder}
 use Rattle.steps.specs.Asking.{finder-of, Sound, Asking, Begins, front-table, asking-table}
 use Rattle.steps.specs.Built.{SmallIds, Autos}
-use Rattle.steps.specs.Params.{ParamsStep}
+use Rattle.steps.specs.Params.{ParamsStep, bind-done}
 
 -- Ids of impls and closures are small in a checked call.
 pub small-ids : (s : Words) (f : Finder) (ws : Words) (q : Query) → Sound (finder-of s f) → Asking ws q → SmallIds s (types-of ws)
@@ -81,3 +84,25 @@ module _ (s : Words) (f : Finder) (ws us : Words) (q : Query) (basic count : ℕ
         (ap (λ (m : Run (List Result)). within (ltb L) m count) runs ∙ then-got (ltb L) (built s ws q) params count c (g .results) (g .is))
         (subst (λ (ts : Types). Answers (within (ltb L) (from-impl-params (finder-of s f) ts (query-of q) 0 ((impl-params s (f .generics)) .1) (g .results)) c) r out) (front-table ws us (o .len) (o .low) p .is) (x .at L .at (g .results) (g .size) (g .stand)));
   }
+
+  -- Where there are none, nothing follows.
+  pub begins-plain : (impl-params s (f .generics)) .1 ≡ [] → Begins (finder-of s f) (eqb basic 1) ws (query-of q) count first us
+  unfolding from-impl-params
+  begins-plain e = record {
+    front = record { len = o .len; at = o .low };
+    at = λ L. answers-same _ (within (ltb L) (built s ws q) count) first us
+        (ap (λ (m : Run (List Result)). within (ltb L) m count) (runs ∙ ap (λ (l : List ImplType). built s ws q >>= λ fs. from-impl-params (finder-of s f) (types-of ws) (query-of q) 0 l fs) e ∙ bind-done (built s ws q)))
+        (answered s ws us q count first o L);
+  }
+
+chain-none : (s : Words) → chain s 0 ≡ []
+unfolding chain chain-of
+chain-none [] = refl
+chain-none (w ∷ s) = refl
+
+-- Generics whose head of impl parameters is 0 have none.
+pub params-none : (s : Words) (g h : ℕ) → h ≡ field s header·generics g generics·impl-params → (eqb h 0 ≡ true → (impl-params s g) .1 ≡ [])
+unfolding params-from
+params-none s g h e t =
+    let z = eqb-true h 0 t in
+    params-of-generics s g h e ∙ ap (λ (i : ℕ). params-from s i) z ∙ ap (λ (ps : Words). map (param-of s) ps) (chain-none s)

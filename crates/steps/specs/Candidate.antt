@@ -3,26 +3,29 @@ use Prim.Native.Nat.{ℕ, zero, suc, _+_, _-_, _≤_, _<_}
 use mathlib.Core.Path.{_≡_, refl, sym, _∙_, ap, subst}
 use mathlib.Core.Logic.{_≢_}
 use mathlib.Core.List.{List, [], _∷_, map}
+use mathlib.Core.Option.{some}
 use native.Mathlib.Omega.{arith}
-use borrow.Author.Tests.{lt-ltb, le-ltb}
+use borrow.Author.Tests.{lt-ltb, le-ltb, eq-eqb}
 use borrow.Rule.Slice.PartMut.{putMid}
 use lib.ListN.{length, getD}
 use Rattle.rules.specs.Lists.{Words}
 use Rattle.rules.specs.Limits.{limit·nodes}
-use Rattle.rules.specs.Layout.{header·impls}
-use Rattle.rules.specs.Sheet.{at, many}
+use Rattle.rules.specs.Layout.{header·generics, header·impls, generics·impl-params, impl·generics}
+use Rattle.rules.specs.Sheet.{at, many, field, impl-generics}
 use Rattle.rules.specs.Types.{Types, UnifyResult, success, failure, indeterminate, ImplType}
 use Rattle.rules.specs.Run.{Run, done, stop, _>>=_}
-use Rattle.rules.specs.Search.{end, Result, check-nodes, find-subimpls, try-candidate}
+use Rattle.rules.specs.Transfer.{import-impl-types, transfer-impl-types}
+use Rattle.rules.specs.Search.{end, Result, check-nodes, impl-params, fresh-params, find-subimpls, try-candidate}
 use Rattle.rules.specs.SearchKeeps.{fresh-count, signed, met, needs}
 use Rattle.rules.specs.Neat.{Neat, QueriesIn}
 use Rattle.table.specs.Packing.{types-of, Packed}
+use Rattle.table.specs.Nodes.{types-few}
 use Rattle.slots.specs.Slots.{Written}
 use Rattle.slots.specs.Adding.{under}
 use Rattle.slots.specs.Parts.{part, part-table}
 use Rattle.queries.specs.declared.Query.{Query}
 use Rattle.queries.specs.declared.Queries.{Queries}
-use Rattle.queries.specs.Queries.{query-of, queries-of}
+use Rattle.queries.specs.Queries.{query-of, queries-of, queries-none}
 use Rattle.queries.specs.Gathering.{WithinFour, queries-four}
 use Rattle.opening.specs.declared.Signed.{Signed}
 use Rattle.opening.specs.declared.Signed.the-variants.{Full, Unfit, Fits}
@@ -32,6 +35,7 @@ use Rattle.opening.specs.Needing.{Asks, Needs, Follows, fresh-there}
 use Rattle.opening.specs.After.{needs-neat, needs-inside}
 use Rattle.steps.specs.Asking.{Asking, Tail, Opens, asking-table}
 use Rattle.steps.specs.Behind.{back-table, back-opened}
+use Rattle.steps.specs.Beginning.{params-none}
 
 -- What one candidate comes to: 14 by its signature, nothing, 14 by its impl parameters, or what its sub-questions give.
 module _ (ask : Types → ImplType → Run (List Result)) (s : Words) (ts : Types) (q : ImplType) (i : ℕ) where
@@ -118,6 +122,48 @@ seeks s i b ds qs r out f g = record { at = λ ts q e d. one ts q (f .at ts q e 
         within = record { many = l; each = λ k h. g .counts l (a .within) k };
       };
       counts = λ l. g .counts l (n .asks (g .few l) .within);
+    }
+
+-- No sub-questions.
+pub record NoneNeeded (r : Queries) : Type 0 where
+  pub zero-many : r .n ≡ 0
+  pub counts : (k : ℕ) → getD (r .counts) k 0 ≤ 4
+
+pub none-needed : (ts us : Words) → NoneNeeded (record { n = 0; trs = ts; counts = 0 ∷ 0 ∷ 0 ∷ 0 ∷ []; args = us })
+none-needed ts us = record { zero-many = refl; counts = each }
+  where
+    each : (k : ℕ) → getD (0 ∷ 0 ∷ 0 ∷ 0 ∷ []) k 0 ≤ 4
+    each zero = omega arith
+    each (suc zero) = omega arith
+    each (suc (suc zero)) = omega arith
+    each (suc (suc (suc zero))) = omega arith
+    each (suc (suc (suc (suc k)))) = omega arith
+
+-- The generics of a candidate without impl parameters ask for nothing: the table stays as it is.
+pub seeks-none : (s : Words) (i b g h : ℕ) (ds : Words) (r : Queries) → g ≡ field s header·impls i impl·generics → h ≡ field s header·generics g generics·impl-params → h ≡ 0 → Packed ds → NoneNeeded r → Seeks s i b ds r ds
+unfolding import-impl-types transfer-impl-types impl-generics
+seeks-none s i b g h ds r eg eh z p n = record { at = λ ts q e d. one ts q d }
+  where
+    none : (impl-params s (impl-generics s i)) .1 ≡ []
+    none = ap (λ (k : ℕ). (impl-params s k) .1) (sym eg) ∙ params-none s g h eh (eq-eqb h 0 z)
+
+    empty : queries-of r ≡ []
+    empty = queries-none r 0 (omega (arith, n .zero-many))
+
+    whole : (ts : Types) (q : ImplType) → types-of ds ≡ (met s ts q i) .1 → needs s ts q i ≡ (queries-of r, types-of ds)
+    whole ts q d = ap (λ (l : List ImplType). import-impl-types ((impl-params s (impl-generics s i)) .0) (some (fresh-params ts (fresh-count s i))) l ((met s ts q i) .1)) none ∙ λ t. (sym empty t, sym d t)
+
+    one : (ts : Types) (q : ImplType) → types-of ds ≡ (met s ts q i) .1 → Sought (needs s ts q i) r ds
+    one ts q d = record {
+      packed = p;
+      most = omega (arith, n .zero-many);
+      full = λ l. absurd (omega (arith, n .zero-many));
+      asks = λ l. record {
+        is = whole ts q d;
+        room = subst (λ (o : List ImplType × Types). length (o .1) ≤ limit·nodes) (sym (whole ts q d)) (types-few ds);
+        within = record { many = l; each = λ k m. n .counts k };
+      };
+      counts = λ l k. n .counts k;
     }
 
 -- A candidate is opened in a part whose table ts was.

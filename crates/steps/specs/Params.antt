@@ -40,7 +40,7 @@ use Rattle.steps.specs.Loops.{Stepping, stepping-start, stepping-few, st
 use Rattle.steps.specs.Built.{LeafStep}
 use Rattle.steps.specs.Behind.{brought, Behind, ParamIn}
 
-bind-done : {A : Type 0} (m : Run A) → (m >>= λ a. done a) ≡ m
+pub bind-done : {A : Type 0} (m : Run A) → (m >>= λ a. done a) ≡ m
 unfolding _>>=_
 bind-done (done a) = refl
 bind-done (stop n) = refl

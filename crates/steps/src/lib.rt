@@ -2,12 +2,14 @@
 // A question's part of the lent slice has the table that is asked about in slot 0 and its results in slots 1 to 4; behind slot 4 is room for one table more, and for sub-questions.
 ghost use mathlib.Core.Path.{_≡_};
 ghost use mathlib.Core.Bool.{true};
+ghost use mathlib.Core.List.{[]};
 ghost use Prim.Native.Nat.{_+_, _<_, _≤_};
 ghost use lib.Dec.{eqb};
 ghost use lib.ListN.{length, drop};
 ghost use Rattle.rules.specs.Layout.{header·impls};
 ghost use Rattle.rules.specs.Sheet.{many};
 ghost use Rattle.rules.specs.Types.{approx-eq};
+ghost use Rattle.rules.specs.Search.{impl-params};
 ghost use Rattle.rules.specs.SearchKeeps.{fresh-count};
 ghost use Rattle.table.specs.Packing.{types-of, Packed};
 ghost use Rattle.slots.specs.Adding.{Aside};
@@ -20,7 +22,7 @@ ghost use Rattle.steps.specs.Asking.{finder-of, Sound, Scratch, Asking, 
 ghost use Rattle.steps.specs.Behind.{brought, Behind, ParamIn};
 ghost use Rattle.steps.specs.Built.{NoneLeft, LeafStep, SmallIds, Autos};
 ghost use Rattle.steps.specs.Params.{ParamStep, ParamsStep};
-ghost use Rattle.steps.specs.Candidate.{Fitted, Seeks, PartOpens};
+ghost use Rattle.steps.specs.Candidate.{Fitted, NoneNeeded, Seeks, PartOpens};
 ghost use Rattle.steps.specs.Next.{NextId};
 use admitted::Candidate;
 use admitted::Found;
@@ -110,7 +112,7 @@ fn meet_behind(
     p: Query,
 ) -> Signed
     requires { ⌜ Sound (finder-of (now sheet) f) ⌝ }
-    requires { ⌜ Scratch (now places) (now map) ⌝ }
+    requires { ⌜ Scratch (now sheet) (now places) (now map) ⌝ }
     requires { ⌜ Asking (now ws) q ⌝ }
     requires { ⌜ 10764 ≤ length (now ws) ⌝ }
     requires { ⌜ ParamIn (finder-of (now sheet) f) p ⌝ }
@@ -134,7 +136,7 @@ fn param_met(
     count: u32,
 ) -> Asked
     requires { ⌜ Sound (finder-of (now sheet) f) ⌝ }
-    requires { ⌜ Scratch (now places) (now map) ⌝ }
+    requires { ⌜ Scratch (now sheet) (now places) (now map) ⌝ }
     requires { ⌜ Asking (now ws) q ⌝ }
     requires { ⌜ 10764 ≤ length (now ws) ⌝ }
     requires { ⌜ ParamIn (finder-of (now sheet) f) p ⌝ }
@@ -166,7 +168,7 @@ fn add_param(
     count: u32,
 ) -> Asked
     requires { ⌜ Sound (finder-of (now sheet) f) ⌝ }
-    requires { ⌜ Scratch (now places) (now map) ⌝ }
+    requires { ⌜ Scratch (now sheet) (now places) (now map) ⌝ }
     requires { ⌜ Asking (now ws) q ⌝ }
     requires { ⌜ 10764 ≤ length (now ws) ⌝ }
     requires { ⌜ ParamIn (finder-of (now sheet) f) p ⌝ }
@@ -194,7 +196,7 @@ fn add_params(
     count: u32,
 ) -> Asked
     requires { ⌜ Sound (finder-of (now sheet) f) ⌝ }
-    requires { ⌜ Scratch (now places) (now map) ⌝ }
+    requires { ⌜ Scratch (now sheet) (now places) (now map) ⌝ }
     requires { ⌜ Asking (now ws) q ⌝ }
     requires { ⌜ 10764 ≤ length (now ws) ⌝ }
     requires { ⌜ Row (now ws) 1794 n ⌝ }
@@ -238,7 +240,7 @@ pub fn before_candidates(
     count: u32,
 ) -> Asked
     requires { ⌜ Sound (finder-of (now sheet) f) ⌝ }
-    requires { ⌜ Scratch (now places) (now map) ⌝ }
+    requires { ⌜ Scratch (now sheet) (now places) (now map) ⌝ }
     requires { ⌜ Asking (now ws) q ⌝ }
     requires { ⌜ 10764 ≤ length (now ws) ⌝ }
     requires { ⌜ basic < 2 ⌝ }
@@ -255,12 +257,54 @@ pub fn before_candidates(
     }
 }
 
+// Whether the generics have no impl parameters.
+pub fn no_params(sheet: &[u32], f: Finder) -> bool
+    ensures { λ r. ⌜ (r ≡ true → (impl-params (now (sheet .entry)) (f .generics)) .1 ≡ []) ⌝ }
+{
+    let head = chart::impl_params_head(sheet, f.generics);
+    head == 0
+}
+
+// How a question begins where the generics have no impl parameters: built-in fork and drop alone.
+pub fn built_ins(
+    sheet: &[u32],
+    ws: &mut [u32],
+    f: Finder,
+    basic: u32,
+    q: Query,
+    count: u32,
+) -> Asked
+    requires { ⌜ Sound (finder-of (now sheet) f) ⌝ }
+    requires { ⌜ Asking (now ws) q ⌝ }
+    requires { ⌜ 8970 ≤ length (now ws) ⌝ }
+    requires { ⌜ (impl-params (now sheet) (f .generics)) .1 ≡ [] ⌝ }
+    requires { ⌜ count ≤ 4000000000 ⌝ }
+    ensures { λ r. ⌜ Begins (finder-of (now (sheet .entry)) f) (eqb basic 1) (now (ws .entry)) (query-of q) count r (now (ws .exit)) ⌝ }
+{
+    if basic == 1 {
+        return Asked::Found { count, n: 0 };
+    }
+    add_autos(sheet, ws, q, count)
+}
+
 // No sub-questions, with a number in the place of how many there are.
 fn no_questions(n: usize) -> Queries
     ensures { λ r. ⌜ r .n ≡ n ⌝ }
 {
     Queries {
         n,
+        trs: [0, 0, 0, 0],
+        counts: [0, 0, 0, 0],
+        args: [0, 0, 0, 0, 0, 0, 0, 0, 0, 0, 0, 0, 0, 0, 0, 0],
+    }
+}
+
+// No sub-questions.
+fn none_needed() -> Queries
+    ensures { λ r. ⌜ NoneNeeded r ⌝ }
+{
+    Queries {
+        n: 0,
         trs: [0, 0, 0, 0],
         counts: [0, 0, 0, 0],
         args: [0, 0, 0, 0, 0, 0, 0, 0, 0, 0, 0, 0, 0, 0, 0, 0],
@@ -293,12 +337,17 @@ fn seek(
     i: usize,
 ) -> Queries
     requires { ⌜ SoundSheet (now sheet) ⌝ }
-    requires { ⌜ Scratch (now places) (now map) ⌝ }
+    requires { ⌜ Scratch (now sheet) (now places) (now map) ⌝ }
     requires { ⌜ i < many (now sheet) header·impls ⌝ }
     requires { ⌜ Packed (now dst) ⌝ }
     requires { ⌜ base + fresh-count (now sheet) i ≤ length (types-of (now dst)) ⌝ }
     ensures { λ r. ⌜ Seeks (now (sheet .entry)) i base (now (dst .entry)) r (now (dst .exit)) ⌝ }
 {
+    let g = chart::impl_generics(sheet, i);
+    let head = chart::impl_params_head(sheet, g);
+    if head == 0 {
+        return none_needed();
+    }
     let qs = opening::need(sheet, dst, places, map, base, i);
     fitted(qs)
 }
@@ -313,7 +362,7 @@ fn open_part(
     i: usize,
 ) -> Queries
     requires { ⌜ SoundSheet (now sheet) ⌝ }
-    requires { ⌜ Scratch (now places) (now map) ⌝ }
+    requires { ⌜ Scratch (now sheet) (now places) (now map) ⌝ }
     requires { ⌜ Asking (now dst) q ⌝ }
     requires { ⌜ i < many (now sheet) header·impls ⌝ }
     ensures { λ r. ⌜ PartOpens (now (sheet .entry)) (types-of (now (dst .entry))) (query-of q) i r (now (dst .exit)) ⌝ }
@@ -338,7 +387,7 @@ pub fn open_candidate(
     i: usize,
 ) -> Queries
     requires { ⌜ Sound (finder-of (now sheet) f) ⌝ }
-    requires { ⌜ Scratch (now places) (now map) ⌝ }
+    requires { ⌜ Scratch (now sheet) (now places) (now map) ⌝ }
     requires { ⌜ Asking (now ws) q ⌝ }
     requires { ⌜ 10764 ≤ length (now ws) ⌝ }
     requires { ⌜ i < many (now sheet) header·impls ⌝ }

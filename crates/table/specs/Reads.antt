@@ -42,6 +42,14 @@ module _ (ws : Words) (n c w : ℕ) (ec : c ≡ length (types-of ws)) (h : n < c
   unfolding size-at node-of node-from
   size-in = ap head·size e ∙ sym (ap (λ nd. nd .size) (node-in ws n (omega arith)))
 
+-- A node that is there is one of the most.
+pub few-nodes : (ws : Words) (n : ℕ) → n < length (types-of ws) → n < 256
+few-nodes ws n h = omega (arith, types-length ws)
+
+-- The same of a node that is there.
+pub up-here : (ws : Words) (n w : ℕ) → n < length (types-of ws) → w ≡ at ws (6 * n + 1) → w / 18 % 512 ≡ word-of-type (up-at (types-of ws) n)
+up-here ws n w h e = up-in ws n (length (types-of ws)) w refl h e
+
 module _ (ts : Types) (n c : ℕ) (ec : c ≡ length ts) (h : c ≤ n) where
   pub up-past : 0 ≡ word-of-type (up-at ts n)
   unfolding up-at new-node word-of-type

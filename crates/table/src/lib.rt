@@ -340,6 +340,25 @@ pub fn type_of(inverted: bool, n: u32) -> u32
     2 * n + bit_of(inverted)
 }
 
+// The head of a node.
+fn head_at(ws: &[u32], n: u32) -> u32
+    requires { ⌜ table·length ≤ length (now ws) ⌝ }
+    requires { ⌜ n < limit·nodes ⌝ }
+    ensures { λ r. ⌜ r ≡ at (now (ws .entry)) (6 * n + 1) ⌝ }
+{
+    let w = wide(n);
+    ws[NODE * w + HEAD]
+}
+
+// Which type of its root node n is, where there is such a node.
+fn up_there(ws: &[u32], n: u32) -> u32
+    requires { ⌜ table·length ≤ length (now ws) ⌝ }
+    requires { ⌜ n < length (types-of (now ws)) ⌝ }
+    ensures { λ r. ⌜ r ≡ word-of-type (up-at (types-of (now (ws .entry))) n) ⌝ }
+{
+    head_at(ws, n) / 18 % 512
+}
+
 // Makes node n type u of its root.
 fn set_up(ws: &mut [u32], n: u32, u: u32)
     requires { ⌜ table·length ≤ length (now ws) ⌝ }
@@ -359,7 +378,7 @@ fn relabel_node(ws: &mut [u32], n: u32, lo: u32, t: u32)
     requires { ⌜ t < 512 ⌝ }
     ensures { λ _. ⌜ Rewritten (now (ws .entry)) (now (ws .exit)) (set (types-of (now (ws .entry))) n (relabel lo (type-of-word t) (node-at (types-of (now (ws .entry))) n))) ⌝ }
 {
-    let u = up_of(ws, n);
+    let u = up_there(ws, n);
     if u / 2 != lo {
         return;
     }

@@ -213,7 +213,7 @@ module _ (s : Words) (c : Bool) (ws : Words) (f b : ℕ) where
     step-right i l n p o = (λ t. join c (n .below (f + i) (omega arith) t) (later-mark i n p o t)) ∙ sym (ap (fold c (plane ws f)) (forward-step s i p o))
 
     -- The loop that falls: one place more.
-    pub fold-more : (i r : ℕ) → 1 < i → i ≤ length s → b + length s ≤ length ws → Folded s b folded i ws us → r ≡ fold-step s c us f b (i - 1) → Folded s b folded (i - 1) ws (set us (b + (i - 1)) r)
+    pub fold-more : (i r : ℕ) → 1 < i → i ≤ length s → b + limit·sheet ≤ length ws → Folded s b folded i ws us → r ≡ fold-step s c us f b (i - 1) → Folded s b folded (i - 1) ws (set us (b + (i - 1)) r)
     fold-more i r p l room n e = record {
       long = length-set us (b + (i - 1)) r ∙ n .long;
       is = λ j h k o. go j h k o (ℕ-discrete j (i - 1));

@@ -1,6 +1,6 @@
 -- What is noted of each place before its chain is folded: what a cell, a node, a binding, a member or an impl parameter there asks for.
 use Prim.Native.Nat.{ℕ, _+_, _*_, _/_, _≤_, _<_}
-use mathlib.Core.Path.{_≡_, refl, sym, _∙_, ap}
+use mathlib.Core.Path.{_≡_, refl, sym, _∙_, ap, subst}
 use mathlib.Core.Bool.{Bool, true, false, not, _||_}
 use mathlib.Core.List.{[], _∷_}
 use mathlib.Core.Logic.{_≢_}
@@ -167,3 +167,35 @@ core-found s k inv id n l m up fits r a b c d e = e ∙ λ t. holds (ltb k kind�
 -- While values are noted, what is known of the sheet stays so.
 pub known-noted : (s ws us : Words) (f : ℕ → ℕ) (lo hi b to : ℕ) → length s ≤ limit·sheet → 2 * limit·sheet ≤ b → b + 3 * limit·sheet ≤ to → to + limit·sheet ≤ length ws → Noted to f lo hi ws us → Known s ws → Ready s us b
 known-noted s ws us f lo hi b to small l m room n k = record { known = known-same s ws us to small (omega arith) (n .below) k; room = omega (arith, n .long) }
+
+-- What is noted of a kind that x names.
+module _ (s w ws us : Words) (b x to n : ℕ) where
+  pub noted-one : (k : ℕ) → x ≡ k → Noted to (value s w ws b k) 0 n ws us → Noted to (value s w ws b x) 0 n ws us
+  noted-one k e h = subst (λ (y : ℕ). Noted to (value s w ws b y) 0 n ws us) (sym e) h
+
+  pub noted-children : x < 4 → x ≢ 0 → x ≢ 1 → x ≢ 2 → Noted to (value s w ws b 3) 0 n ws us → Noted to (value s w ws b x) 0 n ws us
+  noted-children l p q r h = noted-one 3 (let z : x ≡ 3 = omega arith in z) h
+
+  -- Past all others there are arguments.
+  pub noted-args : 4 ≤ x → x ≢ 4 → x ≢ 5 → x ≢ 6 → Noted to (value s w ws b 7) 0 n ws us → Noted to (value s w ws b x) 0 n ws us
+  unfolding value link-value
+  noted-args l p q r h = record {
+    long = h .long;
+    is = λ i a z. h .is i a z ∙ value-link s w ws b x i (value s w ws b 7 i) l (link-child s w ws b x i (value s w ws b 7 i) (at s (i + impl-param·args)) p q r refl refl);
+    below = h .below;
+  }
+
+-- A node whose kind is past all kinds, or whose id is out of range.
+pub core-past : (s : Words) (k inv id n : ℕ) → kind·count ≤ k → false ≡ core s k inv id n
+unfolding core holds
+core-past s k inv id n h = rw (le-ltb k kind·count h, core, holds)
+
+pub core-unfit : (s : Words) (k inv id n : ℕ) (fits : Bool) → fits ≡ id-fits s k id → fits ≡ false → false ≡ core s k inv id n
+unfolding core holds
+core-unfit s k inv id n fits e f = go (ltb k kind·count) (leb inv 1) (ltb 0 k || eqb inv 0) (leb (kind-row k row·least) n) (leb n (kind-row k row·most)) ∙ ap (λ (x : Bool). holds (ltb k kind·count ∷ leb inv 1 ∷ (ltb 0 k || eqb inv 0) ∷ x ∷ leb (kind-row k row·least) n ∷ leb n (kind-row k row·most) ∷ [])) (sym f ∙ e)
+  where
+    go : (a b c d g : Bool) → false ≡ holds (a ∷ b ∷ c ∷ false ∷ d ∷ g ∷ [])
+    go true true true d g = refl
+    go true true false d g = refl
+    go true false c d g = refl
+    go false b c d g = refl

@@ -111,18 +111,24 @@ pub fn core(s: &[u32], ws: &[u32], k: usize, inv: usize, id: usize, n: usize) ->
     requires { ⌜ Known (now s) (now ws) ⌝ }
     ensures { λ r. ⌜ r ≡ core (now (s .entry)) k inv id n ⌝ }
 {
-    let upright = unknown_upright(k, inv);
+    if layout::KIND_COUNT <= k {
+        return false;
+    }
     let fits = id_fits(s, ws, k, id);
-    let least = kinds::kind_row(k, layout::ROW_LEAST);
-    let most = kinds::kind_row(k, layout::ROW_MOST);
-    holds6(
-        k < layout::KIND_COUNT,
-        inv <= 1,
-        upright,
-        fits,
-        least <= n,
-        n <= most,
-    )
+    if fits {
+        let upright = unknown_upright(k, inv);
+        let least = kinds::kind_row(k, layout::ROW_LEAST);
+        let most = kinds::kind_row(k, layout::ROW_MOST);
+        return holds6(
+            k < layout::KIND_COUNT,
+            inv <= 1,
+            upright,
+            fits,
+            least <= n,
+            n <= most,
+        );
+    }
+    false
 }
 
 // binding: vis, impl

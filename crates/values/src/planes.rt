@@ -1,6 +1,6 @@
 // What is noted of each place, and the planes of a table.
 ghost use mathlib.Core.Path.{_≡_};
-ghost use Prim.Native.Nat.{_+_, _*_, _≤_};
+ghost use Prim.Native.Nat.{_+_, _*_, _<_, _≤_};
 ghost use lib.ListN.{length};
 ghost use Rattle.rules.specs.Limits.{limit·sheet};
 ghost use Rattle.marks.specs.Planes.{Noted};
@@ -122,15 +122,162 @@ fn value(s: &[u32], w: &[u32], ws: &[u32], b: usize, x: usize, p: usize) -> u32
     }
 }
 
-// Notes it for every place, in the plane from `to`.
+// Notes it for every place, in the plane from `to`; a loop for each of what is noted, so that none is chosen at every place.
+
+// Of a cell.
+fn note_cells(s: &[u32], w: &[u32], ws: &mut [u32], b: usize, to: usize)
+    requires { ⌜ Known (now s) (now ws) × (length (now s) ≤ limit·sheet) × (length (now w) ≤ limit·sheet) × (2 * limit·sheet ≤ b) × (b + 3 * limit·sheet ≤ to) × (to + limit·sheet ≤ length (now ws)) ⌝ }
+    ensures { λ _. ⌜ Noted to (value (now (s .entry)) (now (w .entry)) (now (ws .entry)) b 0) 0 (length (now (w .entry))) (now (ws .entry)) (now (ws .exit)) ⌝ }
+{
+    let mut i = 0;
+    while i < w.len() {
+        let r = value(s, w, ws, b, CELL, i);
+        ws[to + i] = r;
+        i += 1;
+    }
+}
+
+// Of a node by itself.
+fn note_nodes(s: &[u32], w: &[u32], ws: &mut [u32], b: usize, to: usize)
+    requires { ⌜ Known (now s) (now ws) × (length (now s) ≤ limit·sheet) × (length (now w) ≤ limit·sheet) × (2 * limit·sheet ≤ b) × (b + 3 * limit·sheet ≤ to) × (to + limit·sheet ≤ length (now ws)) ⌝ }
+    ensures { λ _. ⌜ Noted to (value (now (s .entry)) (now (w .entry)) (now (ws .entry)) b 1) 0 (length (now (w .entry))) (now (ws .entry)) (now (ws .exit)) ⌝ }
+{
+    let mut i = 0;
+    while i < w.len() {
+        let r = value(s, w, ws, b, NODE, i);
+        ws[to + i] = r;
+        i += 1;
+    }
+}
+
+// Of a node's Param.
+fn note_needs(s: &[u32], w: &[u32], ws: &mut [u32], b: usize, to: usize)
+    requires { ⌜ Known (now s) (now ws) × (length (now s) ≤ limit·sheet) × (length (now w) ≤ limit·sheet) × (2 * limit·sheet ≤ b) × (b + 3 * limit·sheet ≤ to) × (to + limit·sheet ≤ length (now ws)) ⌝ }
+    ensures { λ _. ⌜ Noted to (value (now (s .entry)) (now (w .entry)) (now (ws .entry)) b 2) 0 (length (now (w .entry))) (now (ws .entry)) (now (ws .exit)) ⌝ }
+{
+    let mut i = 0;
+    while i < w.len() {
+        let r = value(s, w, ws, b, NEED, i);
+        ws[to + i] = r;
+        i += 1;
+    }
+}
+
+// Of a node's children.
+fn note_children(s: &[u32], w: &[u32], ws: &mut [u32], b: usize, to: usize)
+    requires { ⌜ Known (now s) (now ws) × (length (now s) ≤ limit·sheet) × (length (now w) ≤ limit·sheet) × (2 * limit·sheet ≤ b) × (b + 3 * limit·sheet ≤ to) × (to + limit·sheet ≤ length (now ws)) ⌝ }
+    ensures { λ _. ⌜ Noted to (value (now (s .entry)) (now (w .entry)) (now (ws .entry)) b 3) 0 (length (now (w .entry))) (now (ws .entry)) (now (ws .exit)) ⌝ }
+{
+    let mut i = 0;
+    while i < w.len() {
+        let r = value(s, w, ws, b, CHILD, i);
+        ws[to + i] = r;
+        i += 1;
+    }
+}
+
+// Of a binding.
+fn note_bindings(s: &[u32], w: &[u32], ws: &mut [u32], b: usize, to: usize)
+    requires { ⌜ Known (now s) (now ws) × (length (now s) ≤ limit·sheet) × (length (now w) ≤ limit·sheet) × (2 * limit·sheet ≤ b) × (b + 3 * limit·sheet ≤ to) × (to + limit·sheet ≤ length (now ws)) ⌝ }
+    ensures { λ _. ⌜ Noted to (value (now (s .entry)) (now (w .entry)) (now (ws .entry)) b 4) 0 (length (now (w .entry))) (now (ws .entry)) (now (ws .exit)) ⌝ }
+{
+    let mut i = 0;
+    while i < w.len() {
+        let r = value(s, w, ws, b, BINDING, i);
+        ws[to + i] = r;
+        i += 1;
+    }
+}
+
+// Of a member.
+fn note_members(s: &[u32], w: &[u32], ws: &mut [u32], b: usize, to: usize)
+    requires { ⌜ Known (now s) (now ws) × (length (now s) ≤ limit·sheet) × (length (now w) ≤ limit·sheet) × (2 * limit·sheet ≤ b) × (b + 3 * limit·sheet ≤ to) × (to + limit·sheet ≤ length (now ws)) ⌝ }
+    ensures { λ _. ⌜ Noted to (value (now (s .entry)) (now (w .entry)) (now (ws .entry)) b 5) 0 (length (now (w .entry))) (now (ws .entry)) (now (ws .exit)) ⌝ }
+{
+    let mut i = 0;
+    while i < w.len() {
+        let r = value(s, w, ws, b, MEMBER, i);
+        ws[to + i] = r;
+        i += 1;
+    }
+}
+
+// Of an impl parameter.
+fn note_params(s: &[u32], w: &[u32], ws: &mut [u32], b: usize, to: usize)
+    requires { ⌜ Known (now s) (now ws) × (length (now s) ≤ limit·sheet) × (length (now w) ≤ limit·sheet) × (2 * limit·sheet ≤ b) × (b + 3 * limit·sheet ≤ to) × (to + limit·sheet ≤ length (now ws)) ⌝ }
+    ensures { λ _. ⌜ Noted to (value (now (s .entry)) (now (w .entry)) (now (ws .entry)) b 6) 0 (length (now (w .entry))) (now (ws .entry)) (now (ws .exit)) ⌝ }
+{
+    let mut i = 0;
+    while i < w.len() {
+        let r = value(s, w, ws, b, PARAM, i);
+        ws[to + i] = r;
+        i += 1;
+    }
+}
+
+// Of its arguments.
+fn note_args(s: &[u32], w: &[u32], ws: &mut [u32], b: usize, to: usize)
+    requires { ⌜ Known (now s) (now ws) × (length (now s) ≤ limit·sheet) × (length (now w) ≤ limit·sheet) × (2 * limit·sheet ≤ b) × (b + 3 * limit·sheet ≤ to) × (to + limit·sheet ≤ length (now ws)) ⌝ }
+    ensures { λ _. ⌜ Noted to (value (now (s .entry)) (now (w .entry)) (now (ws .entry)) b 7) 0 (length (now (w .entry))) (now (ws .entry)) (now (ws .exit)) ⌝ }
+{
+    let mut i = 0;
+    while i < w.len() {
+        let r = value(s, w, ws, b, ARGS, i);
+        ws[to + i] = r;
+        i += 1;
+    }
+}
+
+// Of a node and its table, x says which.
+fn note_table(s: &[u32], w: &[u32], ws: &mut [u32], b: usize, x: usize, to: usize)
+    requires { ⌜ Known (now s) (now ws) × (length (now s) ≤ limit·sheet) × (length (now w) ≤ limit·sheet) × (2 * limit·sheet ≤ b) × (b + 3 * limit·sheet ≤ to) × (to + limit·sheet ≤ length (now ws)) ⌝ }
+    requires { ⌜ x < 4 ⌝ }
+    ensures { λ _. ⌜ Noted to (value (now (s .entry)) (now (w .entry)) (now (ws .entry)) b x) 0 (length (now (w .entry))) (now (ws .entry)) (now (ws .exit)) ⌝ }
+{
+    if x == CELL {
+        note_cells(s, w, ws, b, to);
+        return;
+    }
+    if x == NODE {
+        note_nodes(s, w, ws, b, to);
+        return;
+    }
+    if x == NEED {
+        note_needs(s, w, ws, b, to);
+        return;
+    }
+    note_children(s, w, ws, b, to)
+}
+
+// Of bindings, members and impl parameters.
+fn note_links(s: &[u32], w: &[u32], ws: &mut [u32], b: usize, x: usize, to: usize)
+    requires { ⌜ Known (now s) (now ws) × (length (now s) ≤ limit·sheet) × (length (now w) ≤ limit·sheet) × (2 * limit·sheet ≤ b) × (b + 3 * limit·sheet ≤ to) × (to + limit·sheet ≤ length (now ws)) ⌝ }
+    requires { ⌜ 4 ≤ x ⌝ }
+    ensures { λ _. ⌜ Noted to (value (now (s .entry)) (now (w .entry)) (now (ws .entry)) b x) 0 (length (now (w .entry))) (now (ws .entry)) (now (ws .exit)) ⌝ }
+{
+    if x == BINDING {
+        note_bindings(s, w, ws, b, to);
+        return;
+    }
+    if x == MEMBER {
+        note_members(s, w, ws, b, to);
+        return;
+    }
+    if x == PARAM {
+        note_params(s, w, ws, b, to);
+        return;
+    }
+    note_args(s, w, ws, b, to)
+}
+
+// Of all, x says which.
 pub fn note_values(s: &[u32], w: &[u32], ws: &mut [u32], b: usize, x: usize, to: usize)
     requires { ⌜ Known (now s) (now ws) × (length (now s) ≤ limit·sheet) × (length (now w) ≤ limit·sheet) × (2 * limit·sheet ≤ b) × (b + 3 * limit·sheet ≤ to) × (to + limit·sheet ≤ length (now ws)) ⌝ }
     ensures { λ _. ⌜ Noted to (value (now (s .entry)) (now (w .entry)) (now (ws .entry)) b x) 0 (length (now (w .entry))) (now (ws .entry)) (now (ws .exit)) ⌝ }
 {
-    let mut i = 0;
-    while i < w.len() {
-        let r = value(s, w, ws, b, x, i);
-        ws[to + i] = r;
-        i += 1;
+    if x < BINDING {
+        note_table(s, w, ws, b, x, to);
+        return;
     }
+    note_links(s, w, ws, b, x, to)
 }

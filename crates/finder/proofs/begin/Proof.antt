@@ -1,19 +1,12 @@
-use Rattle.finder.specs.Cycle.{scratch-new}
 use borrow.Author.Needs.{needs}
 use Rattle.finder.proofs.begin.Statement.{statement}
 use Rattle.finder.proofs.begin.Tie as tie
-use Rattle.finder.proofs.begin.Reads as reads
-use Rattle.finder.proofs.begin.Lts as lts
-use Rattle.steps.proofs.before_candidates.Reads as before-candidates-reads
 
-slice-aggregate-before-candidates : tie.Need-slice-aggregate-before-candidates
-slice-aggregate-before-candidates c = search needs
+no-params-requires : tie.Need-no-params-requires
+no-params-requires c κs = search needs
 
-slice-aggregate-before-candidates-2 : tie.Need-slice-aggregate-before-candidates-2
-slice-aggregate-before-candidates-2 c = search needs
-
-before-candidates-requires : tie.Need-before-candidates-requires
-before-candidates-requires c κs = (search needs, (scratch-new, (search needs, (search needs, (search needs, search needs)))))
+built-ins-requires : tie.Need-built-ins-requires
+built-ins-requires c κs = (search needs, (search needs, (search needs, (search (needs, c .before .before .no-params .ensures), search needs))))
 
 same-length : tie.Need-same-length
 same-length c = search needs
@@ -21,12 +14,35 @@ same-length c = search needs
 returns : tie.Need-returns
 returns c = search needs
 
+begin-middle-requires : tie.Need-begin-middle-requires
+begin-middle-requires c κs = (search needs, (search needs, (search needs, (search needs, (search needs, search needs)))))
+
+same-length-2 : tie.Need-same-length-2
+same-length-2 c = search needs
+
+returns-2 : tie.Need-returns-2
+returns-2 c = search needs
+
+begin-wide-requires : tie.Need-begin-wide-requires
+begin-wide-requires c κs = search needs
+
+same-length-3 : tie.Need-same-length-3
+same-length-3 c = search needs
+
+returns-3 : tie.Need-returns-3
+returns-3 c = search needs
+
 pub begin-spec : {M : Type 1} → statement M
 begin-spec =
     tie.close
     (tie.spec
-    slice-aggregate-before-candidates
-    slice-aggregate-before-candidates-2
-    before-candidates-requires
+    no-params-requires
+    built-ins-requires
     same-length
-    returns)
+    returns
+    begin-middle-requires
+    same-length-2
+    returns-2
+    begin-wide-requires
+    same-length-3
+    returns-3)

@@ -4,11 +4,11 @@ use borrow.Author.Needs.{needs}
 use Rattle.marks.proofs.both_marked.Statement.{statement}
 use Rattle.marks.proofs.both_marked.Tie as tie
 
-offset-requires : tie.Need-offset-requires
-offset-requires c κs = search needs
+noted-requires : tie.Need-noted-requires
+noted-requires c κs = search needs
 
-offset-requires-2 : tie.Need-offset-requires-2
-offset-requires-2 c κs = search needs
+noted-requires-2 : tie.Need-noted-requires-2
+noted-requires-2 c κs = search needs
 
 returns : tie.Need-returns
 returns c = search (needs, and-both)
@@ -21,4 +21,4 @@ returns-3 c = search (needs, and-first)
 
 pub both-marked-spec : {M : Type 1} → statement M
 both-marked-spec =
-    tie.close (tie.spec offset-requires offset-requires-2 returns returns-2 returns-3)
+    tie.close (tie.spec noted-requires noted-requires-2 returns returns-2 returns-3)

@@ -13,11 +13,11 @@ returns c = search (needs, next-none)
 returns-2 : tie.Need-returns-2
 returns-2 c = search (needs, next-past)
 
-offset-requires : tie.Need-offset-requires
-offset-requires c κs = search needs
+noted-requires : tie.Need-noted-requires
+noted-requires c κs = search needs
 
 returns-3 : tie.Need-returns-3
 returns-3 c = search (needs, next-noted)
 
 pub next-mark-spec : {M : Type 1} → statement M
-next-mark-spec = tie.close (tie.spec next-requires returns returns-2 offset-requires returns-3)
+next-mark-spec = tie.close (tie.spec next-requires returns returns-2 noted-requires returns-3)

@@ -24,8 +24,8 @@ offset-requires c κs = search needs
 wide-requires : tie.Need-wide-requires Inv-loop μ-loop
 wide-requires c κs = search needs
 
-head-mark-requires : tie.Need-head-mark-requires Inv-loop μ-loop
-head-mark-requires c κs = search needs
+head-noted-requires : tie.Need-head-noted-requires Inv-loop μ-loop
+head-noted-requires c κs = search needs
 
 add-ws : tie.Need-add-ws Inv-loop μ-loop
 add-ws c = search needs
@@ -45,7 +45,7 @@ loop-less c = search needs
 loop-again : tie.Need-loop-again Inv-loop μ-loop
 loop-again c =
     let v = c .before .before .before .before .before .loop .inv in
-    (omega arith, heads-more _ _ _ _ _ _ _ _ _ _ _ (c .before .before .offset .ensures) (c .before .wide .ensures) (omega arith) (omega arith) (omega arith) (v .1) (c .head-mark .ensures))
+    (omega arith, heads-more _ _ _ _ _ _ _ _ _ _ _ (c .before .before .offset .ensures) (c .before .wide .ensures) (omega arith) (omega arith) (omega arith) (v .1) (c .head-noted .ensures))
 
 same-length : tie.Need-same-length Inv-loop μ-loop
 same-length c = search needs
@@ -62,7 +62,7 @@ note-heads-spec =
     loop-holds
     offset-requires
     wide-requires
-    head-mark-requires
+    head-noted-requires
     add-ws
     mul-ws
     slice-write-ws

@@ -4,8 +4,8 @@ use borrow.Author.Needs.{needs}
 use Rattle.table.proofs.relabel_node.Statement.{statement}
 use Rattle.table.proofs.relabel_node.Tie as tie
 
-up-of-requires : tie.Need-up-of-requires
-up-of-requires c κs = search needs
+up-there-requires : tie.Need-up-there-requires
+up-there-requires c κs = search needs
 
 same-length : tie.Need-same-length
 same-length c = search needs
@@ -32,7 +32,7 @@ pub relabel-node-spec : {M : Type 1} → statement M
 relabel-node-spec =
     tie.close
     (tie.spec
-    up-of-requires
+    up-there-requires
     same-length
     returns
     is-inverted-requires

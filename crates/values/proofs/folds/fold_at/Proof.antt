@@ -4,14 +4,14 @@ use borrow.Author.Needs.{needs}
 use Rattle.values.proofs.folds.fold_at.Statement.{statement}
 use Rattle.values.proofs.folds.fold_at.Tie as tie
 
-offset-requires : tie.Need-offset-requires
-offset-requires c κs = search needs
+noted-requires : tie.Need-noted-requires
+noted-requires c κs = search needs
 
 next-requires : tie.Need-next-requires
 next-requires c κs = search needs
 
-chain-mark-requires : tie.Need-chain-mark-requires
-chain-mark-requires c κs = search needs
+mark-noted-requires : tie.Need-mark-noted-requires
+mark-noted-requires c κs = search needs
 
 join-requires : tie.Need-join-requires
 join-requires c κs = search needs
@@ -21,4 +21,4 @@ returns c = search (needs, fold-found)
 
 pub fold-at-spec : {M : Type 1} → statement M
 fold-at-spec =
-    tie.close (tie.spec offset-requires next-requires chain-mark-requires join-requires returns)
+    tie.close (tie.spec noted-requires next-requires mark-noted-requires join-requires returns)

@@ -1,17 +1,17 @@
--- `note_values`: so many places are noted.
+-- `note_cells`: so many places are noted.
 use Prim.Native.Nat.{_≤_, _-_}
 use lib.ListN.{length}
 use Rattle.marks.specs.Planes.{Noted, noted-none, noted-to}
 use Rattle.values.specs.Value.{value, values-more, known-noted}
 use borrow.Author.Needs.{needs}
-use Rattle.values.proofs.planes.note_values.Statement.{statement}
-use Rattle.values.proofs.planes.note_values.Tie as tie
+use Rattle.values.proofs.planes.note_cells.Statement.{statement}
+use Rattle.values.proofs.planes.note_cells.Tie as tie
 
 abbrev Inv-loop : tie.InvT-loop
-Inv-loop s w ws₀ b x to i₀ ws i = (i ≤ length w) × Noted to (value s w ws₀ b x) 0 i ws₀ ws
+Inv-loop s w ws₀ b to i₀ ws i = (i ≤ length w) × Noted to (value s w ws₀ b 0) 0 i ws₀ ws
 
 abbrev μ-loop : tie.MeasureT-loop
-μ-loop s w ws₀ b x to i₀ ws i = length w - i
+μ-loop s w ws₀ b to i₀ ws i = length w - i
 
 loop-holds : tie.Need-loop-holds Inv-loop μ-loop
 loop-holds c = search (needs, noted-none)
@@ -43,8 +43,8 @@ same-length c = search needs
 returns : tie.Need-returns Inv-loop μ-loop
 returns c = search (needs, noted-to)
 
-pub note-values-spec : {M : Type 1} → statement M
-note-values-spec =
+pub note-cells-spec : {M : Type 1} → statement M
+note-cells-spec =
     tie.close
     (tie.spec
     Inv-loop
