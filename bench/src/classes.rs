@@ -173,43 +173,6 @@ fn largest(levels: usize) -> Call {
   call
 }
 
-/// A Tuple of twice the Tuple below, so many levels round a type, which the Rust walks once for each way to it.
-fn tower(table: &mut Table, innermost: u32, levels: usize) -> u32 {
-  (0..levels).fold(innermost, |word, _| table.add(kind::TUPLE, 0, &[word, word]))
-}
-
-/// A trait of so many arguments, and an impl of it for any type, the same in each.
-fn for_any(arity: u32) -> Sheet {
-  let mut sheet = bare();
-  sheet.structs = vec![(0, 0); 2];
-  sheet.traits.push(Trait { definition: 0, arity, inherent: 0 });
-  sheet.generics.push(Generics { type_params: 1, ..Generics::default() });
-  let mut impl_ = Impl { generics: 1, flags: flag::NAMED, ..Impl::default() };
-  let param = impl_.table.add(kind::PARAM, 0, &[]);
-  impl_.query = Query { trait_: 1, args: vec![param; arity as usize] };
-  sheet.impls.push(impl_);
-  sheet.definitions[0].bindings.push(Binding { vis: 0, impl_: 0 });
-  sheet
-}
-
-/// Two towers round different structs meet in the search, and fail.
-pub fn shared_in_search(levels: usize) -> Call {
-  let mut table = Table::default();
-  let args = Vec::from_iter((0..2).map(|id| {
-    let innermost = table.add(kind::STRUCT, id, &[]);
-    tower(&mut table, innermost, levels)
-  }));
-  call(&for_any(2), &table, Query { trait_: 1, args })
-}
-
-/// A tower round Error meets its own copy in the closing join, and is indeterminate.
-pub fn shared_in_closing(levels: usize) -> Call {
-  let mut table = Table::default();
-  let innermost = table.add(kind::ERROR, 0, &[]);
-  let word = tower(&mut table, innermost, levels);
-  call(&for_any(1), &table, Query { trait_: 1, args: vec![word] })
-}
-
 /// A stored case by hand, by its reason.
 fn edge(why: &str) -> Call {
   let found = edges::limits().into_iter().find(|edge| edge.why == why);

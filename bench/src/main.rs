@@ -1,6 +1,6 @@
 //! `bench`: the port and the Rust on the same calls, class by class, in one process; each side reads the sheet's words, makes
-//! chart and candidate sets of them, and answers. Then calls on shared types, with the port alone; the worst inputs for each
-//! part of a call, which `--worst` prints alone; and the stack that the deepest searches take.
+//! chart and candidate sets of them, and answers. Then the worst inputs for each part of a call, which `--worst` prints alone,
+//! and the stack that the deepest searches take.
 
 use std::{
   env, hint,
@@ -16,13 +16,8 @@ use vine_finder::{ANSWER_WORDS, workspace_words};
 const STEPS: u32 = rust::STEPS_LIMIT;
 /// How long each side of a class is timed, at least.
 const TIMED: Duration = Duration::from_millis(400);
-/// Calls on shared types, by levels.
-const SHARED: [(&str, fn(usize) -> Call); 2] =
-  [("search", classes::shared_in_search), ("closing join", classes::shared_in_closing)];
-const LEVELS: [usize; 8] = [8, 16, 20, 24, 28, 32, 40, 50];
-const TOO_LONG: Duration = Duration::from_millis(300);
 /// How many levels the joins of the worst inputs have, and how many inputs are tried by chance, where nothing is said.
-const WORST_LEVELS: usize = 16;
+const WORST_LEVELS: usize = 120;
 const WORST_TRIES: usize = 100;
 /// The stack in which the deepest searches are to run, besides the workspace.
 const STACK: usize = 512 << 10;
@@ -60,12 +55,10 @@ fn bench() -> ExitCode {
   let timing = thread::Builder::new().stack_size(256 << 20).spawn(time_all).unwrap();
   let agreed = timing.join().unwrap();
   println!();
-  let shared = shared();
-  println!();
   worst::table(WORST_LEVELS);
   println!();
   let ran = stacks();
-  if agreed && shared && ran { ExitCode::SUCCESS } else { ExitCode::FAILURE }
+  if agreed && ran { ExitCode::SUCCESS } else { ExitCode::FAILURE }
 }
 
 /// Times all classes, and says whether port and Rust agree on them.
@@ -147,30 +140,6 @@ fn median<T>(mut run: impl FnMut() -> T) -> Duration {
   }
   times.sort();
   times[times.len() / 2]
-}
-
-/// Times calls on shared types, on which the Rust does not end, with the port alone: as many levels as end in time.
-fn shared() -> bool {
-  let mut buffers = Buffers::default();
-  let mut all = true;
-  for (name, make) in SHARED {
-    print!("shared types, {name}:");
-    for levels in LEVELS {
-      let call = make(levels);
-      let started = Instant::now();
-      let (given, wrong) = buffers.run(&call);
-      let took = started.elapsed();
-      let agreed = given == model::call(&call, STEPS) && wrong.is_none();
-      print!(" {levels} levels {:.1} ms{}", micros(took) / 1e3, if agreed { "" } else { " WRONG" });
-      all &= agreed;
-      if took > TOO_LONG {
-        print!(", and no further");
-        break;
-      }
-    }
-    println!();
-  }
-  all
 }
 
 /// Runs every class and every stored case at the limits in a thread with so much stack.
