@@ -59,6 +59,7 @@ pub mod CheckedTables
 pub mod Pigeonholes
 pub mod WalksEnd
 pub mod UnifyEnds
+pub mod OwnInverse
 pub mod TypeFuel
 -- Tables through the whole search, and the size of an answer.
 pub mod Carried
