@@ -508,8 +508,8 @@ module _ (n : ℕ) (s : Words) (h : length s ≤ 5 * n) where
 pub scratch-small : (s : Words) → length s ≤ 320 → Scratch s (replicate 64 0) (replicate 256 0)
 scratch-small s h = new-slices 64 s (omega arith) 256 (omega arith) (omega arith)
 
-pub scratch-middle : (s : Words) → length s ≤ 1280 → Scratch s (replicate 256 0) (replicate 256 0)
-scratch-middle s h = new-slices 256 s (omega arith) 256 (omega arith) (omega arith)
+pub scratch-middle : (s : Words) → length s ≤ 1280 → Scratch s (replicate 256 0) (replicate 512 0)
+scratch-middle s h = new-slices 256 s (omega arith) 512 (omega arith) (omega arith)
 
 pub scratch-wide : (s : Words) (f : Finder) → Sound (finder-of s f) → Scratch s (replicate 1024 0) (replicate 1024 0)
 scratch-wide s f h = let short = h .ready .short in new-slices 1024 s (omega (arith, short)) 1024 (omega arith) (omega arith)

@@ -27,12 +27,14 @@ const RESULTS: usize = 10764;
 const REST: usize = 17940;
 
 // An import from the sheet needs words for the places of a table's records and for its mapping, a fifth of the sheet's: for a small sheet, for one of
-// middle size, and for any; and as many for marks as a table has nodes. They are zeroed each time, so that fewer are faster.
+// middle size, and for any; and as many for marks as a table has nodes, twice where the sheet is not small. They are zeroed each time, so that fewer are faster.
 const SMALL: usize = 64;
 
 const MIDDLE: usize = 256;
 
 const WIDE: usize = 1024;
+
+const MARKS: usize = 512;
 
 const SMALL_SHEET: usize = 320;
 
@@ -49,7 +51,7 @@ fn begin_middle(sheet: &[u32], ws: &mut [u32], f: Finder, basic: u32, q: Query, 
     ensures { λ r. ⌜ Begins (finder-of (now (sheet .entry)) f) (eqb basic 1) (now (ws .entry)) (query-of q) count r (now (ws .exit)) ⌝ }
 {
     let mut places = [0u32; MIDDLE];
-    let mut map = [0u32; MIDDLE];
+    let mut map = [0u32; MARKS];
     steps::before_candidates(sheet, ws, &mut places, &mut map, f, basic, q, count)
 }
 
@@ -109,7 +111,7 @@ fn open_middle(sheet: &[u32], ws: &mut [u32], f: Finder, q: Query, i: usize) -> 
     ensures { λ r. ⌜ Opens (now (sheet .entry)) (now (ws .entry)) (query-of q) i r (now (ws .exit)) ⌝ }
 {
     let mut places = [0u32; MIDDLE];
-    let mut map = [0u32; MIDDLE];
+    let mut map = [0u32; MARKS];
     steps::open_candidate(sheet, ws, &mut places, &mut map, f, q, i)
 }
 

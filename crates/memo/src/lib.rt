@@ -1,23 +1,25 @@
 // A memo of pairs of roots that did not succeed and left the type table as it was, so that no pair is tried twice between two joins.
-// It stands in a lent slice behind the marks of the walks: how many pairs there are, whether the table stands since the pair in hand was begun,
+// It stands in a lent slice behind the marks of the walks, 256 for `occurs` and 256 for `self_inverse`: how many pairs there are, whether the table stands since the pair in hand was begun,
 // for each pair its place in the row, and the row. Nothing is asked of the places: a pair counts only where the row has it.
 // A slice may be short: what would lie past its end is not kept.
 ghost use mathlib.Core.Path.{_≡_};
 ghost use Prim.Native.Nat.{_+_, _*_, _<_};
 ghost use lib.ListN.{set};
 ghost use Rattle.rules.specs.Sheet.{at};
-ghost use Rattle.memo.specs.Memo.{memo·count, memo·same, entry, Forgets, Recalls, Adds, Keeps, Ends};
+ghost use Rattle.memo.specs.Memo.{memo·count, memo·same, entry, Forgets, Starts, Recalls, Adds, Keeps, Ends};
 
-// The words of the marks.
+// The words of the marks for `occurs`, and of all marks.
 pub const MARKS: usize = 256;
 
-const COUNT: usize = 256;
+pub const ALL_MARKS: usize = 512;
 
-const SAME: usize = 257;
+const COUNT: usize = 512;
 
-const PLACES: usize = 258;
+const SAME: usize = 513;
 
-const ROW: usize = 262402;
+const PLACES: usize = 514;
+
+const ROW: usize = 262658;
 
 // As many pairs as there are.
 const PAIRS: u32 = 262144;
@@ -43,10 +45,22 @@ fn word_of(x: u32, y: u32, code: u32) -> u32
 
 // A join: no pair is kept, and the table does not stand.
 pub fn forget(ms: &mut [u32])
-    ensures { λ _. ⌜ Forgets (now (ms .exit)) ⌝ }
+    ensures { λ _. ⌜ Forgets (now (ms .entry)) (now (ms .exit)) ⌝ }
 {
     put(ms, COUNT, 0);
     put(ms, SAME, 0)
+}
+
+// The start: no pair is kept, and no mark stands where there is room for all.
+pub fn start(ms: &mut [u32])
+    ensures { λ _. ⌜ Starts (now (ms .entry)) (now (ms .exit)) ⌝ }
+{
+    if ALL_MARKS <= ms.len() {
+        words::clear(ms, ALL_MARKS);
+        forget(ms);
+        return;
+    }
+    forget(ms)
 }
 
 // The code that is kept for types x and y: 1 or 2; 0 where there is none.

@@ -79,14 +79,15 @@ module _ (s : Words) (ts : Types) (formed : WellFormed ts) where
             own : Own s (con kd d (terms σ cs))
             own = subst (Own s) whole o
 
--- A later table: as long, well-formed, with a free solution, and what solves it solves the earlier.
+-- A table and a later one: as long, both well-formed, with a free solution, and what solves it solves the earlier.
 pub record Later (ts us : Types) : Type 0 where
+  pub before : WellFormed ts
   pub len : length us ≡ length ts
   pub formed : WellFormed us
   pub solution : Sol
   pub free : Free us solution
   pub out : (θ : Sol) → Solves us θ → Solves ts θ
 
-pub own-later : (s : Words) (ts us : Types) → WellFormed ts → Later ts us → (t : Ty) → t .1 < length ts → self-inverse s ts t ≡ true → self-inverse s us t ≡ true
+pub own-later : (s : Words) (ts us : Types) → Later ts us → (t : Ty) → t .1 < length ts → self-inverse s ts t ≡ true → self-inverse s us t ≡ true
 unfolding self-inverse
-own-later s ts us formed l t h e = read-own s us (l .formed) (l .solution) (l .free) (suc (length us)) t (subst (λ N. t .1 < N) (sym (l .len)) h) (fuel-full (length us) (l .solution) _) (own-read s ts formed (l .solution) (l .out (l .solution) (l .free .solves)) (suc (length ts)) t h e)
+own-later s ts us l t h e = read-own s us (l .formed) (l .solution) (l .free) (suc (length us)) t (subst (λ N. t .1 < N) (sym (l .len)) h) (fuel-full (length us) (l .solution) _) (own-read s ts (l .before) (l .solution) (l .out (l .solution) (l .free .solves)) (suc (length ts)) t h e)

@@ -11,7 +11,7 @@ use Rattle.rules.specs.Sheet.{kind-flag, row·may-meet}
 use Rattle.rules.specs.Types.{Types, xor, occurs, and, from-bool, success, join, Unified, join-on-success, bind-unknown}
 use Rattle.rules.specs.Transfer.{type-of-word}
 use Rattle.table.specs.Packing.{types-of, kind-at, inverted-at, id-at, Packed, Becomes, Roots, Good}
-use Rattle.memo.specs.Memo.{Forgets, Aside}
+use Rattle.memo.specs.Memo.{Forgets, Aside, forgets-aside}
 use Rattle.unify.specs.declared.UnifyResult.{UnifyResult}
 use Rattle.unify.specs.declared.UnifyResult.the-variants.{Success, Failure, Indeterminate}
 use Rattle.unify.specs.Results.{result-of, Meets, met-inverted}
@@ -50,14 +50,15 @@ unfolding result-of from-bool
 from-false b e = sym (ap from-bool e)
 
 -- A step that joined, and one that did not.
-joins-now : {ts : Types} (us ms ns : Words) {v : UnifyResult} {m : Unified} → Forgets ns → Meets us v m → Binds ts ms us ns v m
-joins-now us ms ns f m = record { meets = m; moves = record { either = inr f } }
+joins-now : {ts : Types} (us ms ns : Words) {m : Unified} → Forgets ms ns → Meets us Success m → Binds ts ms us ns Success m
+unfolding result-of
+joins-now us ms ns f m = record { meets = m; moves = record { either = inr (f, refl) } }
 
 stays-now : (ws ms ns : Words) {v : UnifyResult} {m : Unified} → Aside ms ns → Meets ws v m → Binds (types-of ws) ms ws ns v m
 stays-now ws ms ns a m = record { meets = m; moves = record { either = inl (refl, a) } }
 
 aside-same : (ms : Words) → Aside ms ms
-aside-same ms = record { rest = λ i h. refl }
+aside-same ms = record { len = refl; rest = λ i h. refl }
 
 -- Two roots, whose children were met with verdict v.
 module _ (ws : Words) (v : UnifyResult) (x y : ℕ) where
@@ -65,7 +66,7 @@ module _ (ws : Words) (v : UnifyResult) (x y : ℕ) where
   unfolding result-of
   success-roots e f = f (ap result-of e)
 
-  pub success-joins : (us ms ns : Words) → v ≡ Success → Becomes us (join (types-of ws) (type-of-word x) (type-of-word y)) → Forgets ns → Binds (types-of ws) ms us ns Success (join-on-success (result-of v, types-of ws) (type-of-word x) (type-of-word y))
+  pub success-joins : (us ms ns : Words) → v ≡ Success → Becomes us (join (types-of ws) (type-of-word x) (type-of-word y)) → Forgets ms ns → Binds (types-of ws) ms us ns Success (join-on-success (result-of v, types-of ws) (type-of-word x) (type-of-word y))
   unfolding result-of join-on-success
   success-joins us ms ns e w f = joins-now us ms ns f (record { packed = w .packed; is = ap {B = Unified} (λ (ts : Types). (success, ts)) (w .is) ∙ sym (ap (λ (u : UnifyResult). join-on-success (result-of u, types-of ws) (type-of-word x) (type-of-word y)) e) })
 
@@ -99,9 +100,9 @@ module _ (ws : Words) (x y : ℕ) (a : Bool) (ea : a ≡ (occurs (types-of ws) (
   unfolding result-of bind-unknown type-of-word
   bind-fails ms ns e g z = stays-now ws ms ns z (record { packed = g .packed; is = sym (rw (sym ea ∙ e, bind-unknown)) })
 
-  pub bind-joins : (us ms ns : Words) → a ≡ false → Becomes us (join (types-of ws) (type-of-word x) (type-of-word y)) → Forgets ns → Binds (types-of ws) ms us ns Success (bind-unknown (types-of ws) (type-of-word x) (type-of-word y))
+  pub bind-joins : (us ms os ns : Words) → a ≡ false → Becomes us (join (types-of ws) (type-of-word x) (type-of-word y)) → Aside ms os → Forgets os ns → Binds (types-of ws) ms us ns Success (bind-unknown (types-of ws) (type-of-word x) (type-of-word y))
   unfolding result-of bind-unknown type-of-word
-  bind-joins us ms ns e w f = joins-now us ms ns f (record { packed = w .packed; is = ap {B = Unified} (λ (ts : Types). (success, ts)) (w .is) ∙ sym (rw (sym ea ∙ e, bind-unknown)) })
+  bind-joins us ms os ns e w sd f = joins-now us ms ns (forgets-aside ms os ns sd f) (record { packed = w .packed; is = ap {B = Unified} (λ (ts : Types). (success, ts)) (w .is) ∙ sym (rw (sym ea ∙ e, bind-unknown)) })
 
 -- Whether two roots meet inverted.
 pub met : (ts : Types) (x y : ℕ) (i ix j jy a b r : Bool) → i ≡ inverted-at ts (x / 2) → ix ≡ (type-of-word x) .0 → a ≡ xor i ix → j ≡ inverted-at ts (y / 2) → jy ≡ (type-of-word y) .0 → b ≡ xor j jy → r ≡ xor a b → r ≡ met-inverted ts (type-of-word x) (type-of-word y)

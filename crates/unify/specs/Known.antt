@@ -10,7 +10,7 @@ use lib.ListN.{length}
 use borrow.Author.Tests.{eq-eqb, ne-eqb}
 use Rattle.rules.specs.Lists.{Words}
 use Rattle.rules.specs.Sheet.{kind-flag, row·may-meet}
-use Rattle.rules.specs.Types.{Ty, TypeState, unknown, known, Types, invert-if, state-at, success, Unified, unify-children, unify-known, unify-in}
+use Rattle.rules.specs.Types.{Ty, TypeState, unknown, known, Types, invert-if, state-at, success, join, Unified, unify-children, unify-known, join-on-success, unify-states, unify-in}
 use Rattle.rules.specs.Types as rules
 use Rattle.rules.specs.Acyclic.{children}
 use Rattle.rules.specs.AcyclicLaws.{children-at}
@@ -18,9 +18,10 @@ use Rattle.rules.specs.Transfer.{type-of-word}
 use Rattle.rules.specs.Solutions.{Sol, con, terms, term-size, rep, Fits, Solves, AllIn, ChildrenIn, Readable}
 use Rattle.rules.specs.RootRank.{rank}
 use Rattle.rules.specs.Readings.{ranked-readable}
-use Rattle.rules.specs.Joining.{same-terms}
+use Rattle.rules.specs.Joining.{After, agree, same-terms}
+use Rattle.rules.specs.OwnInverse.{Later}
 use Rattle.rules.specs.UnifyEnds.{below-enough}
-use Rattle.rules.specs.MostGeneral.{Won, AfterAll, known-right, unify-in-right}
+use Rattle.rules.specs.MostGeneral.{Won, AfterAll, tailT, known-right, states-right, unify-in-right}
 use Rattle.table.specs.Packing.{types-of, kind-in, inverted-in, id-in, kind-at, inverted-at, id-at, Roots, Good}
 use Rattle.unify.specs.declared.UnifyResult.{UnifyResult}
 use Rattle.unify.specs.declared.UnifyResult.the-variants.{Failure, Indeterminate}
@@ -113,6 +114,36 @@ module _ (s ws vs : Words) (x y left : ℕ) (v : UnifyResult) (g : Good ws) (r :
         right-root = subst (λ (l : Types). rep l (y / 2) ≡ y / 2) (sym e) right-still;
         apart = r .apart;
       }
+
+  -- What solves the table in which they are joined solves the one before: they are one there, so their children are.
+  pub joined-later : Later (types-of vs) (join (types-of vs) (type-of-word x) (type-of-word y))
+  unfolding unify-states join-on-success tailT met-inverted type-of-word
+  joined-later = subst (λ (l : Types). Later l (join l (type-of-word x) (type-of-word y))) (sym (ap (λ (z : Unified). z .1) is)) (record {
+    before = q .formed;
+    len = after .len ∙ sym (q .len);
+    formed = after .formed;
+    solution = z .1 .0;
+    free = z .1 .1;
+    out = λ θ sv. q .into θ (after .out θ sv) (ap tailT (sym (fits θ (after .out θ sv) (x / 2) (k .left-in) (k .left-root) (k .left-known)) ∙ agree ts (join us (type-of-word x) (type-of-word y)) (x / 2) (y / 2) (k .left-in) (k .right-in) after θ sv ∙ fits θ (after .out θ sv) (y / 2) (k .right-in) (k .right-root) (k .right-known)));
+  })
+    where
+      fits : (θ : Sol) → Solves ts θ → (n : ℕ) → n < length ts → rep ts n ≡ n → kind-at ts n ≢ 0 → θ n ≡ con (kind-at ts n) (id-at ts n) (terms θ (children-at ts n))
+      fits θ sv n h rr c = subst (Fits θ n) (known-fields ts n c) (subst (λ r. Fits θ r (state-at ts r)) rr (sv n h .1))
+
+      joined : (o : Unified) → o .0 ≡ success → join-on-success o (type-of-word x) (type-of-word y) ≡ (success, join (o .1) (type-of-word x) (type-of-word y))
+      joined o e = rw (e, join-on-success)
+
+      both : join-on-success m (type-of-word x) (type-of-word y) ≡ (success, join us (type-of-word x) (type-of-word y))
+      both = joined m (sym (ap (λ (o : Unified). o .0) is) ∙ won)
+
+      z : After ts (x / 2) (y / 2) (join us (type-of-word x) (type-of-word y)) × Readable (join us (type-of-word x) (type-of-word y))
+      z = subst (λ (o : Unified). After ts (x / 2) (y / 2) (o .1) × Readable (o .1)) both
+          (states-right (unify-in left s) (unify-in-right left s) s ts (type-of-word x) (type-of-word y) (g .formed) (r .left-in) (r .right-in) (r .left-root) (r .right-root) (r .apart)
+          (known (inverted-at ts (x / 2)) (kind-at ts (x / 2)) (id-at ts (x / 2)) xs) (known (inverted-at ts (y / 2)) (kind-at ts (y / 2)) (id-at ts (y / 2)) ys) (known-fields ts (x / 2) (k .left-known)) (known-fields ts (y / 2) (k .right-known)) (ranked-readable ts (g .formed) (rank ts) (g .acyclic))
+          (subst (λ (o : Unified). Won (o .0)) (sym both) tt))
+
+      after : After ts (x / 2) (y / 2) (join us (type-of-word x) (type-of-word y))
+      after = z .0
 
 -- Error against a known type, on either side; k is a kind that was read.
 module _ (f : Types → Ty → Ty → Unified) (s ws : Words) (x y : ℕ) (g : Good ws) (w : Bool) (ms : Words) (rd : Ready s (types-of ws) ms) where

@@ -9,24 +9,26 @@ use lib.Dec.{eqb}
 use lib.ListN.{length}
 use borrow.Author.Tests.{eq-eqb, ne-eqb, eqb-true, eqb-false}
 use Rattle.rules.specs.Lists.{Words}
-use Rattle.rules.specs.Types.{Ty, TypeState, unknown, known, Types, xor, invert-if, find, state-at, self-inverse, from-bool, success, failure, indeterminate, Unified, unify-known, join-on-success, bind-unknown, unify-states, unify-roots, unify-in}
+use Rattle.rules.specs.Types.{Ty, TypeState, unknown, known, Types, xor, invert-if, find, state-at, self-inverse, from-bool, success, failure, indeterminate, join, Unified, unify-known, join-on-success, bind-unknown, unify-states, unify-roots, unify-in}
 use Rattle.rules.specs.Types as rules
 use Rattle.rules.specs.Acyclic.{children}
 use Rattle.rules.specs.AcyclicLaws.{children-at}
 use Rattle.rules.specs.Transfer.{type-of-word}
 use Rattle.rules.specs.Answer.{word-of-type}
 use Rattle.rules.specs.Solutions.{rep, WellFormed}
-use Rattle.rules.specs.Readings.{Acyclic}
+use Rattle.rules.specs.Readings.{Acyclic, ranked-readable}
 use Rattle.rules.specs.UnifyKeeps.{StaysAcyclic, unify-in-acyclic}
 use Rattle.rules.specs.UnifyEnds.{Enough, root-enough}
-use Rattle.memo.specs.Memo.{Aside}
+use Rattle.rules.specs.OwnInverse.{Later}
+use Rattle.rules.specs.RootRank.{rank}
+use Rattle.rules.specs.MostGeneral.{Won, unify-in-right, states-right as rules-right}
 use Rattle.table.specs.Packing.{types-of, kind-in, inverted-in, id-in, kind-at, inverted-at, id-at, Roots, Good}
 use Rattle.table.specs.Nodes.{type-word}
 use Rattle.table.specs.Reads.{unknown-here}
 use Rattle.unify.specs.declared.UnifyResult.{UnifyResult}
 use Rattle.unify.specs.declared.UnifyResult.the-variants.{Success, Failure}
 use Rattle.unify.specs.Results.{result-of, Meets, Unifies, Exact, TwoRoots, KnownRoots, met-inverted, unify-fields}
-use Rattle.unify.specs.Trying.{Ready, Fuelled, Binds, Met, Went, noted-then, moves-noted, met-as, met-moved, met-still, met-aside, went-still}
+use Rattle.unify.specs.Trying.{Ready, Fuelled, Noted, Binds, Met, Went, noted-then, moves-noted, met-as, met-moved, met-still, met-noted, went-still}
 
 -- `unify` with no fuel left, and with some.
 pub unify-none : (w : Bool) (s ws ms : Words) (left a b : ℕ) → left ≡ 0 → Good ws → Ready s (types-of ws) ms → Went w s (types-of ws) ms ws ms Failure (unify-in left s (types-of ws) (type-of-word a) (type-of-word b))
@@ -112,8 +114,8 @@ module _ (f : Types → Ty → Ty → Unified) (s ws : Words) (x y : ℕ) where
   unfolding result-of from-bool
   roots-same w ms e g r = met-still w s ws ms Success _ r (record { packed = g .packed; is = sym (at-one true (ap (λ k. k / 2) e) (upright _ _ (ap (λ k. (type-of-word k) .0) e) (self-inverse s (types-of ws) (type-of-word x)))) })
 
-  pub roots-opposed : (w : Bool) (ms ns : Words) (b : Bool) (v : UnifyResult) → x / 2 ≡ y / 2 → x ≢ y → Good ws → Ready s (types-of ws) ms → Aside ms ns → b ≡ self-inverse s (types-of ws) (type-of-word x) → result-of v ≡ from-bool b → Met w s (types-of ws) ms ws ns v (unify-roots f s (types-of ws) (type-of-word x) (type-of-word y))
-  roots-opposed w ms ns b v e n g rd sd eb ev = met-aside w s ws ms ns v _ rd sd (record { packed = g .packed; is = ap {B = Unified} (λ (r : rules.UnifyResult). (r, types-of ws)) ev ∙ sym (at-one b e (turned _ _ odd (self-inverse s (types-of ws) (type-of-word x)) ∙ sym eb)) })
+  pub roots-opposed : (w : Bool) (ms ns : Words) (b : Bool) (v : UnifyResult) → x / 2 ≡ y / 2 → x ≢ y → Good ws → Noted s (types-of ws) ms (types-of ws) ns → b ≡ self-inverse s (types-of ws) (type-of-word x) → result-of v ≡ from-bool b → Met w s (types-of ws) ms ws ns v (unify-roots f s (types-of ws) (type-of-word x) (type-of-word y))
+  roots-opposed w ms ns b v e n g nd eb ev = met-noted w s ws ms ns v _ nd (record { packed = g .packed; is = ap {B = Unified} (λ (r : rules.UnifyResult). (r, types-of ws)) ev ∙ sym (at-one b e (turned _ _ odd (self-inverse s (types-of ws) (type-of-word x)) ∙ sym eb)) })
     where
       odd : (type-of-word x) .0 ≢ (type-of-word y) .0
       odd q = n (parity x y e q)
@@ -131,21 +133,28 @@ unfolding type-of-word
 left-node ts x y r = r .left-in
 
 -- Two different roots, by what they are: k and k′ are their kinds.
-module _ (f : Types → Ty → Ty → Unified) (s ws : Words) (x y k : ℕ) (ek : k ≡ kind-at (types-of ws) (x / 2)) where
-  pub states-left : (w : Bool) (ms us ns : Words) (v : UnifyResult) → k ≡ 0 → Ready s (types-of ws) ms → Binds (types-of ws) ms us ns v (bind-unknown (types-of ws) (type-of-word x) (type-of-word y)) → Met w s (types-of ws) ms us ns v (unify-states f s (types-of ws) (type-of-word x) (type-of-word y) (state-at (types-of ws) (x / 2)) (state-at (types-of ws) (y / 2)))
+module _ (left : ℕ) (s ws : Words) (x y k : ℕ) (ek : k ≡ kind-at (types-of ws) (x / 2)) where
+  -- On success a later table is left.
+  states-later : (us : Types) → Good ws → Roots (types-of ws) (type-of-word x) (type-of-word y) → _≡_ {A = Unified} (success, us) (unify-states (unify-in left s) s (types-of ws) (type-of-word x) (type-of-word y) (state-at (types-of ws) (x / 2)) (state-at (types-of ws) (y / 2))) → Later (types-of ws) us
+  unfolding type-of-word
+  states-later us g r e =
+      let z = rules-right (unify-in left s) (unify-in-right left s) s (types-of ws) (type-of-word x) (type-of-word y) (g .formed) (r .left-in) (r .right-in) (r .left-root) (r .right-root) (r .apart) _ _ refl refl (ranked-readable (types-of ws) (g .formed) (rank (types-of ws)) (g .acyclic)) (subst Won (ap (λ (q : Unified). q .0) e) tt) in
+      subst (Later (types-of ws)) (sym (ap (λ (q : Unified). q .1) e)) (record { before = g .formed; len = z .0 .len; formed = z .0 .formed; solution = z .1 .0; free = z .1 .1; out = z .0 .out })
+
+  pub states-left : (w : Bool) (ms us ns : Words) (v : UnifyResult) → k ≡ 0 → Good ws → Roots (types-of ws) (type-of-word x) (type-of-word y) → Ready s (types-of ws) ms → Binds (types-of ws) ms us ns v (bind-unknown (types-of ws) (type-of-word x) (type-of-word y)) → Met w s (types-of ws) ms us ns v (unify-states (unify-in left s) s (types-of ws) (type-of-word x) (type-of-word y) (state-at (types-of ws) (x / 2)) (state-at (types-of ws) (y / 2)))
   unfolding unify-states
-  states-left w ms us ns v z r m = met-as w s (types-of ws) ms us ns v _ _ (sym (ap (λ st. unify-states f s (types-of ws) (type-of-word x) (type-of-word y) st (state-at (types-of ws) (y / 2))) (unknown-here ws (x / 2) k ek z))) (met-moved w s (types-of ws) ms us ns v _ (r .memo) m)
+  states-left w ms us ns v z g rt r m = met-as w s (types-of ws) ms us ns v _ _ (sym (ap (λ st. unify-states (unify-in left s) s (types-of ws) (type-of-word x) (type-of-word y) st (state-at (types-of ws) (y / 2))) (unknown-here ws (x / 2) k ek z))) (met-moved w s (types-of ws) ms us ns v _ r (λ won. states-later (types-of us) g rt (ap {B = Unified} (λ (q : rules.UnifyResult). (q, types-of us)) (sym won) ∙ m .meets .is ∙ sym (ap (λ st. unify-states (unify-in left s) s (types-of ws) (type-of-word x) (type-of-word y) st (state-at (types-of ws) (y / 2))) (unknown-here ws (x / 2) k ek z)))) m)
 
   module _ (k′ : ℕ) (ek′ : k′ ≡ kind-at (types-of ws) (y / 2)) where
-    pub states-right : (w : Bool) (ms us ns : Words) (v : UnifyResult) → k ≢ 0 → k′ ≡ 0 → Ready s (types-of ws) ms → Binds (types-of ws) ms us ns v (bind-unknown (types-of ws) (type-of-word x) (type-of-word y)) → Met w s (types-of ws) ms us ns v (unify-states f s (types-of ws) (type-of-word x) (type-of-word y) (state-at (types-of ws) (x / 2)) (state-at (types-of ws) (y / 2)))
+    pub states-right : (w : Bool) (ms us ns : Words) (v : UnifyResult) → k ≢ 0 → k′ ≡ 0 → Good ws → Roots (types-of ws) (type-of-word x) (type-of-word y) → Ready s (types-of ws) ms → Binds (types-of ws) ms us ns v (bind-unknown (types-of ws) (type-of-word x) (type-of-word y)) → Met w s (types-of ws) ms us ns v (unify-states (unify-in left s) s (types-of ws) (type-of-word x) (type-of-word y) (state-at (types-of ws) (x / 2)) (state-at (types-of ws) (y / 2)))
     unfolding unify-states
-    states-right w ms us ns v n z r m = met-as w s (types-of ws) ms us ns v _ _ (sym (ap (λ st. unify-states f s (types-of ws) (type-of-word x) (type-of-word y) (state-at (types-of ws) (x / 2)) st) (unknown-here ws (y / 2) k′ ek′ z) ∙ go (state-at (types-of ws) (x / 2)))) (met-moved w s (types-of ws) ms us ns v _ (r .memo) m)
+    states-right w ms us ns v n z g rt r m = met-as w s (types-of ws) ms us ns v _ _ (sym (ap (λ st. unify-states (unify-in left s) s (types-of ws) (type-of-word x) (type-of-word y) (state-at (types-of ws) (x / 2)) st) (unknown-here ws (y / 2) k′ ek′ z) ∙ go (state-at (types-of ws) (x / 2)))) (met-moved w s (types-of ws) ms us ns v _ r (λ won. states-later (types-of us) g rt (ap {B = Unified} (λ (q : rules.UnifyResult). (q, types-of us)) (sym won) ∙ m .meets .is ∙ sym (ap (λ st. unify-states (unify-in left s) s (types-of ws) (type-of-word x) (type-of-word y) (state-at (types-of ws) (x / 2)) st) (unknown-here ws (y / 2) k′ ek′ z) ∙ go (state-at (types-of ws) (x / 2))))) m)
       where
-        go : (st : TypeState) → unify-states f s (types-of ws) (type-of-word x) (type-of-word y) st unknown ≡ bind-unknown (types-of ws) (type-of-word x) (type-of-word y)
+        go : (st : TypeState) → unify-states (unify-in left s) s (types-of ws) (type-of-word x) (type-of-word y) st unknown ≡ bind-unknown (types-of ws) (type-of-word x) (type-of-word y)
         go unknown = refl
         go (known i kd d cs) = refl
 
-    both : (st st′ : TypeState) → kind-in st ≢ 0 → kind-in st′ ≢ 0 → unify-states f s (types-of ws) (type-of-word x) (type-of-word y) st st′ ≡ join-on-success (unify-known f s (types-of ws) (xor (xor (inverted-in st) ((type-of-word x) .0)) (xor (inverted-in st′) ((type-of-word y) .0))) (kind-in st) (id-in st) (children st) (kind-in st′) (id-in st′) (children st′)) (type-of-word x) (type-of-word y)
+    both : (st st′ : TypeState) → kind-in st ≢ 0 → kind-in st′ ≢ 0 → unify-states (unify-in left s) s (types-of ws) (type-of-word x) (type-of-word y) st st′ ≡ join-on-success (unify-known (unify-in left s) s (types-of ws) (xor (xor (inverted-in st) ((type-of-word x) .0)) (xor (inverted-in st′) ((type-of-word y) .0))) (kind-in st) (id-in st) (children st) (kind-in st′) (id-in st′) (children st′)) (type-of-word x) (type-of-word y)
     unfolding unify-states kind-in inverted-in id-in children
     both unknown st′ n n′ = absurd (n refl)
     both (known i kd d cs) unknown n n′ = absurd (n′ refl)
@@ -161,20 +170,28 @@ module _ (f : Types → Ty → Ty → Unified) (s ws : Words) (x y k : ℕ) (ek 
         go failure e = rw (e, join-on-success) e
         go indeterminate e = rw (e, join-on-success) e
 
-    pub states-both : (w : Bool) (ms vs ns us os : Words) (v r : UnifyResult) → k ≢ 0 → k′ ≢ 0 → Went w s (types-of ws) ms vs ns v (unify-fields f s (types-of ws) (type-of-word x) (type-of-word y)) → Binds (types-of vs) ns us os r (join-on-success (result-of v, types-of vs) (type-of-word x) (type-of-word y)) → Met w s (types-of ws) ms us os r (unify-states f s (types-of ws) (type-of-word x) (type-of-word y) (state-at (types-of ws) (x / 2)) (state-at (types-of ws) (y / 2)))
-    unfolding unify-fields met-inverted kind-at inverted-at id-at children-at type-of-word
-    states-both w ms vs ns us os v r n n′ u m = record {
+    pub states-both : (w : Bool) (ms vs ns us os : Words) (v r : UnifyResult) → k ≢ 0 → k′ ≢ 0 → (result-of v ≡ success → Later (types-of vs) (join (types-of vs) (type-of-word x) (type-of-word y))) → Went w s (types-of ws) ms vs ns v (unify-fields (unify-in left s) s (types-of ws) (type-of-word x) (type-of-word y)) → Binds (types-of vs) ns us os r (join-on-success (result-of v, types-of vs) (type-of-word x) (type-of-word y)) → Met w s (types-of ws) ms us os r (unify-states (unify-in left s) s (types-of ws) (type-of-word x) (type-of-word y) (state-at (types-of ws) (x / 2)) (state-at (types-of ws) (y / 2)))
+    unfolding unify-fields met-inverted kind-at inverted-at id-at children-at type-of-word join-on-success
+    states-both w ms vs ns us os v r n n′ later u m = record {
       packed = m .meets .packed;
       is = λ e. m .meets .is ∙ ap (λ (z : Unified). join-on-success z (type-of-word x) (type-of-word y)) (u .exact (back e) .is) ∙ opened;
-      fails = λ e q. u .fails (λ z. e (alike ∙ z)) (sym (same-verdict (unify-fields f s (types-of ws) (type-of-word x) (type-of-word y))) ∙ ap (λ (z : Unified). z .0) opened ∙ q);
-      noted = noted-then s (types-of ws) (types-of vs) (types-of us) ms ns os (u .noted) (moves-noted s (types-of vs) ns (types-of us) os (u .noted .memo) (m .moves));
+      fails = λ e q. u .fails (λ z. e (alike ∙ z)) (sym (same-verdict (unify-fields (unify-in left s) s (types-of ws) (type-of-word x) (type-of-word y))) ∙ ap (λ (z : Unified). z .0) opened ∙ q);
+      noted = noted-then s (types-of ws) (types-of vs) (types-of us) ms ns os (u .noted) (moves-noted s (types-of vs) ns (types-of us) os r (u .noted .marks) (u .noted .memo) after-join (m .moves));
     }
       where
-        opened : join-on-success (unify-fields f s (types-of ws) (type-of-word x) (type-of-word y)) (type-of-word x) (type-of-word y) ≡ unify-states f s (types-of ws) (type-of-word x) (type-of-word y) (state-at (types-of ws) (x / 2)) (state-at (types-of ws) (y / 2))
+        opened : join-on-success (unify-fields (unify-in left s) s (types-of ws) (type-of-word x) (type-of-word y)) (type-of-word x) (type-of-word y) ≡ unify-states (unify-in left s) s (types-of ws) (type-of-word x) (type-of-word y) (state-at (types-of ws) (x / 2)) (state-at (types-of ws) (y / 2))
         opened = sym (both (state-at (types-of ws) (x / 2)) (state-at (types-of ws) (y / 2)) (λ q. n (ek ∙ q)) (λ q. n′ (ek′ ∙ q)))
 
         alike : result-of r ≡ result-of v
         alike = ap (λ (z : Unified). z .0) (m .meets .is) ∙ same-verdict (result-of v, types-of vs)
+
+        joined-table : result-of v ≡ success → (join-on-success (result-of v, types-of vs) (type-of-word x) (type-of-word y)) .1 ≡ join (types-of vs) (type-of-word x) (type-of-word y)
+        joined-table e = ap (λ (z : rules.UnifyResult). (join-on-success (z, types-of vs) (type-of-word x) (type-of-word y)) .1) e
+
+        after-join : result-of r ≡ success → Later (types-of vs) (types-of us)
+        after-join e =
+            let won : result-of v ≡ success = sym alike ∙ e in
+            subst (Later (types-of vs)) (sym (ap (λ (z : Unified). z .1) (m .meets .is) ∙ joined-table won)) (later won)
 
         back : Exact w r → Exact w v
         back (inl e) = inl e

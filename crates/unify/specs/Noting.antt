@@ -1,5 +1,5 @@
 -- Two roots met through the memo: what is kept, and what may be kept.
-use Prim.Native.Nat.{ℕ, suc, _/_, _<_, _≤_}
+use Prim.Native.Nat.{ℕ, suc, _+_, _/_, _<_, _≤_}
 use mathlib.Core.Path.{_≡_, refl, sym, _∙_, ap, subst}
 use mathlib.Core.Bool.{Bool, true, false}
 use mathlib.Core.List.{[], _∷_}
@@ -7,6 +7,7 @@ use mathlib.Core.Logic.{_≢_, inl, inr}
 use native.Mathlib.Omega.{arith}
 use lib.Dec.{eqb}
 use lib.ListN.{length, set, length-set}
+use lib.Seq.{getD-set-other}
 use Rattle.rules.specs.Lists.{Words}
 use Rattle.rules.specs.Sheet.{at}
 use Rattle.rules.specs.Types.{Ty, Types, success, failure, indeterminate, Unified, unify-roots, unify-in}
@@ -38,8 +39,8 @@ code-small v c e = go v e
     go Failure q = omega arith
     go Indeterminate q = omega arith
 
-pub begun-ready : (s : Words) (ts : Types) (ms ns : Words) → Ready s ts ms → ns ≡ set ms 257 1 → Ready s ts ns
-begun-ready s ts ms ns r e = subst (Ready s ts) (sym e) (record { room = omega (arith, r .room, length-set ms 257 1); memo = memo-begun s ts ms 1 (r .memo) })
+pub begun-ready : (s : Words) (ts : Types) (ms ns : Words) → Ready s ts ms → ns ≡ set ms 513 1 → Ready s ts ns
+begun-ready s ts ms ns r e = subst (Ready s ts) (sym e) (record { room = omega (arith, r .room, length-set ms 513 1); marks = record { own = λ l n h k z. r .marks .own (omega (arith, length-set ms 513 1)) n h k (λ q. z (getD-set-other ms 513 (256 + n) 1 0 (omega arith) ∙ q)) }; memo = memo-begun s ts ms 1 (r .memo) })
 
 -- What is kept: it comes to the same again.
 module _ (s ws ms : Words) (x y left r : ℕ) (g : Good ws) (two : TwoRoots (types-of ws) (type-of-word x) (type-of-word y)) (rd : Ready s (types-of ws) ms) (f : Fuelled (suc left) (types-of ws) (type-of-word x ∷ [])) (k : Recalls ms x y r) where
@@ -48,7 +49,7 @@ module _ (s ws ms : Words) (x y left r : ℕ) (g : Good ws) (two : TwoRoots (typ
     packed = g .packed;
     is = λ q. is;
     fails = λ n q. n (ap (λ (z : Unified). z .0) is ∙ q);
-    noted = noted-still s (types-of ws) ms (rd .memo);
+    noted = noted-still s (types-of ws) ms rd;
   }
     where
       is : _≡_ {A = Unified} (result-of v, types-of ws) (unify-roots (unify-in left s) s (types-of ws) (type-of-word x) (type-of-word y))
@@ -63,7 +64,7 @@ module _ (s ws ms : Words) (x y left r : ℕ) (g : Good ws) (two : TwoRoots (typ
   kept-indeterminate e = kept-is Indeterminate (omega arith) (ap verdict e)
 
 -- What may be kept: ms is the memo before, ns as it is begun, os after the roots were met, ps at the end.
-pub kept-on : (s ws ms ns us os ps : Words) (x y left before c : ℕ) (v : UnifyResult) → Good ws → TwoRoots (types-of ws) (type-of-word x) (type-of-word y) → Fuelled (suc left) (types-of ws) (type-of-word x ∷ []) → before ≡ at ms 257 → c ≡ code-of v
+pub kept-on : (s ws ms ns us os ps : Words) (x y left before c : ℕ) (v : UnifyResult) → Good ws → TwoRoots (types-of ws) (type-of-word x) (type-of-word y) → Fuelled (suc left) (types-of ws) (type-of-word x ∷ []) → before ≡ at ms 513 → c ≡ code-of v
     → Met true s (types-of ws) ns us os v (unify-roots (unify-in left s) s (types-of ws) (type-of-word x) (type-of-word y)) → Ends os ps before x y c → Met true s (types-of ws) ms us ps v (unify-roots (unify-in left s) s (types-of ws) (type-of-word x) (type-of-word y))
 unfolding type-of-word code-of verdict result-of
 kept-on s ws ms ns us os ps x y left before c v g two f eb ec m e = record {
@@ -71,6 +72,7 @@ kept-on s ws ms ns us os ps x y left before c v g two f eb ec m e = record {
   is = m .is;
   fails = m .fails;
   noted = record {
+    marks = record { own = λ l n h k z. m .noted .marks .own (omega (arith, e .len)) n h k (λ q. z (e .marks (256 + n) (omega arith) ∙ q)) };
     memo = memo-ends s (types-of us) os ps before x y c (m .noted .memo) e (root-small ws x y two) (root-small-2 ws x y two) (code-small v c ec) settled;
     stands = λ q. (sym eb ∙ e .stands q .1, m .noted .stands (e .stands q .0) .1);
   };
@@ -81,7 +83,7 @@ kept-on s ws ms ns us os ps x y left before c v g two f eb ec m e = record {
     as-verdict Failure q n = ap verdict q
     as-verdict Indeterminate q n = ap verdict q
 
-    settled : at os 257 ≡ 1 → c ≢ 0 → Settled s (types-of us) x y (verdict c)
+    settled : at os 513 ≡ 1 → c ≢ 0 → Settled s (types-of us) x y (verdict c)
     settled q n =
         let same : types-of us ≡ types-of ws = m .noted .stands q .1 in
         subst (λ (l : Types). Settled s l x y (verdict c)) (sym same)

@@ -96,7 +96,7 @@ pub record Pairs (s ws ms vs ns : Words) (left x y : ℕ) (inv : Bool) (v : Unif
 
 pub pairs-none : (s ws ms : Words) (left x y : ℕ) (inv : Bool) → Good ws → Ready s (types-of ws) ms → Fuelled left (types-of ws) (children-at (types-of ws) x) → Pairs s ws ms ws ms left x y inv Success 0
 unfolding before result-of
-pairs-none s ws ms left x y inv g r f = record { good = g; ready = r; noted = noted-still s (types-of ws) ms (r .memo); fuelled = f; kept = same (types-of ws); len = refl; rest = refl }
+pairs-none s ws ms left x y inv g r f = record { good = g; ready = r; noted = noted-still s (types-of ws) ms r; fuelled = f; kept = same (types-of ws); len = refl; rest = refl }
 
 known-state : (st : TypeState) → kind-in st ≢ 0 → st ≢ unknown
 unfolding kind-in

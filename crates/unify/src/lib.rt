@@ -15,7 +15,7 @@ ghost use Rattle.table.specs.Packing.{types-of, kind-at, id-at, Packed, Good, R
 ghost use Rattle.unify.specs.Lists.{Nodes};
 ghost use Rattle.memo.specs.Memo.{Aside};
 ghost use Rattle.unify.specs.Results.{result-of, code-of, Stops, Unifies, Joined, Joins, TwoRoots, KnownRoots, met-inverted, unify-fields};
-ghost use Rattle.unify.specs.Trying.{Ready, Fuelled, Binds, Met, Went, Left};
+ghost use Rattle.unify.specs.Trying.{Ready, Fuelled, Noted, Binds, Met, Went, Left};
 use chart::kinds;
 use chart::layout;
 
@@ -97,8 +97,8 @@ fn occurs_at(ws: &[u32], marks: &mut [u32], v: u32, t: u32) -> bool
     walks::occurs(ws, &mut marks[..memo::MARKS], v, t)
 }
 
-// `self_inverse`, with marks in front of the memo.
-fn own_inverse(s: &[u32], ws: &[u32], marks: &mut [u32], t: u32) -> bool
+// `self_inverse` with new marks.
+fn own_inverse_anew(s: &[u32], ws: &[u32], marks: &mut [u32], t: u32) -> bool
     requires { ⌜ Good (now ws) ⌝ }
     requires { ⌜ t / 2 < length (types-of (now ws)) ⌝ }
     requires { ⌜ 256 ≤ length (now marks) ⌝ }
@@ -106,6 +106,32 @@ fn own_inverse(s: &[u32], ws: &[u32], marks: &mut [u32], t: u32) -> bool
     ensures aside { λ _. ⌜ Aside (now (marks .entry)) (now (marks .exit)) ⌝ }
 {
     walks::self_inverse(s, ws, &mut marks[..memo::MARKS], t)
+}
+
+// `self_inverse` with the marks that stand: a type that is its own inverse stays so through a join.
+fn own_inverse_kept(s: &[u32], ws: &[u32], marks: &mut [u32], t: u32) -> bool
+    requires { ⌜ Good (now ws) ⌝ }
+    requires { ⌜ t / 2 < length (types-of (now ws)) ⌝ }
+    requires { ⌜ Ready (now s) (types-of (now ws)) (now marks) ⌝ }
+    requires { ⌜ 512 ≤ length (now marks) ⌝ }
+    ensures is { λ r. ⌜ r ≡ inverse-of (now (s .entry)) (types-of (now (ws .entry))) (type-of-word t) ⌝ }
+    ensures noted { λ _. ⌜ Noted (now (s .entry)) (types-of (now (ws .entry))) (now (marks .entry)) (types-of (now (ws .entry))) (now (marks .exit)) ⌝ }
+{
+    walks::self_inverse_in(s, ws, &mut marks[memo::MARKS..memo::ALL_MARKS], t)
+}
+
+// `self_inverse`, with marks in front of the memo.
+fn own_inverse(s: &[u32], ws: &[u32], marks: &mut [u32], t: u32) -> bool
+    requires { ⌜ Good (now ws) ⌝ }
+    requires { ⌜ t / 2 < length (types-of (now ws)) ⌝ }
+    requires { ⌜ Ready (now s) (types-of (now ws)) (now marks) ⌝ }
+    ensures is { λ r. ⌜ r ≡ inverse-of (now (s .entry)) (types-of (now (ws .entry))) (type-of-word t) ⌝ }
+    ensures noted { λ _. ⌜ Noted (now (s .entry)) (types-of (now (ws .entry))) (now (marks .entry)) (types-of (now (ws .entry))) (now (marks .exit)) ⌝ }
+{
+    if marks.len() < memo::ALL_MARKS {
+        return own_inverse_anew(s, ws, marks, t);
+    }
+    own_inverse_kept(s, ws, marks, t)
 }
 
 // Whether either of two roots occurs in the other.
@@ -431,12 +457,12 @@ fn unify_one(
     requires { ⌜ 256 ≤ length (now marks) ⌝ }
     ensures { λ r. ⌜ Joined whole (now (ws .exit)) r (unify-of (now (s .entry)) (types-of (now (ws .entry))) (type-of-word a) (type-of-word b)) ⌝ }
 {
-    memo::forget(marks);
+    memo::start(marks);
     let n = table::count(ws);
     unify_in(s, ws, marks, whole, a, b, n + 1)
 }
 
-// `unify`. Words behind the first 256 of the marks serve as memo, as far as they go: 524,546 in all keep every pair.
+// `unify`. Words behind the first 256 of the marks keep what need not be looked at twice, as far as they go: 524,802 in all keep every pair.
 pub fn unify(s: &[u32], ws: &mut [u32], marks: &mut [u32], a: u32, b: u32) -> UnifyResult
     requires { ⌜ Good (now ws) ⌝ }
     requires { ⌜ a / 2 < length (types-of (now ws)) ⌝ }

@@ -106,7 +106,7 @@ fn own_inverse_of(s: &[u32], ws: &[u32], n: u32) -> bool
 }
 
 // Whether every type in a type is its own inverse. Marked nodes are.
-fn self_inverse_in(s: &[u32], ws: &[u32], marks: &mut [u32], t: u32) -> bool
+pub fn self_inverse_in(s: &[u32], ws: &[u32], marks: &mut [u32], t: u32) -> bool
     requires { ⌜ Good (now ws) ⌝ }
     requires { ⌜ t / 2 < length (types-of (now ws)) ⌝ }
     requires { ⌜ length (types-of (now ws)) ≤ length (now marks) ⌝ }

@@ -5,7 +5,7 @@ use mathlib.Core.Path.{_≡_, _∙_}
 use lib.ListN.{length}
 use Rattle.unify.specs.Layers.{unify-none, found-roots, found-fuelled, unify-on, unify-through, roots-same, roots-opposed, roots-apart, two-apart, left-node, states-left, states-right, states-both, known-roots}
 use Rattle.unify.specs.Noting.{root-small, root-small-2, code-small, begun-ready, kept-failure, kept-indeterminate, kept-on}
-use Rattle.unify.specs.Known.{below-fuelled, still-roots, error-left, error-right, known-differ, known-meet}
+use Rattle.unify.specs.Known.{below-fuelled, still-roots, joined-later, error-left, error-right, known-differ, known-meet}
 use Rattle.unify.specs.Children.{children-each, children-last, children-fail, counts-same, last-none-left, last-none-right, last-left, last-right, last-fuelled, last-met}
 use Rattle.unify.specs.Pairs.{Pairs, pairs-none, pair-left, pair-right, pair-fuelled, pairs-stop, pairs-more, pairs-end}
 use Prim.Native.Nat.{ℕ, _+_, _-_, _*_, _<_}
@@ -525,7 +525,9 @@ unify-states-same-length-6 : (t : ℕ) → unify-states-lts.Need-same-length-6 (
 unify-states-same-length-6 t c = search needs
 
 unify-states-returns-3 : (t : ℕ) → unify-states-lts.Need-returns-3 (unify-states-calls t) (unify-states-at t) unify-states.Post
-unify-states-returns-3 t c = search (needs, states-both)
+unify-states-returns-3 t c =
+    let start = c .before .before .before .before .before .before .before .before .before .before .before .before .before .before .before .before .before .before .before .before .before .before .before in
+    states-both _ _ _ _ _ _ (c .before .before .before .before .before .before .before .before .before .before .before .before .before .before .before .before .before .before .kind .ensures) _ (c .before .before .before .before .before .before .before .before .before .before .before .before .before .before .before .kind2 .ensures) _ _ _ _ _ _ _ _ (c .before .before .before .before .before .before .before .before .before .before .before .before .before .before .before .before .before .if1 .left) (c .before .before .before .before .before .before .before .before .before .before .before .before .before .before .if2 .left) (λ e. joined-later _ _ _ _ _ _ _ (start .pre .1 .0) (start .pre .1 .1 .0) (known-roots _ _ _ _ _ (c .before .before .before .before .before .before .before .before .before .before .before .before .before .before .before .before .before .before .kind .ensures) (c .before .before .before .before .before .before .before .before .before .before .before .before .before .before .before .kind2 .ensures) (c .before .before .before .before .before .before .before .before .before .before .before .before .before .before .before .before .before .if1 .left) (c .before .before .before .before .before .before .before .before .before .before .before .before .before .before .if2 .left) (start .pre .1 .1 .0)) _ _ _ (c .before .before .before .before .before .before .before .before .before .before .before .unify-known .ensures) e) (c .before .before .before .before .before .before .before .before .before .before .before .unify-known .ensures) (c .before .before .before .before .join-on-success .ensures)
 
 pub +unify-children+unify-each+unify-in+unify-known+unify-last+unify-noted+unify-roots+unify-states-spec :
     {M : Type 1} → statement M

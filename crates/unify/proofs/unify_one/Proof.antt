@@ -6,8 +6,8 @@ use borrow.Author.Needs.{needs}
 use Rattle.unify.proofs.unify_one.Statement.{statement}
 use Rattle.unify.proofs.unify_one.Tie as tie
 
-forget-requires : tie.Need-forget-requires
-forget-requires c κs = search needs
+start-requires : tie.Need-start-requires
+start-requires c κs = search needs
 
 count-requires : tie.Need-count-requires
 count-requires c κs = search needs
@@ -31,7 +31,7 @@ pub unify-one-spec : {M : Type 1} → statement M
 unify-one-spec =
     tie.close
     (tie.spec
-    forget-requires
+    start-requires
     count-requires
     add-unify-in
     unify-in-requires
