@@ -104,6 +104,17 @@ fn dense(table: &mut Table, id: Option<u32>, nodes: usize) -> u32 {
   children[0]
 }
 
+/// So many nodes over a last one, two to a level, of eight and of seven children: those below, in turn.
+fn tower(table: &mut Table, id: Option<u32>, nodes: usize, last: u32) -> u32 {
+  let mut level = [last; 2];
+  for _ in 0..nodes / 2 {
+    let [a, b] = level;
+    let children = [a, b, a, b, a, b, a, b];
+    level = [&children[..], &children[1..]].map(|children| node(table, id, children));
+  }
+  level[0]
+}
+
 /// So many Tuples, each of seven types and the Tuple before it.
 fn links(table: &mut Table, count: usize, mut seven: impl FnMut(&mut Table) -> [u32; 7]) -> u32 {
   let mut word = table.add(kind::TUPLE, 0, &[]);
@@ -190,6 +201,8 @@ fn meetings() -> Vec<(&'static str, Search)> {
     ),
     ("candidates with tables of 220 nodes", Search { meeting: Import, dense: 220, ..base }),
     ("types of 110 nodes alike", Search { meeting: Alike, dense: 110, ..base }),
+    ("towers of 72 nodes that differ at the bottom", Search { meeting: Bottom, dense: 72, ..base }),
+    ("the same, an unknown at the bottom bound late", Search { meeting: Bound, dense: 72, ..base }),
     (
       "84 unknowns meet a type of 110 nodes",
       Search { meeting: Unknowns, dense: 110, links: 12, ..base },

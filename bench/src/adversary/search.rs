@@ -7,7 +7,7 @@ use oracle::{
   sheet::{flag, kind},
 };
 
-use super::{IMPLS, bare, bind, call, dense, links, query};
+use super::{IMPLS, bare, bind, call, dense, links, query, tower};
 
 /// How the types of a question and of a candidate meet, before the candidate fails.
 #[derive(Debug, Clone, Copy, PartialEq, Eq)]
@@ -18,6 +18,10 @@ pub enum Meeting {
   Import,
   /// Two types of one shape: a join for each node.
   Alike,
+  /// Two types of one shape that differ in their last node alone: there it fails.
+  Bottom,
+  /// Two types of one shape, an unknown in place of the last node of one: what it is bound to fails at the end.
+  Bound,
   /// Unknowns of the candidate, each of which is bound to a dense type.
   Unknowns,
   /// Places where a dense type meets its own inverse.
@@ -68,7 +72,11 @@ impl Search {
   }
 
   fn dense(&self, table: &mut Table) -> u32 {
-    dense(table, self.of_structs.then_some(self.round() + 1), self.dense)
+    dense(table, self.struct_id(), self.dense)
+  }
+
+  fn struct_id(&self) -> Option<u32> {
+    self.of_structs.then_some(self.round() + 1)
   }
 
   /// T[A, B, S[C]], which needs T[A, B, C].
@@ -95,6 +103,17 @@ impl Search {
       Meeting::Nothing => (table.add(0, 0, &[]), table.add(0, 0, &[])),
       Meeting::Import => (fails, self.dense(table)),
       Meeting::Alike => (self.dense(table), table.add(0, 0, &[])),
+      Meeting::Bottom | Meeting::Bound => {
+        let last = match self.meeting {
+          Meeting::Bottom => table.add(kind::KEY, 0, &[]),
+          _ => table.add(kind::PARAM, 0, &[]),
+        };
+        let second = if self.meeting == Meeting::Bound { last } else { table.add(0, 0, &[]) };
+        let first = tower(table, self.struct_id(), self.dense, last);
+        let third = table.add(0, 0, &[]);
+        impl_.query = query(table, &[first, second, third], self.flex);
+        return impl_;
+      }
       Meeting::Unknowns => {
         let dense = table.add(0, 0, &[]);
         (dense, links(table, self.links, |table| [(); 7].map(|()| table.add(0, 0, &[]))))
@@ -112,11 +131,16 @@ impl Search {
   fn asked(&self, table: &mut Table) -> [u32; 3] {
     let dense = match self.meeting {
       Meeting::Nothing | Meeting::Import => table.add(kind::TUPLE, 0, &[]),
+      Meeting::Bottom | Meeting::Bound => {
+        let last = table.add(kind::TUPLE, 0, &[]);
+        tower(table, self.struct_id(), self.dense, last)
+      }
       _ => self.dense(table),
     };
     let met = match self.meeting {
-      Meeting::Nothing | Meeting::Import | Meeting::Alike => table.add(kind::TUPLE, 0, &[]),
       Meeting::Unknowns | Meeting::Inverse => links(table, self.links, |_| [dense; 7]),
+      Meeting::Bound => table.add(kind::NEVER, 0, &[]),
+      _ => table.add(kind::TUPLE, 0, &[]),
     };
     let leaf = table.add(kind::NEVER, 0, &[]);
     let nested =
@@ -178,7 +202,7 @@ pub fn results(nodes: usize) -> Call {
 pub fn random(rng: &mut Rng) -> Search {
   use Meeting::*;
   let (levels, branch) = rng.pick(&[(2, 44), (3, 12), (3, 13), (4, 7), (5, 5), (6, 4), (10, 2)]);
-  let meeting = rng.pick(&[Nothing, Import, Alike, Unknowns, Inverse]);
+  let meeting = rng.pick(&[Nothing, Import, Alike, Bottom, Bound, Unknowns, Inverse]);
   let of_structs = rng.chance(50);
   let filler = rng.range(0, 400);
   Search {
