@@ -92,6 +92,83 @@ impl-type-right s ts a b formed ax ay k won = go (eqb (a .0) 0 || eqb (b .0) 0) 
     go false e true e′ false e″ w = absurd (rw (e, e′, unify-impl-type, e″, unify-types) at w)
     go false e true e′ true e″ w = rw (e, e′, unify-impl-type) (rw (e″, unify-types) (each-right (unify s) (λ us. unify-in-right (suc (length us)) s us) ts (a .1) (b .1) formed ax ay (eqb→eq (length (a .1)) (length (b .1)) (subst T (sym e″) tt)) k (rw (e, e′, unify-impl-type, e″, unify-types) at w)))
 
+-- A transfer goes on from m to m′: nodes stay as they are and roots where they went, and new nodes are their own roots.
+record Frame (m m′ : Transfer) : Type 0 where
+  long : length (m .1) ≤ length (m′ .1)
+  nodes : (n : ℕ) → n < length (m .1) → node-at (m′ .1) n ≡ node-at (m .1) n
+  flat : (n : ℕ) → length (m .1) ≤ n → n < length (m′ .1) → rep (m′ .1) n ≡ n
+  went : (r : ℕ) (u : Ty) → mapped (m .0) r ≡ some u → mapped (m′ .0) r ≡ some u
+
+frame-refl : (m : Transfer) → Frame m m
+frame-refl m = record { long = le-refl _; nodes = λ n h. refl; flat = λ n l h. absurd (omega arith); went = λ r u e. e }
+
+frame-trans : (m m′ m″ : Transfer) → Frame m m′ → Frame m′ m″ → Frame m m″
+unfolding rep
+frame-trans m m′ m″ p q = record {
+  long = le-trans (p .long) (q .long);
+  nodes = λ n h. q .nodes n (le-trans h (p .long)) ∙ p .nodes n h;
+  flat = λ n l h. ⊎-elim (λ b. ap (λ (x : TypeNode). x .up .1) (q .nodes n b) ∙ p .flat n l b) (λ b. q .flat n b h) (lt-or n (length (m′ .1)));
+  went = λ r u e. q .went r u (p .went r u e);
+}
+
+-- A root not yet mapped is pushed,
+frame-push : (m : Transfer) (r : ℕ) → mapped (m .0) r ≡ none → Frame m (pushed m r)
+unfolding rep new-node
+frame-push m r e = record { long = omega (arith, len); nodes = λ n h. snoc-off (m .1) (new-node (length (m .1)) unknown) n h; flat = flat′; went = λ x u q. went′ x u q (ℕ-discrete r x) }
+  where
+    len : length (m .1 ++ (new-node (length (m .1)) unknown ∷ [])) ≡ length (m .1) + 1
+    len = length-append (m .1) (new-node (length (m .1)) unknown ∷ [])
+
+    flat′ : (n : ℕ) → length (m .1) ≤ n → n < length (m .1 ++ (new-node (length (m .1)) unknown ∷ [])) → rep (m .1 ++ (new-node (length (m .1)) unknown ∷ [])) n ≡ n
+    flat′ n l h =
+        let q : n ≡ length (m .1) = omega (arith, len) in
+        subst (λ x. rep (m .1 ++ (new-node (length (m .1)) unknown ∷ [])) x ≡ x) (sym q) (ap (λ (nd : TypeNode). nd .up .1) (snoc-at (m .1) (new-node (length (m .1)) unknown)))
+
+    went′ : (x : ℕ) (u : Ty) → mapped (m .0) x ≡ some u → Dec (r ≡ x) → mapped ((r, (false, length (m .1))) ∷ m .0) x ≡ some u
+    went′ x u q (yes z) = absurd (Option·none-ne-some u (sym e ∙ ap (mapped (m .0)) z ∙ q))
+    went′ x u q (no z) = mapped-other (m .0) r (false, length (m .1)) x z ∙ q
+
+-- and filled.
+frame-fill : (m q : Transfer) (st : TypeState) → length (m .1) < length (q .1) → Frame m q → Frame m (q .0, set (q .1) (length (m .1)) (new-node (length (m .1)) st))
+unfolding rep new-node
+frame-fill m q st b f = record {
+  long = omega (arith, len);
+  nodes = λ n h. set-off (q .1) (length (m .1)) n (new-node (length (m .1)) st) (λ e. lt-irrefl n (omega arith)) ∙ f .nodes n h;
+  flat = λ n l h. flat′ n l (omega (arith, len)) (ℕ-discrete n (length (m .1)));
+  went = f .went;
+}
+  where
+    len : length (set (q .1) (length (m .1)) (new-node (length (m .1)) st)) ≡ length (q .1)
+    len = length-set (q .1) (length (m .1)) (new-node (length (m .1)) st)
+
+    flat′ : (n : ℕ) → length (m .1) ≤ n → n < length (q .1) → Dec (n ≡ length (m .1)) → rep (set (q .1) (length (m .1)) (new-node (length (m .1)) st)) n ≡ n
+    flat′ n l h (yes e) = subst (λ x. rep (set (q .1) (length (m .1)) (new-node (length (m .1)) st)) x ≡ x) (sym e) (ap (λ (x : TypeNode). x .up .1) (set-at (q .1) (length (m .1)) (new-node (length (m .1)) st) b))
+    flat′ n l h (no d) = ap (λ (x : TypeNode). x .up .1) (set-off (q .1) (length (m .1)) n (new-node (length (m .1)) st) d) ∙ f .flat n l h
+
+-- So does every transfer.
+each-frame : (f : Ty → Transfer → Ty × Transfer) → ((t : Ty) (m : Transfer) → Frame m ((f t m) .1)) → (cs : List Ty) (m : Transfer) → Frame m ((transfer-each f cs m) .1)
+unfolding transfer-each
+each-frame f fr [] m = frame-refl m
+each-frame f fr (c ∷ cs) m = frame-trans m ((f c m) .1) _ (fr c m) (each-frame f fr cs ((f c m) .1))
+
+past-push : (m q : Transfer) (r : ℕ) → Frame (pushed m r) q → length (m .1) < length (q .1)
+past-push m q r f = omega (arith, f .long, length-append (m .1) (new-node (length (m .1)) unknown ∷ []))
+
+in-frame : (src : Types) (ps : Option (List Ty)) (k : ℕ) (t : Ty) (m : Transfer) → Frame m ((transfer-in k src ps t m) .1)
+unfolding transfer-in find invert-if rep
+in-frame src ps zero t m = frame-refl m
+in-frame src ps (suc k) t m = go (mapped (m .0) (rep src (t .1))) refl (param-for ps (state-at src (rep src (t .1)))) refl (state-at src (rep src (t .1))) refl (in-frame src ps k)
+  where
+    go : (o : Option Ty) → mapped (m .0) (rep src (t .1)) ≡ o → (u : Option Ty) → param-for ps (state-at src (rep src (t .1))) ≡ u → (st : TypeState) → state-at src (rep src (t .1)) ≡ st → ((t : Ty) (m : Transfer) → Frame m ((transfer-in k src ps t m) .1)) → Frame m ((transfer-in (suc k) src ps t m) .1)
+    go (some u) e w f st q ih = rw (e, transfer-in) (frame-refl m)
+    go none e (some u) f st q ih = rw (e, f, transfer-in) (frame-refl m)
+    go none e none f unknown q ih = rw (e, f, q, transfer-in) (frame-push m (rep src (t .1)) e)
+    go none e none f (known i kd d cs) q ih =
+        rw (e, f, q, transfer-in)
+        (let w = transfer-each (λ c w. transfer-in k src ps c w) cs (pushed m (rep src (t .1))) in
+        let g = each-frame (λ c w. transfer-in k src ps c w) ih cs (pushed m (rep src (t .1))) in
+        frame-fill m (w .1) (known i kd d (w .0)) (past-push m (w .1) (rep src (t .1)) g) (frame-trans m (pushed m (rep src (t .1))) (w .1) (frame-push m (rep src (t .1)) e) g))
+
 -- A candidate takes at most as many nodes as it has type parameters and its signature's table has nodes,
 pub signed-most : (a : Finder) (w₀ : Words) → Ready a w₀ → (ts : Types) (i : ℕ) → i < many (a .sheet) header·impls → length ((signed (a .sheet) ts i) .1) ≤ length ts + fresh-count (a .sheet) i + length ((impl-signature (a .sheet) i) .0)
 unfolding import-impl-type
