@@ -1,26 +1,26 @@
 -- What a candidate's signature and the question have in common where they unify: terms that both are.
 use Prim.Native.Nat.{ℕ, zero, suc, _+_, _≤_, _<_}
 use mathlib.Core.Path.{_≡_, refl, sym, _∙_, ap, ap₂, subst}
-use mathlib.Core.Bool.{Bool, true, false, true≢false, _||_}
+use mathlib.Core.Bool.{Bool, true, false, _||_}
 use mathlib.Core.List.{List, [], _∷_, _++_}
 use mathlib.Core.Option.{Option, none, some, Option·none-ne-some, Option·some-injective}
-use mathlib.Core.Logic.{_≢_, _⊎_, inl, inr, ⊎-elim}
-use native.Mathlib.Nat.{not-suc-le-zero, le-refl, le-trans, lt-irrefl, eq-or-lt-of-le}
+use mathlib.Core.Logic.{_⊎_, inl, inr, ⊎-elim}
+use native.Mathlib.Nat.{not-suc-le-zero, le-refl, le-trans, lt-irrefl}
 use native.Mathlib.Omega.{arith}
 use native.Mathlib.Decide.{ℕ-discrete}
 use lib.Dec.{T, eqb, eqb→eq, leb→le}
 use lib.ListN.{length, getD, set, length-append, length-set, replicate, List·getD-append}
 use Rattle.rules.specs.Lists.{Words}
 use Rattle.rules.specs.Limits.{limit·type-params}
-use Rattle.rules.specs.Layout.{header·generics, header·impls, kind·param}
-use Rattle.rules.specs.Sheet.{at, many, field, type-params, impl-generics, impl-table}
-use Rattle.rules.specs.Types.{Ty, TypeState, unknown, known, TypeNode, Types, new-node, node-at, state-at, xor, invert-if, find, UnifyResult, success, failure, indeterminate, Unified, unify-each, unify-types, unify, ImplType, unify-impl-type}
-use Rattle.rules.specs.Transfer.{Transfer, mapped, param-for, transfer-each, transfer-in, transfer-types, import-types, import-impl-type, new-nodes, table}
+use Rattle.rules.specs.Layout.{header·impls, kind·param}
+use Rattle.rules.specs.Sheet.{many, field, type-params, impl-generics, impl-table}
+use Rattle.rules.specs.Types.{Ty, TypeState, unknown, known, TypeNode, Types, new-node, node-at, state-at, xor, invert-if, find, success, unify-types, unify, ImplType, unify-impl-type}
+use Rattle.rules.specs.Transfer.{Transfer, mapped, param-for, transfer-each, transfer-in, transfer-types, import-types, import-impl-type, new-nodes}
 use Rattle.rules.specs.Values.{generics-ok}
 use Rattle.rules.specs.Search.{Finder, impl-signature, fresh-params, with-fresh}
-use Rattle.rules.specs.Solutions.{Term, var, con, nil, cons, Sol, terms, rep, Fits, Solves, AllIn, ChildrenIn, WellFormed, Free, Readable}
+use Rattle.rules.specs.Solutions.{Term, var, con, nil, cons, Sol, terms, rep, Fits, Solves, AllIn, ChildrenIn, WellFormed, Readable}
 use Rattle.rules.specs.Joining.{same-terms}
-use Rattle.rules.specs.MostGeneral.{Won, Right, AfterAll, each-right, unify-in-right}
+use Rattle.rules.specs.MostGeneral.{Won, AfterAll, each-right, unify-in-right}
 use Rattle.rules.specs.AcyclicLaws.{lt-or}
 use Rattle.rules.specs.RootRank.{rank, child-in}
 use Rattle.rules.specs.Readings.{Ranked, readable-ranked, readable-most}
