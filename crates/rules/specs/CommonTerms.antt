@@ -81,7 +81,7 @@ solves-first ts us σ formed l same sv n h =
     let w = sv n (le-trans h l) in
     (w .0 ∙ ap σ r, subst (λ (k : ℕ). Fits σ k (state-at ts (rep ts n))) r (subst (Fits σ (rep us n)) st (w .1)))
 
--- A success of `unify_impl_type` makes the arguments one.
+-- A success of `unify_impl_type`: its solutions are those of the table before at which the arguments agree.
 impl-type-right : (s : Words) (ts : Types) (a b : ImplType) → WellFormed ts → AllIn (length ts) (a .1) → AllIn (length ts) (b .1) → Readable ts → (unify-impl-type s ts a b) .0 ≡ success → AfterAll ts (a .1) (b .1) ((unify-impl-type s ts a b) .1) × Readable ((unify-impl-type s ts a b) .1)
 unfolding unify-impl-type unify-types unify
 impl-type-right s ts a b formed ax ay k won = go (eqb (a .0) 0 || eqb (b .0) 0) refl (eqb (a .0) (b .0)) refl (eqb (length (a .1)) (length (b .1))) refl (subst Won (sym won) tt)
@@ -164,9 +164,11 @@ unfolding transfer-each
 each-frame f fr [] m = frame-refl m
 each-frame f fr (c ∷ cs) m = frame-trans m ((f c m) .1) _ (fr c m) (each-frame f fr cs ((f c m) .1))
 
+-- A node that was pushed is there.
 past-push : (m q : Transfer) (r : ℕ) → Frame (pushed m r) q → length (m .1) < length (q .1)
 past-push m q r f = omega (arith, f .long, length-append (m .1) (new-node (length (m .1)) unknown ∷ []))
 
+-- `transfer_type`, to any depth.
 in-frame : (src : Types) (ps : Option (List Ty)) (k : ℕ) (t : Ty) (m : Transfer) → Frame m ((transfer-in k src ps t m) .1)
 unfolding transfer-in find invert-if rep
 in-frame src ps zero t m = frame-refl m
@@ -239,7 +241,7 @@ module _ (src : Types) (formed : WellFormed src) (flat : (n : ℕ) → n < lengt
       let y = all-moved k f fr moves b bk cs (λ j q. h (suc j) (omega arith)) ((f c m) .1) (le-trans l (fr c m .long)) (agrees-on b m ((f c m) .1) (x .grows) a) e in
       record { are = ap₂ cons (x .is) (y .are); grows = λ r u q. ⊎-elim (x .grows r u) inr (y .grows r u q) }
 
-  -- A Param is what was given for it; another type is as it reads.
+  -- A Param is what was given for it,
   param-reads : (r : ℕ) (u : Ty) → r < length src → param-for (some ps) (state-at src r) ≡ some u → σ (u .1) ≡ τ r
   unfolding param-for invert-if
   param-reads r u h e = go (state-at src r) (reads r h) e
@@ -252,6 +254,7 @@ module _ (src : Types) (formed : WellFormed src) (flat : (n : ℕ) → n < lengt
           at-kind true z = ap (λ (t : Ty). σ (t .1)) (sym (Option·some-injective _ _ (rw (z, param-for) at q))) ∙ sym (given d) ∙ sym (rw (z, Suits) at s)
           at-kind false z = absurd (Option·none-ne-some u (rw (z, param-for) at q))
 
+  -- and any other known type is over what its children are.
   plain-reads : (r : ℕ) (i : Bool) (k d : ℕ) (cs : List Ty) → r < length src → param-for (some ps) (state-at src r) ≡ none → state-at src r ≡ known i k d cs → τ r ≡ con k d (terms τ cs)
   unfolding param-for
   plain-reads r i k d cs h e q = go (eqb k kind·param) refl (subst (Suits π τ r) q (reads r h)) (sym (ap (param-for (some ps)) q) ∙ e)
@@ -268,9 +271,11 @@ module _ (src : Types) (formed : WellFormed src) (flat : (n : ℕ) → n < lengt
       go (yes q) = inr (ap (λ (t : Ty). σ (t .1)) (sym (Option·some-injective _ _ (sym (mapped-here (m .0) r (false, length (m .1))) ∙ ap (mapped ((r, (false, length (m .1))) ∷ m .0)) q ∙ e))) ∙ s ∙ ap τ q)
       go (no q) = inl (sym (mapped-other (m .0) r (false, length (m .1)) x q) ∙ e)
 
+  -- The pushed root is not of rank below b.
   agrees-push : (m : Transfer) (r b c : ℕ) → b ≤ c → b ≤ δ r → Agrees c m → Agrees b (pushed m r)
   agrees-push m r b c l h a x u d e = a x u (omega arith) (sym (mapped-other (m .0) r (false, length (m .1)) x (λ q. lt-irrefl b (omega (arith, ap δ q)))) ∙ e)
 
+  -- `transfer_type` with enough levels is right.
   in-moves : (k : ℕ) → Moves k (transfer-in k src (some ps))
   unfolding transfer-in find invert-if rep
   in-moves zero b t ht hk hb m l a e = absurd (not-suc-le-zero hk)
@@ -348,10 +353,12 @@ module _ (src : Types) (formed : WellFormed src) (free : Readable src) (flat : (
   unfolding transfer-types
   import-frame = each-frame (transfer-in (suc (length src)) src (some ps)) (in-frame src (some ps) (suc (length src))) xs ([], dst)
 
+  -- The nodes that were there stay,
   import-first : (n : ℕ) → n < length dst → node-at ((import-types src (some ps) xs dst) .1) n ≡ node-at dst n
   unfolding import-types
   import-first n h = import-frame .nodes n h
 
+  -- and what came reads as its source does.
   import-reads : Solves ((import-types src (some ps) xs dst) .1) σ → terms σ ((import-types src (some ps) xs dst) .0) ≡ terms source xs
   unfolding import-types transfer-types given mapped
   import-reads sv =
