@@ -69,6 +69,7 @@ pub mod Slim
 pub mod Neat
 pub mod SearchKeeps
 pub mod SubQuestions
+pub mod CommonTerms
 pub mod CallKeeps
 pub mod ResultLimits
 pub mod AnswerSize

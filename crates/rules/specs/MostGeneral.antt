@@ -132,7 +132,7 @@ tailT (cons t u) = u
 suc-inj : {m n : ℕ} → suc m ≡ suc n → m ≡ n
 suc-inj e = omega arith
 
-each-right : (f : Types → Ty → Ty → Unified) → Right f → (ts : Types) (xs ys : List Ty) → WellFormed ts → AllIn (length ts) xs → AllIn (length ts) ys → length xs ≡ length ys → Readable ts → Won ((unify-each f ts xs ys) .0) → AfterAll ts xs ys ((unify-each f ts xs ys) .1) × Readable ((unify-each f ts xs ys) .1)
+pub each-right : (f : Types → Ty → Ty → Unified) → Right f → (ts : Types) (xs ys : List Ty) → WellFormed ts → AllIn (length ts) xs → AllIn (length ts) ys → length xs ≡ length ys → Readable ts → Won ((unify-each f ts xs ys) .0) → AfterAll ts xs ys ((unify-each f ts xs ys) .1) × Readable ((unify-each f ts xs ys) .1)
 unfolding unify-each terms headT tailT term-size
 each-right f right ts [] [] formed ax ay l fr w = (record { len = refl; formed = formed; same = λ u v hu hv e. e; meet = tt; fewer = λ r h e. e; kept = λ r h a b k. refl; quiet = λ θ s r h rr l. rr; out = λ θ s. s; into = λ θ s e. s }, fr)
 each-right f right ts [] (y ∷ ys) formed ax ay l fr w = absurd (omega arith)

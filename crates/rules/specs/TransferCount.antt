@@ -30,11 +30,11 @@ unfolding unmapped mapped absent
 unmapped-none zero = refl
 unmapped-none (suc n) = omega (arith, unmapped-none n)
 
-mapped-other : (ps : List (ℕ × Ty)) (r : ℕ) (u : Ty) (n : ℕ) → r ≢ n → mapped ((r, u) ∷ ps) n ≡ mapped ps n
+pub mapped-other : (ps : List (ℕ × Ty)) (r : ℕ) (u : Ty) (n : ℕ) → r ≢ n → mapped ((r, u) ∷ ps) n ≡ mapped ps n
 unfolding mapped
 mapped-other ps r u n h = rw (eqb-false r n h, mapped)
 
-mapped-here : (ps : List (ℕ × Ty)) (r : ℕ) (u : Ty) → mapped ((r, u) ∷ ps) r ≡ some u
+pub mapped-here : (ps : List (ℕ × Ty)) (r : ℕ) (u : Ty) → mapped ((r, u) ∷ ps) r ≡ some u
 unfolding mapped
 mapped-here ps r u = rw (eqb-true r r refl, mapped)
 

@@ -30,19 +30,19 @@ put-off : (f : ℕ → ℕ) (n v k : ℕ) → k ≢ n → put f n v k ≡ f k
 unfolding put
 put-off f n v k h = rw (eqb-false k n h, put)
 
-snoc-at : (xs : Types) (x : TypeNode) → node-at (xs ++ (x ∷ [])) (length xs) ≡ x
+pub snoc-at : (xs : Types) (x : TypeNode) → node-at (xs ++ (x ∷ [])) (length xs) ≡ x
 unfolding node-at
 snoc-at xs x = getD-at xs x [] (new-node 0 unknown) (length xs) refl
 
-snoc-off : (xs : Types) (x : TypeNode) (n : ℕ) → n < length xs → node-at (xs ++ (x ∷ [])) n ≡ node-at xs n
+pub snoc-off : (xs : Types) (x : TypeNode) (n : ℕ) → n < length xs → node-at (xs ++ (x ∷ [])) n ≡ node-at xs n
 unfolding node-at
 snoc-off xs x n h = List·getD-append xs (x ∷ []) (new-node 0 unknown) n h
 
-set-at : (xs : Types) (n : ℕ) (x : TypeNode) → n < length xs → node-at (set xs n x) n ≡ x
+pub set-at : (xs : Types) (n : ℕ) (x : TypeNode) → n < length xs → node-at (set xs n x) n ≡ x
 unfolding node-at
 set-at xs n x h = getD-set-same xs n x (new-node 0 unknown) h
 
-set-off : (xs : Types) (n k : ℕ) (x : TypeNode) → k ≢ n → node-at (set xs n x) k ≡ node-at xs k
+pub set-off : (xs : Types) (n k : ℕ) (x : TypeNode) → k ≢ n → node-at (set xs n x) k ≡ node-at xs k
 unfolding node-at
 set-off xs n k x h = getD-set-other xs n k x (new-node 0 unknown) h
 
