@@ -5,3 +5,4 @@ pub mod Classes
 pub mod Writes
 pub mod Copies
 pub mod Joins
+pub mod ChildRoots

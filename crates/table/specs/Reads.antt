@@ -89,10 +89,10 @@ unknown-kind j i d cs e = ap (λ m. state-of m i d cs) e
 
 -- k is the kind of node n: an unknown node has no inversion, no id and no children, a known one those of its words.
 module _ (ws : Words) (n k : ℕ) (ek : k ≡ kind-at (types-of ws) n) where
-  inside : k ≢ 0 → n < length (types-of ws)
+  pub inside : k ≢ 0 → n < length (types-of ws)
   inside z = ⊎-elim (λ h. h) (λ l. absurd (z (ek ∙ sym (kind-past (types-of ws) n (length (types-of ws)) refl l)))) (lt-or n (length (types-of ws)))
 
-  known-here : k ≢ 0 → state-at (types-of ws) n ≡ known (head·inverted (at ws (6 * n + 1))) k (at ws (6 * n + 3)) (take (head·arity (at ws (6 * n + 1))) (eight (at ws (6 * n + 4)) (at ws (6 * n + 5)) (at ws (6 * n + 6))))
+  pub known-here : k ≢ 0 → state-at (types-of ws) n ≡ known (head·inverted (at ws (6 * n + 1))) k (at ws (6 * n + 3)) (take (head·arity (at ws (6 * n + 1))) (eight (at ws (6 * n + 4)) (at ws (6 * n + 5)) (at ws (6 * n + 6))))
   known-here z =
       let q : at ws (6 * n + 2) ≡ k = kind-here ws n (length (types-of ws)) (at ws (6 * n + 2)) refl (inside z) refl ∙ sym ek in
       state-here ws n (inside z) ∙ known-kind _ k _ _ _ q z

@@ -19,6 +19,7 @@ ghost use Rattle.rules.specs.Limits.{limit·nodes};
 ghost use Rattle.table.specs.Packing.{table·length, types-of, node-from, Packed, Put, Rewritten, Pushes, Becomes, Roots, Head, TypeWords, up-at, kind-at, inverted-at, id-at};
 ghost use Rattle.table.specs.Writes.{triple};
 ghost use Rattle.table.specs.Joins.{moved, with-head, root-node};
+ghost use Rattle.table.specs.ChildRoots.{root-in, roots-row, ChildRoots};
 
 // The words of a table of the most nodes, and its most nodes.
 pub const TABLE: usize = 1537;
@@ -155,6 +156,62 @@ pub fn child(ws: &[u32], n: u32, j: usize) -> u32
     } else {
         0
     }
+}
+
+// The first n of eight nodes; n is 9 where they are not told.
+pub struct Row {
+    pub n: usize,
+    pub nodes: [u32; 8],
+}
+
+// The root of the node of a type word below 512, read without tests.
+fn root_read(ws: &[u32], t: u32) -> u32
+    requires { ⌜ Packed (now ws) ⌝ }
+    requires { ⌜ t < 512 ⌝ }
+    ensures { λ r. ⌜ r ≡ root-in (now (ws .entry)) (t / 2) ⌝ }
+{
+    ws[NODE * wide(t / 2) + HEAD] / 36 % 256
+}
+
+// The first n of the roots of the types in three words of children.
+fn roots_read(ws: &[u32], n: usize, x: u32, y: u32, z: u32) -> Row
+    requires { ⌜ Packed (now ws) ⌝ }
+    ensures { λ r. ⌜ r ≡ roots-row (now (ws .entry)) n x y z ⌝ }
+{
+    let nodes = [
+        root_read(ws, x % 512),
+        root_read(ws, x / 512 % 512),
+        root_read(ws, x / 262144 % 512),
+        root_read(ws, y % 512),
+        root_read(ws, y / 512 % 512),
+        root_read(ws, y / 262144 % 512),
+        root_read(ws, z % 512),
+        root_read(ws, z / 512 % 512),
+    ];
+    Row { n, nodes }
+}
+
+// The roots of the children of known node n, read without tests; not told where the node is not its own root.
+pub fn child_roots(ws: &[u32], n: u32) -> Row
+    requires { ⌜ Packed (now ws) ⌝ }
+    requires { ⌜ kind-at (types-of (now ws)) n ≢ 0 ⌝ }
+    ensures { λ r. ⌜ ChildRoots (now (ws .entry)) n r ⌝ }
+{
+    let w = NODE * wide(n);
+    let h = ws[w + HEAD];
+    if h / 36 % 256 != n {
+        return Row {
+            n: 9,
+            nodes: [0u32; 8],
+        };
+    }
+    roots_read(
+        ws,
+        wide(h % 18 / 2),
+        ws[w + CHILDREN],
+        ws[w + MORE_CHILDREN],
+        ws[w + LAST_CHILDREN],
+    )
 }
 
 // Whether a type is inverted.
