@@ -48,10 +48,11 @@ roots-row-of ws n x y z a b c d e f g h ea eb ec ed ee ef eg eh = λ t. record {
 pub record ChildRoots (ws : Words) (n : ℕ) (r : Row) : Type 0 where
   pub root : r .n ≢ 9 → rep (types-of ws) n ≡ n
   pub few : r .n ≢ 9 → r .n ≤ 8
+  pub long : r .n ≢ 9 → r .n ≤ length (r .nodes)
   pub are : r .n ≢ 9 → take (r .n) (r .nodes) ≡ map (λ (c : Ty). root-in ws (c .1)) (children-at (types-of ws) n)
 
 pub roots-untold : (ws : Words) (n : ℕ) (xs : Words) → ChildRoots ws n (record { n = 9; nodes = xs })
-roots-untold ws n xs = record { root = λ z. absurd (z refl); few = λ z. absurd (z refl); are = λ z. absurd (z refl) }
+roots-untold ws n xs = record { root = λ z. absurd (z refl); few = λ z. absurd (z refl); long = λ z. absurd (z refl); are = λ z. absurd (z refl) }
 
 take-map : {A : Type 0} {B : Type 0} (f : A → B) (k : ℕ) (xs : List A) → take k (map f xs) ≡ map f (take k xs)
 take-map f zero xs = refl
@@ -68,6 +69,7 @@ module _ (ws : Words) (n m w h v a b c : ℕ) (known : kind-at (types-of ws) n �
   roots-own own ev ea eb ec r er = record {
     root = λ z. sym (root-there ws n (inside ws n (kind-at (types-of ws) n) refl known)) ∙ sym (root-word ws n n h refl (eh ∙ ap (λ k. at ws (k + 1)) (sym place))) ∙ own;
     few = λ z. omega (arith, ap (λ (x : Row). x .n) er);
+    long = λ z. omega (arith, ap (λ (x : Row). x .n) er, ap (λ (x : Row). length (x .nodes)) er);
     are = λ z. ap (λ (x : Row). take (x .n) (x .nodes)) er ∙ take-map (λ (t : Ty). root-in ws (t .1)) v (eight a b c) ∙ ap (map (λ (t : Ty). root-in ws (t .1))) (sym whole);
   }
     where
