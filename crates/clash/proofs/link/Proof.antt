@@ -1,0 +1,23 @@
+-- `link`: one word.
+use Rattle.clash.specs.Links.{links-set}
+use borrow.Author.Needs.{needs}
+use Rattle.clash.proofs.link.Statement.{statement}
+use Rattle.clash.proofs.link.Tie as tie
+
+add-links : tie.Need-add-links
+add-links c = search needs
+
+wide-requires : tie.Need-wide-requires
+wide-requires c κs = search needs
+
+mul-links : tie.Need-mul-links
+mul-links c = search needs
+
+element-write-links : tie.Need-element-write-links
+element-write-links c = search needs
+
+returns : tie.Need-returns
+returns c = search (needs, links-set)
+
+pub link-spec : {M : Type 1} → statement M
+link-spec = tie.close (tie.spec add-links wide-requires mul-links element-write-links returns)
