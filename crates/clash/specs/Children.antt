@@ -61,16 +61,16 @@ walks-end s h ns c j w e = record { few = λ z. w .few; long = λ z. omega (arit
     none zero c e = refl
     none (suc k) c e = ap (chain-of (suc k) s) e
 
-pub walks-on : (s : Words) (h : ℕ) (ns : Words) (c j v n : ℕ) → Walks s h ns c j → c ≢ 0 → j ≢ 8 → v ≡ at s (c + 1) → n ≡ at s c → Walks s h (set ns j (256 + v / 2)) n (j + 1)
+pub walks-on : (s : Words) (h : ℕ) (ns : Words) (c j v x n : ℕ) → Walks s h ns c j → c ≢ 0 → j ≢ 8 → v ≡ at s (c + 1) → x ≡ 256 + v / 2 → n ≡ at s c → Walks s h (set ns j x) n (j + 1)
 unfolding chain-of
-walks-on s h ns c j v n w z y ev en = record {
-  long = length-set ns j (256 + v / 2) ∙ w .long;
+walks-on s h ns c j v x n w z y ev ex en = record {
+  long = length-set ns j x ∙ w .long;
   few = omega (arith, w .few, y);
   fuel = w .fuel;
   rest =
-      ap (λ (l : Words). l ++ map (cell-ref s) (chain-of (length s - (j + 1)) s n)) (ap (λ k. take k (set ns j (256 + v / 2))) (add-one j) ∙ take-suc-set ns j (256 + v / 2) (omega (arith, w .few, w .long, y)))
-      ∙ append-assoc (take j ns) ((256 + v / 2) ∷ []) (map (cell-ref s) (chain-of (length s - (j + 1)) s n))
-      ∙ (λ t. take j ns ++ ((256 + ev t / 2) ∷ map (cell-ref s) (chain-of (length s - (j + 1)) s (en t))))
+      ap (λ (l : Words). l ++ map (cell-ref s) (chain-of (length s - (j + 1)) s n)) (ap (λ k. take k (set ns j x)) (add-one j) ∙ take-suc-set ns j x (omega (arith, w .few, w .long, y)))
+      ∙ append-assoc (take j ns) (x ∷ []) (map (cell-ref s) (chain-of (length s - (j + 1)) s n))
+      ∙ (λ t. take j ns ++ ((ex ∙ ap (λ k. 256 + k / 2) ev) t ∷ map (cell-ref s) (chain-of (length s - (j + 1)) s (en t))))
       ∙ ap (λ (l : Words). take j ns ++ map (cell-ref s) l) (sym (more c z))
       ∙ w .rest;
 }

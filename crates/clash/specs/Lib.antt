@@ -5,3 +5,4 @@ pub mod Meeting
 pub mod Children
 pub mod Pairs
 pub mod Readings
+pub mod Signatures

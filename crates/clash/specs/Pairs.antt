@@ -6,7 +6,7 @@ use mathlib.Core.List.{List, [], _∷_}
 use mathlib.Core.Logic.{_≢_}
 use native.Mathlib.Nat.{le-of-suc-le-suc, not-suc-le-zero}
 use native.Mathlib.Omega.{arith}
-use lib.ListN.{length, take}
+use lib.ListN.{length, take, replicate}
 use lib.Seq.{getD-take, length-take-le}
 use Rattle.rules.specs.Lists.{Words}
 use Rattle.rules.specs.Sheet.{at}
@@ -48,6 +48,9 @@ goes-start s ps ws ls qs e n xs ys = record { at = λ m w h p. h }
 pub goes-on : (s ps ws ls qs : Words) (e n : ℕ) (xs ys ks rs : Words) (r j : ℕ) (is ts : Words) (u : ℕ) → Goes s ps ws ls qs e n xs ys ks rs r → j < n → Meets s ps ws ks rs r (at xs j) (at ys j) is ts u → Goes s ps ws ls qs e n xs ys is ts u
 goes-on s ps ws ls qs e n xs ys ks rs r j is ts u g h t = record { at = λ m w l p. t .at m w (g .at m w l p) (p .same j h) }
 
+pub children-few : (s ps ws : Words) (x : ℕ) (o : Row) → Gathers s ps ws x o → o .n ≢ 9 → o .n ≤ 8
+children-few s ps ws x o a z = a .few z
+
 -- The children of refs x and y that mean the same.
 module _ (s ps ws ls qs : Words) (e x y : ℕ) (o u : Row) (a : Gathers s ps ws x o) (b : Gathers s ps ws y u) (zo : o .n ≢ 9) (zu : u .n ≢ 9) where
   rows : (m : Sol) → Meaning s ps ws m → means m x ≡ means m y → row m (take (o .n) (o .nodes)) ≡ row m (take (u .n) (u .nodes))
@@ -83,8 +86,8 @@ ran-on s ps ws ls qs e ks rs r k is ts u g h t = record { at = λ m w l. t .at m
 pub record Ends (s ps ws ls qs : Words) (e : ℕ) (b : Bool) : Type 0 where
   pub clash : b ≡ true → (m : Sol) → Meaning s ps ws m → Holds m ls qs e → ⊥
 
-pub ends-clash : (s ps ws ls qs : Words) (e : ℕ) (ks rs : Words) (r : ℕ) → Ran s ps ws ls qs e ks rs r → r ≡ 1000 → Ends s ps ws ls qs e true
-ends-clash s ps ws ls qs e ks rs r g q = record { clash = λ b m w h. (g .at m w h) .free q }
+pub ends-clash : (s ps ws ls qs : Words) (e : ℕ) (ks rs : Words) (r k : ℕ) (is ts : Words) (u : ℕ) → Ran s ps ws ls qs e ks rs r → k < r → Meets s ps ws ks rs r (at rs k % 512) (at rs k / 512) is ts u → u ≡ 1000 → Ends s ps ws ls qs e true
+ends-clash s ps ws ls qs e ks rs r k is ts u g h t q = record { clash = λ b m w l. ((ran-on s ps ws ls qs e ks rs r k is ts u g h t) .at m w l) .free q }
 
 pub ends-not : (s ps ws ls qs : Words) (e : ℕ) → Ends s ps ws ls qs e false
 ends-not s ps ws ls qs e = record { clash = λ b. let z : _≡_ {A = ℕ} 0 1 = cc in absurd (omega arith) }
@@ -99,8 +102,8 @@ pub record ArgsMet (s ps ws ls qs : Words) (p q : Query) (ks rs : Words) (r : �
 pub args-start : (s ps ws ls qs : Words) (p q : Query) → ArgsMet s ps ws ls qs p q ls qs 0
 args-start s ps ws ls qs p q = record { at = λ m w h a. h }
 
-pub args-on : (s ps ws ls qs : Words) (p q : Query) (ks rs : Words) (r k b : ℕ) (is ts : Words) (u : ℕ) → ArgsMet s ps ws ls qs p q ks rs r → k < q .n → b ≡ rep (types-of ws) (at (q .args) k / 2) → Meets s ps ws ks rs r (256 + at (p .args) k / 2) b is ts u → ArgsMet s ps ws ls qs p q is ts u
-args-on s ps ws ls qs p q ks rs r k b is ts u g h e t = record { at = λ m w l a. t .at m w (g .at m w l a) (a .same k h ∙ ap (means m) (sym e)) }
+pub args-on : (s ps ws ls qs : Words) (p q : Query) (ks rs : Words) (r k a b : ℕ) (is ts : Words) (u : ℕ) → ArgsMet s ps ws ls qs p q ks rs r → k < q .n → a ≡ 256 + at (p .args) k / 2 → b ≡ rep (types-of ws) (at (q .args) k / 2) → Meets s ps ws ks rs r a b is ts u → ArgsMet s ps ws ls qs p q is ts u
+args-on s ps ws ls qs p q ks rs r k a b is ts u g h ea eb t = record { at = λ m w l x. t .at m w (g .at m w l x) (ap (means m) ea ∙ x .same k h ∙ ap (means m) (sym eb)) }
 
 -- At the start there are no links and no pairs.
 pub record Clashing (s ps ws : Words) (p q : Query) (b : Bool) : Type 0 where
@@ -109,8 +112,13 @@ pub record Clashing (s ps ws : Words) (p q : Query) (b : Bool) : Type 0 where
 holds-none : (m : Sol) (ls qs : Words) → ((k : ℕ) → at ls k ≡ 0) → Holds m ls qs 0
 holds-none m ls qs z = record { linked = linked-none m ls z; queued = λ k h. absurd (not-suc-le-zero h); free = omega arith }
 
-pub clashing-args : (s ps ws ls qs : Words) (p q : Query) (ks rs : Words) (r : ℕ) → ((k : ℕ) → at ls k ≡ 0) → ArgsMet s ps ws ls qs p q ks rs r → r ≡ 1000 → Clashing s ps ws p q true
-clashing-args s ps ws ls qs p q ks rs r z g e = record { clash = λ b m w a. (g .at m w (holds-none m ls qs z) a) .free e }
+blank : (n k : ℕ) → at (replicate n 0) k ≡ 0
+blank zero k = refl
+blank (suc n) zero = refl
+blank (suc n) (suc k) = blank n k
 
-pub clashing-run : (s ps ws ls qs : Words) (p q : Query) (ks rs : Words) (r : ℕ) (b : Bool) → ((k : ℕ) → at ls k ≡ 0) → ArgsMet s ps ws ls qs p q ks rs r → Ends s ps ws ks rs r b → Clashing s ps ws p q b
-clashing-run s ps ws ls qs p q ks rs r b z g e = record { clash = λ y m w a. e .clash y m w (g .at m w (holds-none m ls qs z) a) }
+pub clashing-args : (s ps ws qs : Words) (n : ℕ) (p q : Query) (ks rs : Words) (r : ℕ) → ArgsMet s ps ws (replicate n 0) qs p q ks rs r → r ≡ 1000 → Clashing s ps ws p q true
+clashing-args s ps ws qs n p q ks rs r g e = record { clash = λ b m w a. (g .at m w (holds-none m (replicate n 0) qs (blank n)) a) .free e }
+
+pub clashing-run : (s ps ws qs : Words) (n : ℕ) (p q : Query) (ks rs : Words) (r : ℕ) (b : Bool) → ArgsMet s ps ws (replicate n 0) qs p q ks rs r → Ends s ps ws ks rs r b → Clashing s ps ws p q b
+clashing-run s ps ws qs n p q ks rs r b g e = record { clash = λ y m w a. e .clash y m w (g .at m w (holds-none m (replicate n 0) qs (blank n)) a) }

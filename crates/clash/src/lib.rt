@@ -18,7 +18,7 @@ ghost use Rattle.clash.specs.Links.{Finds, Links, Settles};
 ghost use Rattle.clash.specs.Meeting.{Puts, Meets};
 ghost use Rattle.clash.specs.Children.{Cells, Gathers};
 ghost use Rattle.clash.specs.Pairs.{Goes, Ends, ArgsMet, Clashing};
-ghost use Rattle.clash.specs.Readings.{Clashes};
+ghost use Rattle.clash.specs.Signatures.{Clashes};
 use chart::layout;
 use queries::Query;
 use table::Row;
@@ -96,6 +96,13 @@ fn parameter(sheet: &[u32], places: &[u32], x: u32) -> u32
     x
 }
 
+// The ref of a type of the signature.
+fn record_ref(t: u32) -> u32
+    ensures { λ r. ⌜ r ≡ 256 + t / 2 ⌝ }
+{
+    RECORDS + t / 2
+}
+
 // A row that is not told.
 fn untold() -> Row
     ensures { λ o. ⌜ o .n ≡ 9 ⌝ }
@@ -121,7 +128,7 @@ fn cells(sheet: &[u32], head: usize) -> Row
             return untold();
         }
         let t = words::offset(sheet, c, layout::CELL_TYPE);
-        nodes[j] = RECORDS + t / 2;
+        nodes[j] = record_ref(t);
         c = words::next(sheet, c);
         j += 1;
     }
@@ -396,7 +403,7 @@ fn meet_args(
     let mut e: usize = 0;
     let mut k: usize = 0;
     while k < q.n {
-        let a = RECORDS + p.args[k] / 2;
+        let a = record_ref(p.args[k]);
         let b = table::root_of(ws, q.args[k] / 2);
         e = meet(sheet, places, ws, links, queue, e, a, b);
         if e == CLASH {

@@ -29,8 +29,8 @@ returns-2 c = search (needs, cells-untold)
 offset-requires : tie.Need-offset-requires Inv-loop μ-loop
 offset-requires c κs = search needs
 
-add-nodes : tie.Need-add-nodes Inv-loop μ-loop
-add-nodes c = search needs
+record-ref-requires : tie.Need-record-ref-requires Inv-loop μ-loop
+record-ref-requires c κs = search needs
 
 mul-nodes : tie.Need-mul-nodes Inv-loop μ-loop
 mul-nodes c = search needs
@@ -65,7 +65,7 @@ cells-spec =
     untold-requires-2
     returns-2
     offset-requires
-    add-nodes
+    record-ref-requires
     mul-nodes
     array-write-nodes
     next-requires

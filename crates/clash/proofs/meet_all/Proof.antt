@@ -1,58 +1,48 @@
+-- `meet_all`: one by one.
+use Rattle.clash.specs.Pairs.{Goes, goes-start, goes-on}
+use borrow.Author.Needs.{needs}
+use Prim.Native.Nat.{_-_}
 use Rattle.clash.proofs.meet_all.Statement.{statement}
 use Rattle.clash.proofs.meet_all.Tie as tie
-use Rattle.clash.proofs.meet_all.Reads as reads
-use Rattle.clash.proofs.meet_all.Lts as lts
-use Rattle.clash.proofs.meet.Reads as meet-reads
 
 abbrev Inv-loop : tie.InvT-loop
-Inv-loop sheet places ws links₀ queue₀ end xs ys e₀ j₀ links queue e j = ?
+Inv-loop sheet places ws links₀ queue₀ end xs ys e₀ j₀ links queue e j = Goes sheet places ws links₀ queue₀ end (xs .n) (xs .nodes) (ys .nodes) links queue e
 
 abbrev μ-loop : tie.MeasureT-loop
-μ-loop sheet places ws links₀ queue₀ end xs ys e₀ j₀ links queue e j = ?
+μ-loop sheet places ws links₀ queue₀ end xs ys e₀ j₀ links queue e j = xs .n - j
 
--- src/lib.rt:299:5
 loop-holds : tie.Need-loop-holds Inv-loop μ-loop
-loop-holds c = ?
+loop-holds c = search (needs, goes-start)
 
--- src/lib.rt:307:13
 mul-meet : tie.Need-mul-meet Inv-loop μ-loop
-mul-meet c = ?
+mul-meet c = search needs
 
--- src/lib.rt:307:13
 element-copy-out-meet : tie.Need-element-copy-out-meet Inv-loop μ-loop
-element-copy-out-meet c = ?
+element-copy-out-meet c = search needs
 
--- src/lib.rt:308:13
 mul-meet-2 : tie.Need-mul-meet-2 Inv-loop μ-loop
-mul-meet-2 c = ?
+mul-meet-2 c = search needs
 
--- src/lib.rt:308:13
 element-copy-out-meet-2 : tie.Need-element-copy-out-meet-2 Inv-loop μ-loop
-element-copy-out-meet-2 c = ?
+element-copy-out-meet-2 c = search needs
 
--- src/lib.rt:300:9
 meet-requires : tie.Need-meet-requires Inv-loop μ-loop
-meet-requires c κs = ?
+meet-requires c κs = search needs
 
--- src/lib.rt:311:13
 returns : tie.Need-returns Inv-loop μ-loop
-returns c = ?
+returns c = search (needs, goes-on)
 
--- src/lib.rt:313:9
 add-j : tie.Need-add-j Inv-loop μ-loop
-add-j c = ?
+add-j c = search needs
 
--- src/lib.rt:299:5
 loop-less : tie.Need-loop-less Inv-loop μ-loop
-loop-less c = ?
+loop-less c = search needs
 
--- src/lib.rt:299:5
 loop-again : tie.Need-loop-again Inv-loop μ-loop
-loop-again c = ?
+loop-again c = search (needs, goes-on)
 
--- src/lib.rt:284:1
 returns-2 : tie.Need-returns-2 Inv-loop μ-loop
-returns-2 c = ?
+returns-2 c = search needs
 
 pub meet-all-spec : {M : Type 1} → statement M
 meet-all-spec =

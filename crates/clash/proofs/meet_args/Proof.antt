@@ -1,67 +1,54 @@
+-- `meet_args`: one by one.
+use Rattle.clash.specs.Pairs.{ArgsMet, args-start, args-on}
+use borrow.Author.Needs.{needs}
+use Prim.Native.Nat.{_-_}
 use Rattle.clash.proofs.meet_args.Statement.{statement}
 use Rattle.clash.proofs.meet_args.Tie as tie
-use Rattle.clash.proofs.meet_args.Reads as reads
-use Rattle.clash.proofs.meet_args.Lts as lts
-use Rattle.clash.proofs.meet.Reads as meet-reads
-use Rattle.table.proofs.root_of.Reads as root-of-reads
 
 abbrev Inv-loop : tie.InvT-loop
-Inv-loop sheet places ws links₀ queue₀ p q e₀ k₀ links queue e k = ?
+Inv-loop sheet places ws links₀ queue₀ p q e₀ k₀ links queue e k = ArgsMet sheet places ws links₀ queue₀ p q links queue e
 
 abbrev μ-loop : tie.MeasureT-loop
-μ-loop sheet places ws links₀ queue₀ p q e₀ k₀ links queue e k = ?
+μ-loop sheet places ws links₀ queue₀ p q e₀ k₀ links queue e k = q .n - k
 
--- src/lib.rt:398:5
 loop-holds : tie.Need-loop-holds Inv-loop μ-loop
-loop-holds c = ?
+loop-holds c = search (needs, args-start)
 
--- src/lib.rt:399:27
-mul-a : tie.Need-mul-a Inv-loop μ-loop
-mul-a c = ?
+mul-record-ref : tie.Need-mul-record-ref Inv-loop μ-loop
+mul-record-ref c = search needs
 
--- src/lib.rt:399:27
-element-copy-out-a : tie.Need-element-copy-out-a Inv-loop μ-loop
-element-copy-out-a c = ?
+element-copy-out-record-ref : tie.Need-element-copy-out-record-ref Inv-loop μ-loop
+element-copy-out-record-ref c = search needs
 
--- src/lib.rt:399:17
-add-a : tie.Need-add-a Inv-loop μ-loop
-add-a c = ?
+record-ref-requires : tie.Need-record-ref-requires Inv-loop μ-loop
+record-ref-requires c κs = search needs
 
--- src/lib.rt:400:36
 mul-root-of : tie.Need-mul-root-of Inv-loop μ-loop
-mul-root-of c = ?
+mul-root-of c = search needs
 
--- src/lib.rt:400:36
 element-copy-out-root-of : tie.Need-element-copy-out-root-of Inv-loop μ-loop
-element-copy-out-root-of c = ?
+element-copy-out-root-of c = search needs
 
--- src/lib.rt:400:13
 root-of-requires : tie.Need-root-of-requires Inv-loop μ-loop
-root-of-requires c κs = ?
+root-of-requires c κs = search needs
 
--- src/lib.rt:401:9
 meet-requires : tie.Need-meet-requires Inv-loop μ-loop
-meet-requires c κs = ?
+meet-requires c κs = search needs
 
--- src/lib.rt:403:13
 returns : tie.Need-returns Inv-loop μ-loop
-returns c = ?
+returns c = search (needs, args-on)
 
--- src/lib.rt:405:9
 add-k : tie.Need-add-k Inv-loop μ-loop
-add-k c = ?
+add-k c = search needs
 
--- src/lib.rt:398:5
 loop-less : tie.Need-loop-less Inv-loop μ-loop
-loop-less c = ?
+loop-less c = search needs
 
--- src/lib.rt:398:5
 loop-again : tie.Need-loop-again Inv-loop μ-loop
-loop-again c = ?
+loop-again c = search (needs, args-on)
 
--- src/lib.rt:384:1
 returns-2 : tie.Need-returns-2 Inv-loop μ-loop
-returns-2 c = ?
+returns-2 c = search needs
 
 pub meet-args-spec : {M : Type 1} → statement M
 meet-args-spec =
@@ -70,9 +57,9 @@ meet-args-spec =
     Inv-loop
     μ-loop
     loop-holds
-    mul-a
-    element-copy-out-a
-    add-a
+    mul-record-ref
+    element-copy-out-record-ref
+    record-ref-requires
     mul-root-of
     element-copy-out-root-of
     root-of-requires

@@ -1,0 +1,20 @@
+-- `clash_args`: at the start there are no links.
+use Rattle.clash.specs.Pairs.{clashing-args, clashing-run}
+use borrow.Author.Needs.{needs}
+use Rattle.clash.proofs.clash_args.Statement.{statement}
+use Rattle.clash.proofs.clash_args.Tie as tie
+
+meet-args-requires : tie.Need-meet-args-requires
+meet-args-requires c κs = search needs
+
+returns : tie.Need-returns
+returns c = search (needs, clashing-args)
+
+run-requires : tie.Need-run-requires
+run-requires c κs = search needs
+
+returns-2 : tie.Need-returns-2
+returns-2 c = search (needs, clashing-run)
+
+pub clash-args-spec : {M : Type 1} → statement M
+clash-args-spec = tie.close (tie.spec meet-args-requires returns run-requires returns-2)

@@ -1,0 +1,39 @@
+-- `meet_children`: one by one, where there are as many.
+use Rattle.clash.specs.Meeting.{meets-none}
+use Rattle.clash.specs.Pairs.{children-few, children-clash, children-meet}
+use borrow.Author.Needs.{needs}
+use Rattle.clash.proofs.meet_children.Statement.{statement}
+use Rattle.clash.proofs.meet_children.Tie as tie
+
+children-requires : tie.Need-children-requires
+children-requires c κs = search needs
+
+returns : tie.Need-returns
+returns c = search (needs, meets-none)
+
+children-requires-2 : tie.Need-children-requires-2
+children-requires-2 c κs = search needs
+
+returns-2 : tie.Need-returns-2
+returns-2 c = search (needs, meets-none)
+
+returns-3 : tie.Need-returns-3
+returns-3 c = search (needs, children-clash)
+
+meet-all-requires : tie.Need-meet-all-requires
+meet-all-requires c κs = search (needs, children-few)
+
+returns-4 : tie.Need-returns-4
+returns-4 c = search (needs, children-meet)
+
+pub meet-children-spec : {M : Type 1} → statement M
+meet-children-spec =
+    tie.close
+    (tie.spec
+    children-requires
+    returns
+    children-requires-2
+    returns-2
+    returns-3
+    meet-all-requires
+    returns-4)

@@ -1,0 +1,60 @@
+-- `run`: pair by pair.
+use Prim.Native.Nat.{_-_}
+use Rattle.clash.specs.Pairs.{Ran, ran-start, ran-on, ends-clash, ends-not}
+use borrow.Author.Needs.{needs}
+
+use Rattle.clash.proofs.run.Statement.{statement}
+use Rattle.clash.proofs.run.Tie as tie
+
+abbrev Inv-loop : tie.InvT-loop
+Inv-loop sheet places ws links₀ queue₀ n k₀ end₀ links queue k end = Ran sheet places ws links₀ queue₀ n links queue end
+
+abbrev μ-loop : tie.MeasureT-loop
+μ-loop sheet places ws links₀ queue₀ n k₀ end₀ links queue k end = 512 - k
+
+loop-holds : tie.Need-loop-holds Inv-loop μ-loop
+loop-holds c = search (needs, ran-start)
+
+returns : tie.Need-returns Inv-loop μ-loop
+returns c = search (needs, ends-not)
+
+mul-pair : tie.Need-mul-pair Inv-loop μ-loop
+mul-pair c = search needs
+
+element-copy-out-pair : tie.Need-element-copy-out-pair Inv-loop μ-loop
+element-copy-out-pair c = search needs
+
+add-k : tie.Need-add-k Inv-loop μ-loop
+add-k c = search needs
+
+meet-children-requires : tie.Need-meet-children-requires Inv-loop μ-loop
+meet-children-requires c κs = search needs
+
+returns-2 : tie.Need-returns-2 Inv-loop μ-loop
+returns-2 c = search (needs, ends-clash)
+
+loop-less : tie.Need-loop-less Inv-loop μ-loop
+loop-less c = search needs
+
+loop-again : tie.Need-loop-again Inv-loop μ-loop
+loop-again c = search (needs, ran-on)
+
+returns-3 : tie.Need-returns-3 Inv-loop μ-loop
+returns-3 c = search (needs, ends-not)
+
+pub run-spec : {M : Type 1} → statement M
+run-spec =
+    tie.close
+    (tie.spec
+    Inv-loop
+    μ-loop
+    loop-holds
+    returns
+    mul-pair
+    element-copy-out-pair
+    add-k
+    meet-children-requires
+    returns-2
+    loop-less
+    loop-again
+    returns-3)
