@@ -31,7 +31,7 @@ use Rattle.clash.specs.Meaning.{means, means-low, row, Sort, node-refs, 
 use Rattle.clash.specs.Pairs.{Agree}
 
 -- The term of a node by its state.
-unfoldable node-term : Sol → ℕ → TypeState → Term
+unfoldable pub node-term : Sol → ℕ → TypeState → Term
 node-term σ n unknown = σ n
 node-term σ n (known i k d cs) = con k d (terms σ cs)
 
@@ -157,8 +157,8 @@ module _ (s ws : Words) (h : ℕ) (short : length (chain s h) ≤ 248) (formed :
     };
     records = record {
       few = short;
-      param = λ k l e d. reading-record ws σ π τ k (omega arith) ∙ suits-param π τ k _ _ _ _ (suits k l (omega arith)) e ∙ sym (reading-param ws σ π τ (at s (at (chain s h) k + 3)));
-      plain = λ k l z y. reading-record ws σ π τ k (omega arith) ∙ suits-plain π τ k _ _ _ _ (suits k l z) y ∙ ap (con (at s (at (chain s h) k + 1)) (at s (at (chain s h) k + 3))) (record-rows (cell-types s (at s (at (chain s h) k + 4))) (cells-in k l z));
+      param = λ k l e d. reading-record ws σ π τ k (omega arith) ∙ suits-param π τ k (eqb (at s (at (chain s h) k + 2)) 1) _ _ _ (suits k l (omega arith)) e ∙ sym (reading-param ws σ π τ (at s (at (chain s h) k + 3)));
+      plain = λ k l z y. reading-record ws σ π τ k (omega arith) ∙ suits-plain π τ k (eqb (at s (at (chain s h) k + 2)) 1) _ _ _ (suits k l z) y ∙ ap (con (at s (at (chain s h) k + 1)) (at s (at (chain s h) k + 3))) (record-rows (cell-types s (at s (at (chain s h) k + 4))) (cells-in k l z));
     };
   }
 

@@ -1,26 +1,26 @@
 -- A candidate whose signature clashes with the question.
-use Prim.Native.Nat.{ℕ, _+_, _*_, _≤_, _<_}
+use Prim.Native.Nat.{ℕ, _+_, _-_, _*_, _≤_, _<_}
 use mathlib.Core.Path.{_≡_, refl, sym, _∙_, ap, subst}
 use mathlib.Core.Bool.{Bool, true, false}
 use mathlib.Core.List.{List}
 use mathlib.Core.Logic.{_≢_}
 use native.Mathlib.Omega.{arith}
+use lib.Dec.{T, leb, leb→le}
 use lib.ListN.{length, take}
 use lib.Seq.{length-take-le}
 use Rattle.rules.specs.Lists.{Words}
-use Rattle.rules.specs.Limits.{limit·nodes, limit·sheet}
+use Rattle.rules.specs.Limits.{limit·nodes}
 use Rattle.rules.specs.Layout.{header·impls, impl·table, impl·trait, impl·args}
 use Rattle.rules.specs.Sheet.{at, chain, field, many, impl-table, impl-trait, impl-args}
 use Rattle.rules.specs.Types.{Ty, Types, ImplType, success}
 use Rattle.rules.specs.Transfer.{cell-types, table}
 use Rattle.rules.specs.Search.{impl-signature}
-use Rattle.rules.specs.Solutions.{AllIn}
+use Rattle.rules.specs.Solutions.{AllIn, WellFormed}
 use Rattle.rules.specs.CheckedTables.{table-length}
 use Rattle.rules.specs.Neat.{Neat}
 use Rattle.rules.specs.SearchKeeps.{fresh-count, signed, met}
 use Rattle.rules.specs.CommonTerms.{Common, candidate-common, signed-most, fresh-most}
-use Rattle.table.specs.Packing.{types-of, Packed}
-use Rattle.table.specs.Nodes.{types-few}
+use Rattle.table.specs.Packing.{types-of}
 use Rattle.chart.specs.Fields.{field-found}
 use Rattle.chart.specs.Index.{Indexed}
 use Rattle.transfer.specs.Callers.{places-chain}
@@ -37,32 +37,58 @@ pub record Clashes (s : Words) (ts : Types) (q : ImplType) (i : ℕ) (r : Bool) 
   pub room : r ≡ true → length ((signed s ts i) .1) ≤ limit·nodes
   pub unfit : r ≡ true → (met s ts q i) .0 ≢ success
 
+never : false ≡ true → ⊥
+never e = let z : _≡_ {A = ℕ} 0 1 = cc in omega arith
+
 pub clashes-not : (s : Words) (ts : Types) (q : ImplType) (i : ℕ) → Clashes s ts q i false
 clashes-not s ts q i = record { room = λ e. absurd (never e); unfit = λ e. absurd (never e) }
-  where
-    never : false ≡ true → ⊥
-    never e = let z : _≡_ {A = ℕ} 0 1 = cc in omega arith
 
--- The record of impl i is at p, and the head of its table in it.
-module _ (s : Words) (sound : Sound s) (i : ℕ) (h : i < many s header·impls) (first p head : ℕ) (e : first ≡ at s 4) (ep : p ≡ at (chain s first) i) where
-  pub args-few : (args : ℕ) (w : ℕ) → args ≡ at s (p + 5) → w ≡ args → length (cell-types s w) ≤ 4
-  args-few args w ea ew = signature-few s sound i h w (ew ∙ field-found s header·impls i impl·args first p args e ep ea)
+-- true: the signature of the impl whose record is at p has as many arguments as the question, and cannot mean what that does.
+pub record Against (s ps ws : Words) (q : Query) (p : ℕ) (r : Bool) : Type 0 where
+  pub signature : r ≡ true → (a : Query) × (query-of a ≡ (at s (p + 3), cell-types s (at s (p + 5)))) × (a .n ≡ q .n) × Clashing s ps ws a q true
 
-  module _ (eh : head ≡ at s (p + 4)) where
+pub against-not : (s ps ws : Words) (q : Query) (p : ℕ) → Against s ps ws q p false
+against-not s ps ws q p = record { signature = λ e. absurd (never e) }
+
+pub against-args : (s ps ws : Words) (q : Query) (p tr args v : ℕ) (a : Query) (r : Bool) → tr ≡ at s (p + 3) → args ≡ at s (p + 5) → v ≡ args → query-of a ≡ (tr, cell-types s v) → a .n ≡ q .n → Clashing s ps ws a q r → Against s ps ws q p r
+against-args s ps ws q p tr args v a r et ea ev eq en k = record { signature = λ e. (a, eq ∙ (λ t. (et t, cell-types s ((ev ∙ ea) t))), en, subst (Clashing s ps ws a q) e k) }
+
+pub args-read : (s : Words) (p args v : ℕ) → length (cell-types s (at s (p + 5))) ≤ 4 → args ≡ at s (p + 5) → v ≡ args → length (cell-types s v) ≤ 4
+args-read s p args v h ea ev = subst (λ k. length (cell-types s k) ≤ 4) (sym (ev ∙ ea)) h
+
+-- true: a table of n nodes and eight unknowns more are no more than the most.
+pub record Room (ts : Types) (n : ℕ) (r : Bool) : Type 0 where
+  pub room : r ≡ true → length ts + n ≤ 248
+
+pub room-none : (ts : Types) (n : ℕ) → Room ts n false
+room-none ts n = record { room = λ e. absurd (never e) }
+
+pub room-count : (ts : Types) (n c w : ℕ) → n ≤ 248 → c ≡ length ts → w ≡ c → Room ts n (leb w (248 - n))
+room-count ts n c w h ec ew = record { room = λ e. omega (arith, leb→le w (248 - n) (subst T (sym e) tt)) }
+
+-- The record of impl i is at p.
+pub record ImplAt (s : Words) (i p : ℕ) : Type 0 where
+  pub word : (k : ℕ) → at s (p + k) ≡ field s header·impls i k
+
+pub impl-at : (s : Words) (i head p : ℕ) → head ≡ at s 4 → p ≡ at (chain s head) i → ImplAt s i p
+impl-at s i head p e ep = record { word = λ k. field-found s header·impls i k head p (at s (p + k)) e ep refl }
+
+module _ (s : Words) (sound : Sound s) (i : ℕ) (h : i < many s header·impls) (p : ℕ) (o : ImplAt s i p) where
+  pub args-few : length (cell-types s (at s (p + 5))) ≤ 4
+  args-few = signature-few s sound i h (at s (p + 5)) (o .word 5)
+
+  module _ (head : ℕ) (eh : head ≡ at s (p + 4)) where
     found : head ≡ field s header·impls i impl·table
-    found = field-found s header·impls i impl·table first p head e ep eh
+    found = eh ∙ o .word 4
 
     few : 5 * length (chain s head) ≤ length s
     few = subst (λ x. 5 * length (chain s x) ≤ length s) (sym found) (impl-few s (sound .ready .chains) i h)
 
-    pub index-room : (ws : Words) → length s ≤ 5 * length ws → 0 + length (chain s head) ≤ length ws
-    index-room ws l = omega (arith, few)
+    module _ (ws : Words) (l : length s ≤ 5 * length ws) where
+      pub index-room : 0 + length (chain s head) ≤ length ws
+      index-room = omega (arith, few)
 
-    module _ (ws us : Words) (n : ℕ) (x : Indexed s head ws us 0 n) where
-      pub sum-small : (ts : Words) (c w : ℕ) → c ≡ length (types-of ts) → w ≡ c → w + n < 8192
-      sum-small ts c w ec ew = omega (arith, x .count, few, sound .short, types-few ts)
-
-      module _ (l : length s ≤ 5 * length ws) (long : length us ≡ length ws) where
+      module _ (us : Words) (n : ℕ) (x : Indexed s head ws us 0 n) (long : length us ≡ length ws) where
         pub index-few : n ≤ length us
         index-few = omega (arith, x .count, few)
 
@@ -72,27 +98,34 @@ module _ (s : Words) (sound : Sound s) (i : ℕ) (h : i < many s header·impls) 
         places : take n us ≡ chain s head
         places = places-chain s head us 0 n (x .count) (x .place) (omega (arith, index-few))
 
-        module _ (ts : Words) (q : Query) (packed : Packed ts) (neat : Neat (types-of ts)) (inside : AllIn (length (types-of ts)) ((query-of q) .1)) (most : q .n ≤ 4) where
-          pub clash-found : (c w : ℕ) → c ≡ length (types-of ts) → w ≡ c → w + n ≤ 248 → (tr args v : ℕ) → tr ≡ at s (p + 3) → args ≡ at s (p + 5) → v ≡ args → (a : Query) → query-of a ≡ (tr, cell-types s v) → a .n ≡ q .n → (r : Bool) → Clashing s (take n us) ts a q r → Clashes s (types-of ts) (query-of q) i r
-          unfolding impl-signature impl-table impl-trait impl-args
-          clash-found c w ec ew room tr args v et ea ev a eq en r k = record {
-            room = λ b. omega (arith, signed-most (finder s sound) (sound .question) (sound .ready) (types-of ts) i h, fresh-most (finder s sound) (sound .question) (sound .ready) i h, table-length s head, x .count, ap (λ j. length (table s j)) found);
-            unfit = λ b won.
-                let o = common (candidate-common (finder s sound) (sound .question) (sound .ready) (types-of ts) (query-of q) neat inside i h won) in
-                k .clash b (reading ts (o .σ) (o .π) (o .τ))
-                (rw places (meaning s ts head short (table-neat s sound i h head found .proper .formed) (neat .proper .formed) (o .σ) (o .π) (o .τ) (o .solves) (o .reads)))
-                (agree s ts head short (table-neat s sound i h head found .proper .formed) (neat .proper .formed) (o .σ) (o .π) (o .τ) (o .solves) (o .reads) a q en most
-                (signature-inside s sound i h head found tr v a et′ ev′ eq) inside (o .same));
+        module _ (ts : Words) (q : Query) (neat : Neat (types-of ts)) (inside : AllIn (length (types-of ts)) ((query-of q) .1)) (most : q .n ≤ 4) (small : length (types-of ts) + n ≤ 248) where
+          short : length (chain s head) ≤ 248
+          short = omega (arith, x .count)
+
+          formed : WellFormed (table s head)
+          formed = table-neat s sound i h head found .proper .formed
+
+          room : length ((signed s (types-of ts) i) .1) ≤ limit·nodes
+          unfolding impl-signature impl-table
+          room = omega (arith, signed-most (finder s sound) (sound .question) (sound .ready) (types-of ts) i h, fresh-most (finder s sound) (sound .question) (sound .ready) i h, table-length s head, x .count, ap (λ j. length (table s j)) found)
+
+          common : (a : Query) → query-of a ≡ (at s (p + 3), cell-types s (at s (p + 5))) → (met s (types-of ts) (query-of q) i) .0 ≡ success → Common (types-of ts) (table s head) ((query-of a) .1) ((query-of q) .1)
+          unfolding impl-signature impl-table impl-args
+          common a ea won =
+              subst (λ (src : Types). Common (types-of ts) src ((query-of a) .1) ((query-of q) .1)) (ap (table s) (sym found))
+              (subst (λ (xs : List Ty). Common (types-of ts) (table s (field s header·impls i impl·table)) xs ((query-of q) .1)) (ap (cell-types s) (sym (o .word 5)) ∙ sym (ap (λ (y : ImplType). y .1) ea))
+              (candidate-common (finder s sound) (sound .question) (sound .ready) (types-of ts) (query-of q) neat inside i h won))
+
+          never-met : (a : Query) → query-of a ≡ (at s (p + 3), cell-types s (at s (p + 5))) → a .n ≡ q .n → Clashing s (take n us) ts a q true → (met s (types-of ts) (query-of q) i) .0 ≢ success
+          never-met a ea en k = λ won.
+              let c = common a ea won in
+              (subst (λ (ps : Words). Clashing s ps ts a q true) places k) .clash refl (reading ts (c .σ) (c .π) (c .τ))
+              (meaning s ts head short formed (neat .proper .formed) (c .σ) (c .π) (c .τ) (c .solves) (c .reads))
+              (agree s ts head short formed (neat .proper .formed) (c .σ) (c .π) (c .τ) (c .solves) (c .reads) a q en most
+              (signature-inside s sound i h head found (at s (p + 3)) (at s (p + 5)) a (o .word 3) (o .word 5) ea) inside (c .same))
+
+          pub clash-found : (r : Bool) → Against s (take n us) ts q p r → Clashes s (types-of ts) (query-of q) i r
+          clash-found r k = record {
+            room = λ e. room;
+            unfit = λ e. let a = k .signature e in never-met (a .0) (a .1) (a .2) (a .3);
           }
-            where
-              short : length (chain s head) ≤ 248
-              short = omega (arith, x .count)
-
-              et′ : tr ≡ field s header·impls i impl·trait
-              et′ = field-found s header·impls i impl·trait first p tr e ep et
-
-              ev′ : v ≡ field s header·impls i impl·args
-              ev′ = ev ∙ field-found s header·impls i impl·args first p args e ep ea
-
-              common : Common (types-of ts) ((impl-signature s i) .0) ((impl-signature s i) .1 .1) ((query-of q) .1) → Common (types-of ts) (table s head) ((query-of a) .1) ((query-of q) .1)
-              common o = subst (λ (src : Types). Common (types-of ts) src ((query-of a) .1) ((query-of q) .1)) (ap (table s) (sym found)) (subst (λ (xs : List Ty). Common (types-of ts) (table s (field s header·impls i impl·table)) xs ((query-of q) .1)) (ap (cell-types s) (sym ev′) ∙ sym (ap (λ (y : ImplType). y .1) eq)) o)

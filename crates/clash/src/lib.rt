@@ -8,6 +8,7 @@ ghost use Prim.Native.Nat.{_+_, _-_, _*_, _/_, _<_, _≤_};
 ghost use lib.ListN.{length};
 ghost use Rattle.rules.specs.Sheet.{at, many};
 ghost use Rattle.rules.specs.Layout.{header·impls};
+ghost use Rattle.rules.specs.Transfer.{cell-types};
 ghost use Rattle.rules.specs.Solutions.{AllIn};
 ghost use Rattle.rules.specs.Neat.{Neat};
 ghost use Rattle.table.specs.Packing.{types-of, Packed};
@@ -18,7 +19,7 @@ ghost use Rattle.clash.specs.Links.{Finds, Links, Settles};
 ghost use Rattle.clash.specs.Meeting.{Puts, Meets};
 ghost use Rattle.clash.specs.Children.{Cells, Gathers};
 ghost use Rattle.clash.specs.Pairs.{Goes, Ends, ArgsMet, Clashing};
-ghost use Rattle.clash.specs.Signatures.{Clashes};
+ghost use Rattle.clash.specs.Signatures.{Against, Room, ImplAt, Clashes};
 use chart::layout;
 use queries::Query;
 use table::Row;
@@ -36,6 +37,9 @@ const PARAM: u32 = 1;
 
 // A row that is not told.
 const UNTOLD: usize = 9;
+
+// The most nodes that a table has, but for eight.
+const ROOM: usize = 248;
 
 // The place of the record of a ref; 0 where there is none.
 fn place_of(places: &[u32], r: u32) -> usize
@@ -429,7 +433,41 @@ fn clash_args(sheet: &[u32], places: &[u32], ws: &[u32], p: Query, q: Query) -> 
     run(sheet, places, ws, &mut links, &mut queue, n)
 }
 
-// Whether candidate i and question q clash. The places of its signature's nodes are written to `places`.
+// Whether the signature of the impl whose record is at p clashes with question q.
+fn clash_at(sheet: &[u32], places: &[u32], ws: &[u32], q: Query, p: usize) -> bool
+    requires { ⌜ Packed (now ws) ⌝ }
+    requires { ⌜ q .n ≤ 4 ⌝ }
+    requires { ⌜ length (cell-types (now sheet) (at (now sheet) (p + 5))) ≤ 4 ⌝ }
+    ensures { λ r. ⌜ Against (now (sheet .entry)) (now (places .entry)) (now (ws .entry)) q p r ⌝ }
+{
+    let tr = words::offset(sheet, p, layout::IMPL_TRAIT);
+    let args = words::offset(sheet, p, layout::IMPL_ARGS);
+    let a = queries::read_query(sheet, tr, words::wide(args));
+    if a.n != q.n {
+        return false;
+    }
+    clash_args(sheet, places, ws, a, q)
+}
+
+// Whether a table has room for eight unknowns and n nodes besides.
+fn has_room(ws: &[u32], n: usize) -> bool
+    ensures { λ r. ⌜ Room (types-of (now (ws .entry))) n r ⌝ }
+{
+    if n > ROOM {
+        return false;
+    }
+    words::wide(table::count(ws)) <= ROOM - n
+}
+
+// The place of the record of impl i.
+fn impl_place(sheet: &[u32], i: usize) -> usize
+    ensures { λ p. ⌜ ImplAt (now (sheet .entry)) i p ⌝ }
+{
+    let head = words::next(sheet, layout::IMPLS);
+    words::place(sheet, head, i)
+}
+
+// Whether candidate i and question q clash. The places of the nodes of its signature's table are written to `places`.
 pub fn clashes(sheet: &[u32], ws: &[u32], places: &mut [u32], q: Query, i: usize) -> bool
     requires { ⌜ Sound (now sheet) ⌝ }
     requires { ⌜ i < many (now sheet) header·impls ⌝ }
@@ -440,17 +478,11 @@ pub fn clashes(sheet: &[u32], ws: &[u32], places: &mut [u32], q: Query, i: usize
     requires { ⌜ q .n ≤ 4 ⌝ }
     ensures { λ r. ⌜ Clashes (now (sheet .entry)) (types-of (now (ws .entry))) (query-of q) i r ⌝ }
 {
-    let p = words::place(sheet, words::next(sheet, layout::IMPLS), i);
+    let p = impl_place(sheet, i);
     let head = words::offset(sheet, p, layout::IMPL_TABLE);
     let n = chart::index_chain(sheet, head, places, 0);
-    if words::wide(table::count(ws)) + n > 248 {
-        return false;
+    if has_room(ws, n) {
+        return clash_at(sheet, &places[..n], ws, q, p);
     }
-    let tr = words::offset(sheet, p, layout::IMPL_TRAIT);
-    let args = words::offset(sheet, p, layout::IMPL_ARGS);
-    let a = queries::read_query(sheet, tr, words::wide(args));
-    if a.n != q.n {
-        return false;
-    }
-    clash_args(sheet, &places[..n], ws, a, q)
+    false
 }

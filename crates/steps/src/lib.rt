@@ -393,6 +393,9 @@ pub fn open_candidate(
     requires { ⌜ i < many (now sheet) header·impls ⌝ }
     ensures { λ r. ⌜ Opens (now (sheet .entry)) (now (ws .entry)) (query-of q) i r (now (ws .exit)) ⌝ }
 {
+    if clash::clashes(sheet, ws, places, q, i) {
+        return no_questions(UNFIT);
+    }
     slots::copy_table_slot(ws, 0, SUB);
     open_part(sheet, &mut ws[SUB..], places, map, q, i)
 }
