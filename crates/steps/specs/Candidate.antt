@@ -1,6 +1,7 @@
 -- What one candidate comes to before its sub-questions are asked, and what the code leaves where it is opened.
 use Prim.Native.Nat.{ℕ, zero, suc, _+_, _-_, _≤_, _<_}
 use mathlib.Core.Path.{_≡_, refl, sym, _∙_, ap, subst}
+use mathlib.Core.Bool.{Bool, true}
 use mathlib.Core.Logic.{_≢_}
 use mathlib.Core.List.{List, [], _∷_, map}
 use mathlib.Core.Option.{some}
@@ -33,6 +34,7 @@ use Rattle.opening.specs.Sound as opening
 use Rattle.opening.specs.Meeting.{Meets}
 use Rattle.opening.specs.Needing.{Asks, Needs, Follows, fresh-there}
 use Rattle.opening.specs.After.{needs-neat, needs-inside}
+use Rattle.clash.specs.Signatures.{Clashes}
 use Rattle.steps.specs.Asking.{Asking, Tail, Opens, asking-table}
 use Rattle.steps.specs.Behind.{back-table, back-opened}
 use Rattle.steps.specs.Beginning.{params-none}
@@ -249,3 +251,13 @@ module _ (ws us : Words) (q : Query) (w : Written ws us 8970 (types-of ws, end))
           counts = x .counts;
         };
       }
+
+-- A candidate that clashes with the question is not opened: nothing changes.
+pub opens-clash : (s ws : Words) (q : Query) (i : ℕ) (r : Bool) (o : Queries) → Clashes s (types-of ws) (query-of q) i r → r ≡ true → o .n ≡ 6 → Opens s ws (query-of q) i o ws
+opens-clash s ws q i r o c e n = record {
+  opened = record { len = refl; at = λ j h. refl };
+  full = λ l. absurd (omega arith);
+  unfit = λ l ask. candidate-failed ask s (types-of ws) (query-of q) i (c .room e) (c .unfit e);
+  asks = λ l k. absurd (k n);
+  tail = λ l k. absurd (k n);
+}

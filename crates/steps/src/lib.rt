@@ -376,6 +376,27 @@ fn open_part(
     }
 }
 
+// The same of a candidate that does not clash with the question: a copy of the table is worked on.
+fn open_copy(
+    sheet: &[u32],
+    ws: &mut [u32],
+    places: &mut [u32],
+    map: &mut [u32],
+    f: Finder,
+    q: Query,
+    i: usize,
+) -> Queries
+    requires { ⌜ Sound (finder-of (now sheet) f) ⌝ }
+    requires { ⌜ Scratch (now sheet) (now places) (now map) ⌝ }
+    requires { ⌜ Asking (now ws) q ⌝ }
+    requires { ⌜ 10764 ≤ length (now ws) ⌝ }
+    requires { ⌜ i < many (now sheet) header·impls ⌝ }
+    ensures { λ r. ⌜ Opens (now (sheet .entry)) (now (ws .entry)) (query-of q) i r (now (ws .exit)) ⌝ }
+{
+    slots::copy_table_slot(ws, 0, SUB);
+    open_part(sheet, &mut ws[SUB..], places, map, q, i)
+}
+
 // Opens a candidate behind slot 4: the table there is that of its sub-questions.
 pub fn open_candidate(
     sheet: &[u32],
@@ -396,8 +417,7 @@ pub fn open_candidate(
     if clash::clashes(sheet, ws, places, q, i) {
         return no_questions(UNFIT);
     }
-    slots::copy_table_slot(ws, 0, SUB);
-    open_part(sheet, &mut ws[SUB..], places, map, q, i)
+    open_copy(sheet, ws, places, map, f, q, i)
 }
 
 // `find_impl_candidates` for a question.

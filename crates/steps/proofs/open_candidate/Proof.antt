@@ -1,24 +1,16 @@
--- `open_candidate`: in the part behind slot 4, with a copy of the table.
-use Rattle.steps.specs.Behind.{sound-sheet, beside-behind}
-use Rattle.steps.specs.Candidate.{behind-asking, opens}
+-- `open_candidate`: a clash, or a copy is opened.
+use Rattle.steps.specs.Asking.{scratch-kept}
+use Rattle.steps.specs.Behind.{sound-sheet}
+use Rattle.steps.specs.Candidate.{opens-clash}
 use borrow.Author.Needs.{needs}
 use Rattle.steps.proofs.open_candidate.Statement.{statement}
 use Rattle.steps.proofs.open_candidate.Tie as tie
 
-copy-table-slot-requires : tie.Need-copy-table-slot-requires
-copy-table-slot-requires c κs = (search needs, (search needs, search (needs, beside-behind)))
+clashes-requires : tie.Need-clashes-requires
+clashes-requires c κs = (search (needs, sound-sheet), (search needs, (search needs, (search needs, (search needs, (search needs, search needs))))))
 
-sub-open-part : tie.Need-sub-open-part
-sub-open-part c = search needs
-
-part-open-part-start : tie.Need-part-open-part-start
-part-open-part-start c = search needs
-
-part-open-part-end : tie.Need-part-open-part-end
-part-open-part-end c = search needs
-
-open-part-requires : tie.Need-open-part-requires
-open-part-requires c κs = (search (needs, sound-sheet), (search needs, (search (needs, behind-asking), search needs)))
+no-questions-requires : tie.Need-no-questions-requires
+no-questions-requires c κs = search needs
 
 same-length : tie.Need-same-length
 same-length c = search needs
@@ -26,22 +18,35 @@ same-length c = search needs
 same-length-2 : tie.Need-same-length-2
 same-length-2 c = search needs
 
+returns : tie.Need-returns
+returns c = search (needs, opens-clash)
+
+open-copy-requires : tie.Need-open-copy-requires
+open-copy-requires c κs = (search needs, (search (needs, scratch-kept), (search needs, (search needs, search needs))))
+
 same-length-3 : tie.Need-same-length-3
 same-length-3 c = search needs
 
-returns : tie.Need-returns
-returns c = search (needs, opens)
+same-length-4 : tie.Need-same-length-4
+same-length-4 c = search needs
+
+same-length-5 : tie.Need-same-length-5
+same-length-5 c = search needs
+
+returns-2 : tie.Need-returns-2
+returns-2 c = search needs
 
 pub open-candidate-spec : {M : Type 1} → statement M
 open-candidate-spec =
     tie.close
     (tie.spec
-    copy-table-slot-requires
-    sub-open-part
-    part-open-part-start
-    part-open-part-end
-    open-part-requires
+    clashes-requires
+    no-questions-requires
     same-length
     same-length-2
+    returns
+    open-copy-requires
     same-length-3
-    returns)
+    same-length-4
+    same-length-5
+    returns-2)
