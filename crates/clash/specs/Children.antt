@@ -1,22 +1,21 @@
 -- The children of a ref, told as a row of refs.
-use Prim.Native.Nat.{ℕ, zero, suc, _+_, _-_, _*_, _/_, _%_, _≤_, _<_}
-use mathlib.Core.Path.{_≡_, refl, sym, _∙_, ap, subst}
-use mathlib.Core.List.{List, [], _∷_, _++_, map, append-assoc, append-nil}
-use mathlib.Core.Logic.{_≢_, ⊎-elim}
+use Prim.Native.Nat.{ℕ, zero, suc, _+_, _-_, _/_, _≤_, _<_}
+use mathlib.Core.Path.{_≡_, refl, sym, _∙_, ap}
+use mathlib.Core.List.{[], _∷_, _++_, map, append-assoc, append-nil}
+use mathlib.Core.Logic.{_≢_}
 use native.Mathlib.Numerals.{add-one}
 use native.Mathlib.Omega.{arith}
-use lib.ListN.{length, getD, set, take, length-set, length-replicate, replicate}
+use lib.ListN.{length, set, take, length-set}
 use lib.Seq.{take-suc-set}
 use Rattle.rules.specs.Lists.{Words}
 use Rattle.rules.specs.Sheet.{at, chain, chain-of}
 use Rattle.rules.specs.Types.{Ty}
-use Rattle.rules.specs.Pigeonholes.{lt-or}
 use Rattle.rules.specs.Transfer.{cell-types, type-of-word}
 use Rattle.rules.specs.Solutions.{Term, con, Sol}
 use Rattle.table.specs.declared.Row.{Row}
 use Rattle.table.specs.Packing.{types-of, kind-at, id-at}
 use Rattle.table.specs.ChildRoots.{ChildRoots}
-use Rattle.clash.specs.Meaning.{means, means-low, row, cell-refs, node-refs, Meaning}
+use Rattle.clash.specs.Meaning.{means, means-low, row, cell-refs, Meaning}
 use Rattle.clash.specs.Refs.{KindOf, record-means}
 
 -- The cells of a chain, where there are at most eight.

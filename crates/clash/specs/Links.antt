@@ -1,6 +1,6 @@
 -- Links between refs that mean the same, and the way along them.
-use Prim.Native.Nat.{ℕ, _+_, _-_, _%_, _≤_, _<_}
-use mathlib.Core.Path.{_≡_, refl, sym, _∙_, ap, subst}
+use Prim.Native.Nat.{ℕ, _+_, _-_, _%_}
+use mathlib.Core.Path.{_≡_, refl, sym, _∙_, ap}
 use mathlib.Core.Logic.{_≢_, ⊎-elim}
 use native.Mathlib.Decide.{ℕ-discrete}
 use native.Mathlib.Omega.{arith}
@@ -11,7 +11,7 @@ use Rattle.rules.specs.Sheet.{at}
 use Rattle.rules.specs.WordLaws.{word-past}
 use Rattle.rules.specs.Pigeonholes.{lt-or}
 use Rattle.rules.specs.Solutions.{Sol}
-use Rattle.clash.specs.Meaning.{means, means-mod, Records}
+use Rattle.clash.specs.Meaning.{means, Records}
 use Rattle.clash.specs.Refs.{Alike}
 
 -- A link that is not 0 is one more than a ref that means the same.

@@ -1,8 +1,8 @@
 -- What refs mean. A ref is a number, read modulo 512: up to 255 a node of the question's table, from 256 on a node of the signature's table by its record, from 504 on a type parameter.
 -- A meaning gives every ref a term, such that both tables are read alike.
 use Prim.Native.Nat.{ℕ, _+_, _%_, _≤_, _<_}
-use mathlib.Core.Path.{_≡_, refl, sym, _∙_, ap}
-use mathlib.Core.List.{List, [], _∷_, map}
+use mathlib.Core.Path.{_≡_, ap}
+use mathlib.Core.List.{[], _∷_, map}
 use mathlib.Core.Logic.{_≢_}
 use native.Mathlib.Omega.{arith}
 use lib.ListN.{length}

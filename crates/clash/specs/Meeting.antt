@@ -1,5 +1,5 @@
 -- Two refs that mean the same are met: their classes are joined, and they are queued where both have a kind; or they clash, so that nothing gives them the same meaning.
-use Prim.Native.Nat.{ℕ, _+_, _-_, _*_, _/_, _%_, _≤_, _<_}
+use Prim.Native.Nat.{ℕ, _+_, _*_, _/_, _%_, _≤_, _<_}
 use mathlib.Core.Path.{_≡_, refl, sym, _∙_, ap, subst}
 use mathlib.Core.Logic.{_≢_, ⊎-elim}
 use native.Mathlib.Nat.{eq-or-lt-of-le}
@@ -10,8 +10,8 @@ use Rattle.rules.specs.Lists.{Words}
 use Rattle.rules.specs.Sheet.{at}
 use Rattle.rules.specs.WordLaws.{word-past}
 use Rattle.rules.specs.Pigeonholes.{lt-or}
-use Rattle.rules.specs.Solutions.{Term, con, Sol}
-use Rattle.clash.specs.Meaning.{means, means-mod, Sort, Meaning}
+use Rattle.rules.specs.Solutions.{con, Sol}
+use Rattle.clash.specs.Meaning.{means, Meaning}
 use Rattle.clash.specs.Refs.{KindOf, IdOf, sort-of, id-any}
 use Rattle.clash.specs.Links.{Linked, Finds, Links, Settles}
 

@@ -1,8 +1,8 @@
 -- Pairs of refs met in turn: the children of two refs, the queue, and the arguments of two questions.
-use Prim.Native.Nat.{ℕ, zero, suc, _+_, _-_, _*_, _/_, _%_, _≤_, _<_}
-use mathlib.Core.Path.{_≡_, refl, sym, _∙_, ap, subst}
+use Prim.Native.Nat.{ℕ, zero, suc, _+_, _/_, _%_, _≤_, _<_}
+use mathlib.Core.Path.{_≡_, refl, sym, _∙_, ap}
 use mathlib.Core.Bool.{Bool, true, false}
-use mathlib.Core.List.{List, [], _∷_}
+use mathlib.Core.List.{[], _∷_}
 use mathlib.Core.Logic.{_≢_}
 use native.Mathlib.Nat.{le-of-suc-le-suc, not-suc-le-zero}
 use native.Mathlib.Omega.{arith}
@@ -10,12 +10,12 @@ use lib.ListN.{length, take, replicate}
 use lib.Seq.{getD-take, length-take-le}
 use Rattle.rules.specs.Lists.{Words}
 use Rattle.rules.specs.Sheet.{at}
-use Rattle.rules.specs.Solutions.{Term, con, nil, cons, Sol, rep}
+use Rattle.rules.specs.Solutions.{con, Sol, rep}
 use Rattle.table.specs.declared.Row.{Row}
 use Rattle.table.specs.Packing.{types-of}
 use Rattle.queries.specs.declared.Query.{Query}
 use Rattle.clash.specs.Meaning.{means, means-mod, row, Meaning}
-use Rattle.clash.specs.Children.{Over, Gathers}
+use Rattle.clash.specs.Children.{Gathers}
 use Rattle.clash.specs.Links.{linked-none}
 use Rattle.clash.specs.Meeting.{Holds, Meets}
 
@@ -67,10 +67,14 @@ module _ (s ps ws ls qs : Words) (e x y : ℕ) (o u : Row) (a : Gathers s ps ws 
   children-clash n = record { at = λ m w h q. absurd (n (same-count m w q)) }
 
   pub children-meet : (ks rs : Words) (r : ℕ) → Goes s ps ws ls qs e (o .n) (o .nodes) (u .nodes) ks rs r → Meets s ps ws ls qs e x y ks rs r
-  children-meet ks rs r g = record { at = λ m w h q. g .at m w h (record { same = λ j l.
-      sym (ap (means m) (getD-take (o .n) (o .nodes) j 0 l))
-      ∙ row-same m _ _ (rows m w q) j (omega (arith, length-take-le (o .n) (o .nodes) (a .long zo)))
-      ∙ ap (means m) (getD-take (u .n) (u .nodes) j 0 (omega (arith, same-count m w q))) }) }
+  children-meet ks rs r g = record {
+    at = λ m w h q. g .at m w h (record {
+      same = λ j l.
+          sym (ap (means m) (getD-take (o .n) (o .nodes) j 0 l))
+          ∙ row-same m _ _ (rows m w q) j (omega (arith, length-take-le (o .n) (o .nodes) (a .long zo)))
+          ∙ ap (means m) (getD-take (u .n) (u .nodes) j 0 (omega (arith, same-count m w q)));
+    });
+  }
 
 -- The queue is worked off.
 pub record Ran (s ps ws ls qs : Words) (e : ℕ) (ks rs : Words) (r : ℕ) : Type 0 where

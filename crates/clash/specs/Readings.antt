@@ -1,5 +1,5 @@
 -- A solution of the question's table and a reading of the signature's give refs a meaning.
-use Prim.Native.Nat.{ℕ, zero, suc, _+_, _-_, _/_, _%_, _≤_, _<_}
+use Prim.Native.Nat.{ℕ, zero, suc, _+_, _-_, _/_, _≤_, _<_}
 use mathlib.Core.Path.{_≡_, refl, sym, _∙_, ap, ap₂, subst}
 use mathlib.Core.Bool.{Bool, true, false}
 use mathlib.Core.List.{List, [], _∷_, map}
@@ -11,14 +11,14 @@ use lib.ListN.{length, getD, take}
 use lib.Seq.{getD-take, length-take-le}
 use borrow.Author.Tests.{eq-eqb, ne-eqb, lt-ltb, le-ltb}
 use Rattle.rules.specs.Lists.{Words}
-use Rattle.rules.specs.Layout.{kind·param, kind·unknown}
+use Rattle.rules.specs.Layout.{kind·param}
 use Rattle.rules.specs.Sheet.{at, chain}
-use Rattle.rules.specs.Types.{Ty, TypeState, unknown, known, Types, state-at}
+use Rattle.rules.specs.Types.{Ty, TypeState, unknown, known, state-at}
 use Rattle.rules.specs.Acyclic.{children}
 use Rattle.rules.specs.AcyclicLaws.{children-at, map-length}
 use Rattle.rules.specs.Transfer.{type-of-word, cell-types, node-state, table}
 use Rattle.rules.specs.RootRank.{child-in}
-use Rattle.rules.specs.Solutions.{Term, con, nil, cons, Sol, terms, rep, Fits, Solves, AllIn, ChildrenIn, WellFormed}
+use Rattle.rules.specs.Solutions.{Term, con, cons, Sol, terms, rep, Fits, Solves, AllIn, ChildrenIn, WellFormed}
 use Rattle.rules.specs.CheckedTables.{table-length, table-state, table-flat}
 use Rattle.rules.specs.CommonTerms.{Suits, Reads}
 use Rattle.table.specs.Packing.{types-of, kind-in, id-in, kind-at, id-at}
@@ -27,7 +27,7 @@ use Rattle.table.specs.ChildRoots.{root-in, root-there, known-in}
 use Rattle.queries.specs.declared.Query.{Query}
 use Rattle.queries.specs.Queries.{four, query-of}
 use Rattle.queries.specs.Few.{map-at}
-use Rattle.clash.specs.Meaning.{means, means-low, row, Sort, node-refs, cell-refs, Nodes, Records, Meaning}
+use Rattle.clash.specs.Meaning.{means, means-low, row, Sort, Meaning}
 use Rattle.clash.specs.Pairs.{Agree}
 
 -- The term of a node by its state.
@@ -164,13 +164,15 @@ module _ (s ws : Words) (h : ℕ) (short : length (chain s h) ≤ 248) (formed :
 
   -- Arguments of the same terms mean the same.
   pub agree : (p q : Query) → p .n ≡ q .n → q .n ≤ 4 → AllIn (length (table s h)) ((query-of p) .1) → AllIn (length (types-of ws)) ((query-of q) .1) → terms τ ((query-of p) .1) ≡ terms σ ((query-of q) .1) → Agree m ws p q
-  agree p q en few a b e = record { same = λ k l.
-      let x = query-word p (omega arith) k (omega arith) in
-      let y = query-word q few k l in
-      let u : at (p .args) k / 2 < length (table s h) = subst (λ n. n < length (table s h)) x (child-in (length (table s h)) ((query-of p) .1) k a (omega (arith, query-length p (omega arith)))) in
-      let v : at (q .args) k / 2 < length (types-of ws) = subst (λ n. n < length (types-of ws)) y (child-in (length (types-of ws)) ((query-of q) .1) k b (omega (arith, query-length q few))) in
-      sym (record-means (at (p .args) k / 2) (omega (arith, u, size)))
-      ∙ ap τ (sym x)
-      ∙ terms-at τ σ ((query-of p) .1) ((query-of q) .1) e k (omega (arith, query-length p (omega arith)))
-      ∙ ap σ y
-      ∙ root-means (at (q .args) k / 2) v }
+  agree p q en few a b e = record {
+    same = λ k l.
+        let x = query-word p (omega arith) k (omega arith) in
+        let y = query-word q few k l in
+        let u : at (p .args) k / 2 < length (table s h) = subst (λ n. n < length (table s h)) x (child-in (length (table s h)) ((query-of p) .1) k a (omega (arith, query-length p (omega arith)))) in
+        let v : at (q .args) k / 2 < length (types-of ws) = subst (λ n. n < length (types-of ws)) y (child-in (length (types-of ws)) ((query-of q) .1) k b (omega (arith, query-length q few))) in
+        sym (record-means (at (p .args) k / 2) (omega (arith, u, size)))
+        ∙ ap τ (sym x)
+        ∙ terms-at τ σ ((query-of p) .1) ((query-of q) .1) e k (omega (arith, query-length p (omega arith)))
+        ∙ ap σ y
+        ∙ root-means (at (q .args) k / 2) v;
+  }

@@ -8,9 +8,9 @@ use Rattle.rules.specs.Lists.{Words}
 use Rattle.rules.specs.Sheet.{at}
 use Rattle.rules.specs.WordLaws.{word-past}
 use Rattle.rules.specs.Pigeonholes.{lt-or}
-use Rattle.rules.specs.Solutions.{Term, con, Sol}
+use Rattle.rules.specs.Solutions.{con, Sol}
 use Rattle.table.specs.Packing.{types-of, kind-at, id-at}
-use Rattle.clash.specs.Meaning.{means, means-low, Sort, Nodes, Records, Meaning, row, cell-refs}
+use Rattle.clash.specs.Meaning.{means, means-low, Sort, Records, Meaning, row, cell-refs}
 
 -- A place that is not 0 is that of a record.
 pub place-in : (ps : Words) (k p : ℕ) → p ≡ at ps k → p ≢ 0 → k < length ps

@@ -10,15 +10,15 @@ use lib.ListN.{length, take}
 use lib.Seq.{length-take-le}
 use Rattle.rules.specs.Lists.{Words}
 use Rattle.rules.specs.Limits.{limit·nodes}
-use Rattle.rules.specs.Layout.{header·impls, impl·table, impl·trait, impl·args}
-use Rattle.rules.specs.Sheet.{at, chain, field, many, impl-table, impl-trait, impl-args}
+use Rattle.rules.specs.Layout.{header·impls, impl·table}
+use Rattle.rules.specs.Sheet.{at, chain, field, many, impl-table, impl-args}
 use Rattle.rules.specs.Types.{Ty, Types, ImplType, success}
 use Rattle.rules.specs.Transfer.{cell-types, table}
 use Rattle.rules.specs.Search.{impl-signature}
 use Rattle.rules.specs.Solutions.{AllIn, WellFormed}
 use Rattle.rules.specs.CheckedTables.{table-length}
 use Rattle.rules.specs.Neat.{Neat}
-use Rattle.rules.specs.SearchKeeps.{fresh-count, signed, met}
+use Rattle.rules.specs.SearchKeeps.{signed, met}
 use Rattle.rules.specs.CommonTerms.{Common, candidate-common, signed-most, fresh-most}
 use Rattle.table.specs.Packing.{types-of}
 use Rattle.chart.specs.Fields.{field-found}

@@ -3,7 +3,6 @@
 // Types are refs, numbers read modulo 512: up to 255 roots of the question's table, from 256 on nodes of the signature's table by their records, from 504 on type parameters.
 // `links` has for each ref 0, or 1 and a ref of the same class; `queue` has pairs of one class whose children are to be met.
 ghost use mathlib.Core.Path.{_≡_};
-ghost use mathlib.Core.Logic.{_≢_};
 ghost use Prim.Native.Nat.{_+_, _-_, _*_, _/_, _<_, _≤_};
 ghost use lib.ListN.{length};
 ghost use Rattle.rules.specs.Sheet.{at, many};
@@ -267,7 +266,7 @@ fn meet_found(
     meet_roots(sheet, places, ws, links, queue, end, x, y)
 }
 
-// Meets two refs.
+// Meets two refs, unless one is linked to the other.
 fn meet(
     sheet: &[u32],
     places: &[u32],
@@ -308,16 +307,7 @@ fn meet_all(
     let mut e = end;
     let mut j: usize = 0;
     while j < xs.n {
-        e = meet(
-            sheet,
-            places,
-            ws,
-            links,
-            queue,
-            e,
-            xs.nodes[j],
-            ys.nodes[j],
-        );
+        e = meet(sheet, places, ws, links, queue, e, xs.nodes[j], ys.nodes[j]);
         if e == CLASH {
             return e;
         }
@@ -374,16 +364,7 @@ fn run(
         }
         let pair = queue[k];
         k += 1;
-        end = meet_children(
-            sheet,
-            places,
-            ws,
-            links,
-            queue,
-            end,
-            pair % 512,
-            pair / 512,
-        );
+        end = meet_children(sheet, places, ws, links, queue, end, pair % 512, pair / 512);
         if end == CLASH {
             return true;
         }

@@ -376,7 +376,7 @@ fn open_part(
     }
 }
 
-// The same of a candidate that does not clash with the question: a copy of the table is worked on.
+// Opens a candidate behind slot 4, in a copy of the table.
 fn open_copy(
     sheet: &[u32],
     ws: &mut [u32],
@@ -397,7 +397,7 @@ fn open_copy(
     open_part(sheet, &mut ws[SUB..], places, map, q, i)
 }
 
-// Opens a candidate behind slot 4: the table there is that of its sub-questions.
+// Opens a candidate behind slot 4: the table there is that of its sub-questions. One that clashes with the question is found unfit before that.
 pub fn open_candidate(
     sheet: &[u32],
     ws: &mut [u32],

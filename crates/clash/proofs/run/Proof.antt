@@ -2,7 +2,6 @@
 use Prim.Native.Nat.{_-_}
 use Rattle.clash.specs.Pairs.{Ran, ran-start, ran-on, ends-clash, ends-not}
 use borrow.Author.Needs.{needs}
-
 use Rattle.clash.proofs.run.Statement.{statement}
 use Rattle.clash.proofs.run.Tie as tie
 
