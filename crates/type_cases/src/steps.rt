@@ -34,7 +34,10 @@ const NODES: u32 = 9;
 // The most types in a row.
 const ROW: usize = 8;
 
-// A closure's kind; its id is that of a record of a sheet, below 4,096.
+// Kinds are below this.
+const KINDS: u32 = 16;
+
+// A closure's kind; its id is that of a record of a sheet, below 4,096, and so is that of a type with children.
 const CLOSURE: u32 = 8;
 
 const IDS: u32 = 4096;
@@ -104,14 +107,20 @@ fn unknown(o: &[u32], ws: &mut [u32]) -> bool
     n == words::word(o, 2)
 }
 
-// A closure's id is that of a record.
-fn id_fits(kind: u32, id: u32) -> bool
-    ensures { λ r. ⌜ IdFits kind id r ⌝ }
+// Whether a kind, and the id of a type with n children, are such as a sheet has: a closure's id, and that of a type with children, is that of a record.
+fn id_fits(kind: u32, id: u32, n: usize) -> bool
+    ensures { λ r. ⌜ IdFits kind id n r ⌝ }
 {
-    if kind == CLOSURE {
-        return id < IDS;
+    if kind >= KINDS {
+        return false;
     }
-    true
+    if id < IDS {
+        return true;
+    }
+    if kind == CLOSURE {
+        return false;
+    }
+    n == 0
 }
 
 // Adds a type of a kind.
@@ -124,12 +133,12 @@ fn known(o: &[u32], ws: &mut [u32]) -> bool
         return false;
     }
     let id = words::word(o, 4);
-    if !id_fits(kind, id) {
-        return false;
-    }
     let m = row(o, 5);
     let cs = words::record(o, 6, m);
     if ROW < cs.len() {
+        return false;
+    }
+    if !id_fits(kind, id, cs.len()) {
         return false;
     }
     let c = table::count(ws);
