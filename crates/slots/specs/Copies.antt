@@ -43,11 +43,11 @@ count-few ws a r p e = omega (arith, e, getD-drop a ws 0 0 ∙ ap (at ws) (let z
 pub table-room : (ws : Words) (a : ℕ) → Packed (drop a ws) → a + 1025 ≤ length ws
 table-room ws a p = omega (arith, length-drop a ws, p .long)
 
-pub clear-table : (a b n : ℕ) → Beside a b → n ≤ 256 → Clear a b (6 * n + 1)
+pub clear-table : (a b n : ℕ) → Beside a b → n ≤ 256 → Clear a b (4 * n + 1)
 clear-table a b n p h = record { either = ⊎-elim (λ q. inl (omega arith)) (λ q. inr (omega arith)) (p .either) }
 
 -- The words of n nodes are the whole table.
-pub tabled : (ws us : Words) (a b n : ℕ) → n ≡ at ws a → n ≤ 256 → Packed (drop a ws) → b + 1282 ≤ length ws → Carries ws ws us a b (6 * n + 1) → Tabled ws us a b
+pub tabled : (ws us : Words) (a b n : ℕ) → n ≡ at ws a → n ≤ 256 → Packed (drop a ws) → b + 1282 ≤ length ws → Carries ws ws us a b (4 * n + 1) → Tabled ws us a b
 tabled ws us a b n e few p room c = record {
   len = c .len;
   table = table-move ws us a b (types-of (drop a ws)) (omega (arith, c .len)) (λ i l m. c .there i (omega arith)) (record { packed = p; is = refl });

@@ -53,7 +53,7 @@ pub types-same : (ws us : Words) → at us 0 ≡ at ws 0 → ((i : ℕ) → i < 
 unfolding types-of
 types-same ws us e h =
     ap (λ n. up-to (node-of us) (min n limit·nodes)) e
-    ∙ up-to-same (node-of us) (node-of ws) (min (at ws 0) limit·nodes) (λ m l. node-same ws us m (λ j p q. h (6 * m + j) (omega arith) (omega arith)))
+    ∙ up-to-same (node-of us) (node-of ws) (min (at ws 0) limit·nodes) (λ m l. node-same ws us m (λ j p q. h (4 * m + j) (omega arith) (omega arith)))
 
 -- A table goes where its words go.
 pub table-move : (ws us : Words) (a b : ℕ) (ts : Types) → b + 1025 ≤ length us → ((i : ℕ) → i < 6 * at ws a + 1 → i < 1025 → at us (b + i) ≡ at ws (a + i)) → Table ws a ts → Table us b ts

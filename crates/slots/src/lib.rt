@@ -67,7 +67,7 @@ fn copy_table(ws: &mut [u32], from: usize, to: usize)
     ensures { λ _. ⌜ Tabled (now (ws .entry)) (now (ws .exit)) from to ⌝ }
 {
     let n = nodes(ws, from);
-    carry(ws, from, to, 6 * n + 1)
+    carry(ws, from, to, 4 * n + 1)
 }
 
 // Copies a table to another slot, without trees.

@@ -91,7 +91,7 @@ module _ (ws us : Words) (r : ℕ) (g : Sound ws) where
   sound-known cs c k d i e b few low p = record {
     packed = p .packed;
     neat = ⊎-elim
-        (λ l. subst Neat (sym (p .room l ∙ ap (λ k′. types-of ws ++ (new-node k′ (known i k d (map type-of-word cs)) ∷ [])) (p .number))) (pushed-neat (types-of ws) (known i k d (map type-of-word cs)) (g .neat) (there ws cs c e b) (subst (SlimKnown k d) (sym (mapped cs)) (record { few = few; low = low .0; closure = low .1 .0; small = low .1 .1 }))))
+        (λ l. subst Neat (sym (p .room l ∙ ap (λ k′. types-of ws ++ (new-node k′ (known i k d (map type-of-word cs)) ∷ [])) (p .number))) (pushed-neat (types-of ws) (known i k d (map type-of-word cs)) (g .neat) (there ws cs c e b) (subst (SlimKnown k d) (sym (mapped cs)) (record { few = few; low = low .0; closure = low .1; small = low .2 }))))
         (λ l. subst (λ (xs : Words). Neat (types-of xs)) (sym (p .full l)) (g .neat)) (lt-or r 256);
   }
     where

@@ -6,8 +6,10 @@ use mathlib.Core.List.{List, map}
 use mathlib.Core.Logic.{_≢_, ⊎-elim}
 use native.Mathlib.Nat.{not-suc-le-zero, eq-or-lt-of-le}
 use native.Mathlib.Omega.{arith}
+use lib.Dec.{eqb}
 use lib.ListN.{length, take}
 use lib.Seq.{length-take-le}
+use borrow.Author.Tests.{eqb-true}
 use Rattle.rules.specs.Lists.{Words}
 use Rattle.rules.specs.Sheet.{at}
 use Rattle.rules.specs.Types.{known, unify-impl-type}
@@ -61,15 +63,15 @@ id-not k d n = record { at = λ e. absurd (true≢false (sym e)) }
 pub id-low : (k d n : ℕ) → k < 16 → d < 4096 → IdFits k d n true
 id-low k d n h l = record { at = λ e. (h, λ p. l, λ p. l) }
 
-pub id-free : (k d n : ℕ) (b : Bool) → k < 16 → k ≢ 8 → (b ≡ true → n ≡ 0) → IdFits k d n b
-id-free k d n b h z t = record { at = λ e. (h, λ p. absurd (z p), λ p. absurd (omega (arith, t e))) }
+pub id-free : (k d n : ℕ) → k < 16 → k ≢ 8 → IdFits k d n (eqb n 0)
+id-free k d n h z = record { at = λ e. (h, λ p. absurd (z p), λ p. absurd (omega (arith, eqb-true n 0 e))) }
 
 module _ (k d n : ℕ) (b : Bool) (t : IdFits k d n b) (z : not b ≡ false) where
   pub fits-kind : k < 16
   fits-kind = t .at (passed b z) .0
 
   pub fits-id : Above d n
-  fits-id = record { small = t .at (passed b z) .1 .1 }
+  fits-id = record { small = t .at (passed b z) .2 }
 
 -- A type that passed the test is a node of its table, whose count c is.
 pub node-there : (ws : Words) (c t : ℕ) → c ≡ length (types-of ws) → t / 2 < c → t / 2 < length (types-of ws)

@@ -200,7 +200,7 @@ transfer-known-slice-aggregate-fill : (t : ℕ) → transfer-known-lts.Need-slic
 transfer-known-slice-aggregate-fill t c = children-count _ _ _ _ _ _ _ _ _ _ (c .before .before .before .before .before .before .before .before .transfer-each .ensures) _ (c .before .before .before .before .before .before .before .before .before .before .before .before .before .before .before .before .before .before .before .before .pre .1 .0) (c .before .before .before .before .before .before .before .before .before .before .before .before .before .read-children .ensures)
 
 transfer-known-fill-requires : (t : ℕ) → transfer-known-lts.Need-fill-requires (transfer-known-calls t) (transfer-known-at t) transfer-known.Post
-transfer-known-fill-requires t c κs = (search needs, (search (needs, children-own, c .before .before .before .before .before .before .before .before .before .before .before .before .before .before .before .before .before .before .before .before), (search (needs, c .before .before .before .before .before .before .before .before .before .before .before .before .before .before .before .before .before .before .before .before), (search (needs, children-alike), search (needs, children-small)))))
+transfer-known-fill-requires t c κs = (search needs, (search (needs, children-own, c .before .before .before .before .before .before .before .before .before .before .before .before .before .before .before .before .before .before .before .before), (search (needs, c .before .before .before .before .before .before .before .before .before .before .before .before .before .before .before .before .before .before .before .before), (children-alike _ _ _ _ _ _ _ _ _ _ (c .before .before .before .before .before .before .before .before .transfer-each .ensures) _ (c .before .before .before .before .before .before .before .before .before .before .before .before .before .before .before .before .before .before .before .before .pre .1 .0) (c .before .before .before .before .before .before .before .before .before .before .before .before .before .read-children .ensures), search (needs, children-small)))))
 
 transfer-known-same-length : (t : ℕ) → transfer-known-lts.Need-same-length (transfer-known-calls t) (transfer-known-at t) transfer-known.Post
 transfer-known-same-length t c = search needs
