@@ -30,7 +30,7 @@ impl Default for Options {
   fn default() -> Self {
     Options {
       limit: rust::STEPS_LIMIT,
-      work: 1_048_576,
+      work: 724_330,
       limits: false,
       model: false,
       tell_most: false,

@@ -13,7 +13,7 @@ use Rattle.rules.specs.Acyclic.{children}
 use Rattle.rules.specs.AcyclicLaws.{children-at}
 use Rattle.rules.specs.Pigeonholes.{lt-or}
 use Rattle.rules.specs.Answer.{head-or-zero, pack-cells, pack-nodes}
-use Rattle.table.specs.Packing.{types-of, node-of, node-from, state-of, eight, head·arity, head·inverted, kind-in, inverted-in, id-in, kind-at, inverted-at, id-at}
+use Rattle.table.specs.Packing.{types-of, node-of, node-from, state-of, id-from, eight, head·kind, head·arity, head·inverted, kind-in, inverted-in, id-in, kind-at, inverted-at, id-at}
 use Rattle.table.specs.Nodes.{node-in, node-past, types-few}
 use Rattle.answer.specs.Writing.{Wrote, Left, link-of, link-head, wrote-then, wrote-as, left-start, left-more, left-done, left-as}
 use Rattle.answer.specs.Cells.{cells-length, drop-one, drop-all}
@@ -61,7 +61,7 @@ unfolding children-at state-at node-of node-from new-node children
 few-children ws n = ⊎-elim here past (lt-or n (length (types-of ws)))
   where
     here : n < length (types-of ws) → length (children ((node-at (types-of ws) n) .state)) ≤ 8
-    here h = rw (node-in ws n h) (few-state (at ws (6 * n + 2)) (head·inverted (at ws (6 * n + 1))) (at ws (6 * n + 3)) (head·arity (at ws (6 * n + 1))) (at ws (6 * n + 4)) (at ws (6 * n + 5)) (at ws (6 * n + 6)))
+    here h = rw (node-in ws n h) (few-state (head·kind (at ws (4 * n + 1))) (head·inverted (at ws (4 * n + 1))) (id-from (head·arity (at ws (4 * n + 1))) (at ws (4 * n + 4))) (head·arity (at ws (4 * n + 1))) (at ws (4 * n + 2)) (at ws (4 * n + 3)) (at ws (4 * n + 4)))
 
     past : length (types-of ws) ≤ n → length (children ((node-at (types-of ws) n) .state)) ≤ 8
     past h = rw (node-past (types-of ws) n h) (omega arith)

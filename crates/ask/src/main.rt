@@ -158,6 +158,6 @@ fn serve(ws: &mut [u32]) {
 }
 
 fn main() {
-    let mut ws = [0u32; 1048576];
+    let mut ws = [0u32; 724330];
     serve(&mut ws);
 }

@@ -84,19 +84,19 @@ loaded-packed q ts b = b .packed
 pub exported : (q ts us : Words) (p r : Query) → Becomes ts (question-types q) → Reads (impl-query q) p → Exports (types-of ts) (query-of p) us r → Exports (question-types q) (impl-query q) us r
 exported q ts us p r b e x = subst (λ (i : ImplType). Exports (question-types q) i us r) (e .is) (subst (λ (t : Types). Exports t (query-of p) us r) (b .is) x)
 
-pub front-copied : (ws found us : Words) → 3588 ≤ length ws → 3588 ≤ length found → us ≡ copied 3588 ws found → Front ws us
-front-copied ws found us h k e = record { long = omega (arith, ap (λ (l : Words). length l) e, copied-length 3588 ws found); same = λ i l. ap (λ (w : Words). at w i) e ∙ copied-at 3588 i ws found l (omega arith) (omega arith) }
+pub front-copied : (ws found us : Words) → 2564 ≤ length ws → 2564 ≤ length found → us ≡ copied 2564 ws found → Front ws us
+front-copied ws found us h k e = record { long = omega (arith, ap (λ (l : Words). length l) e, copied-length 2564 ws found); same = λ i l. ap (λ (w : Words). at w i) e ∙ copied-at 2564 i ws found l (omega arith) (omega arith) }
 
 pub ended : (s q ts : Words) (p asked : Query) (searched : Asked) (vs ws buf out : Words) (r : ℕ) → Becomes ts (question-types q) → Reads (impl-query q) p → Front vs ws → EndsImpl s (types-of ts) (query-of p) (query-of asked) searched ws buf out r → EndsImpl s (question-types q) (impl-query q) (query-of asked) searched vs buf out r
 ended s q ts p asked searched vs ws buf out r b e f x = ends-front s (question-types q) (impl-query q) (query-of asked) searched vs ws buf out r f (subst (λ (i : ImplType). EndsImpl s (question-types q) i (query-of asked) searched ws buf out r) (e .is) (subst (λ (t : Types). EndsImpl s t (query-of p) (query-of asked) searched ws buf out r) (b .is) x))
 
-pub new-table : 1537 ≤ length (replicate {A = ℕ} 1537 0)
+pub new-table : 1025 ≤ length (replicate {A = ℕ} 1025 0)
 new-table = omega arith
 
 pub new-map : 256 ≤ length (replicate {A = ℕ} 256 0)
 new-map = omega arith
 
-pub new-front : 3588 ≤ length (replicate {A = ℕ} 3588 0)
+pub new-front : 2564 ≤ length (replicate {A = ℕ} 2564 0)
 new-front = omega arith
 
 -- What is asked stands in slot 0.
@@ -135,7 +135,7 @@ module _ (s sets q : Words) (f : Finder) (basic count : ℕ) (h : Impls s sets q
   ask-one = searched-one _ searched vs (types-of us) asked answers
       (λ rs e. subst (λ (ts : Types). AllKept ts rs) (ap (λ (y : ImplType × Types). y .1) (x .is)) (impl-kept (finder-of s f) basic q (h .sheet-short) (h .passed) (ltb (f .limit)) (eqb basic 1) count rs _ (λ i. (e i, (within (ltb (f .limit)) (impl-search (finder-of s f) (eqb basic 1) q) count) .1)))) (x .asks)
 
-  pub ask-ends : (buf out : Words) (r c : ℕ) → 1013610 ≤ length vs → EndsImpl s (question-types q) (impl-query q) (query-of asked) searched vs buf out r → c ≡ count-of searched → Ends (impl-within (ltb (f .limit)) (finder-of s f) (eqb basic 1) q count) buf out (record { number = r; count = c })
+  pub ask-ends : (buf out : Words) (r c : ℕ) → 724330 ≤ length vs → EndsImpl s (question-types q) (impl-query q) (query-of asked) searched vs buf out r → c ≡ count-of searched → Ends (impl-within (ltb (f .limit)) (finder-of s f) (eqb basic 1) q count) buf out (record { number = r; count = c })
   unfolding impl-within
   ask-ends buf out r c long e k = record {
     closed = ends-call s q (question-types q) (impl-query q) (query-of asked) searched vs buf out r e refl refl (ap (λ (y : ImplType × Types). y .0) (sym (x .is))) vs _ (front-self vs (omega arith)) answers

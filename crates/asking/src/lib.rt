@@ -18,12 +18,12 @@ use slots::Asked;
 use steps::Finder;
 
 // The words of a type table, and of a mapping of its nodes.
-const TABLE: usize = 1537;
+const TABLE: usize = 1025;
 
 const NODES: usize = 256;
 
 // The words of slots 0 and 1.
-const FRONT: usize = 3588;
+const FRONT: usize = 2564;
 
 // How deep a search goes.
 const DEPTH: usize = 16;
@@ -31,7 +31,7 @@ const DEPTH: usize = 16;
 // What is asked: the question's query, exported to a table of its own.
 fn export_asked(question: &[u32], ws: &mut [u32]) -> Query
     requires { ⌜ Questions (now question) ⌝ }
-    requires { ⌜ 1537 ≤ length (now ws) ⌝ }
+    requires { ⌜ 1025 ≤ length (now ws) ⌝ }
     ensures { λ r. ⌜ Exports (question-types (now (question .entry))) (impl-query (now (question .entry))) (now (ws .exit)) r ⌝ }
 {
     let mut table = [0u32; TABLE];
@@ -43,8 +43,8 @@ fn export_asked(question: &[u32], ws: &mut [u32]) -> Query
 
 // The front of a slice: slots 0 and 1.
 fn keep_front(ws: &[u32], found: &mut [u32])
-    requires { ⌜ 3588 ≤ length (now ws) ⌝ }
-    requires { ⌜ 3588 ≤ length (now found) ⌝ }
+    requires { ⌜ 2564 ≤ length (now ws) ⌝ }
+    requires { ⌜ 2564 ≤ length (now found) ⌝ }
     ensures { λ _. ⌜ Front (now (ws .entry)) (now (found .exit)) ⌝ }
 {
     words::copy(ws, found, FRONT)
@@ -61,7 +61,7 @@ fn end_asked(
 ) -> u32
     requires { ⌜ Questions (now question) ⌝ }
     requires { ⌜ IfFound searched asked (now ws) ⌝ }
-    requires { ⌜ 3588 ≤ length (now ws) ⌝ }
+    requires { ⌜ 2564 ≤ length (now ws) ⌝ }
     requires { ⌜ limit·answer ≤ length (now answer) ⌝ }
     ensures { λ r. ⌜ EndsImpl (now (sheet .entry)) (question-types (now (question .entry))) (impl-query (now (question .entry))) (query-of asked) searched (now (ws .entry)) (now (answer .entry)) (now (answer .exit)) r ⌝ }
 {
@@ -106,7 +106,7 @@ pub fn ask_impl(
     count: u32,
 ) -> Ended
     requires { ⌜ Impls (now sheet) (now sets) (now question) f basic ⌝ }
-    requires { ⌜ 1013610 ≤ length (now ws) ⌝ }
+    requires { ⌜ 724330 ≤ length (now ws) ⌝ }
     requires { ⌜ limit·answer ≤ length (now answer) ⌝ }
     requires { ⌜ count ≤ 1000000 ⌝ }
     ensures { λ r. ⌜ Ends (impl-within (ltb (f .limit)) (finder-of (now (sheet .entry)) f) (eqb basic 1) (now (question .entry)) count) (now (answer .entry)) (now (answer .exit)) r ⌝ }

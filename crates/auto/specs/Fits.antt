@@ -37,7 +37,7 @@ one-fits s h b k (known inv kd id cs) hk hw hi = go (eqb kd kind·default || (eq
 
     go : (x y : Bool) → (eqb kd kind·closure && not inv && eqb ((field s header·closures id closure·flex / b) % 2) 1) ≡ y → Fitting (elim x as (λ a. List Trees) [ true ↦ map (leaf tree·def) (optional-list (at s h)) | false ↦ elim y as (λ a. List Trees) [ true ↦ leaf k id ∷ [] | false ↦ [] ] ])
     go true y e = set-fits (at s h) hw
-    go false true e = (hk, hi .1 (closure (eqb kd kind·closure) (eqb ((field s header·closures id closure·flex / b) % 2) 1) refl e), tt)
+    go false true e = (hk, hi .closure (closure (eqb kd kind·closure) (eqb ((field s header·closures id closure·flex / b) % 2) 1) refl e), tt)
     go false false e = tt
 
 all-fit : (s : Words) (ts : Types) (q : ImplType) → at s header·duplicate ≤ 4096 → at s header·erase ≤ 4096 → Slim ts → Fitting (find-auto-impls s ts q)

@@ -122,6 +122,6 @@ fn run_all(ws: &mut [u32]) {
 
 // The workspace is the one that document 01 asks for.
 fn main() {
-    let mut ws = [0u32; 1048576];
+    let mut ws = [0u32; 724330];
     run_all(&mut ws);
 }

@@ -26,22 +26,22 @@ use Rattle.closing.specs.Impl.{Closed, impl-closing, ClosesImpl, asks-on
 
 -- The words of slots 0 and 1 stand in another slice too.
 pub record Front (vs found : Words) : Type 0 where
-  pub long : 3588 ≤ length found
-  pub same : (i : ℕ) → i < 3588 → at found i ≡ at vs i
+  pub long : 2564 ≤ length found
+  pub same : (i : ℕ) → i < 2564 → at found i ≡ at vs i
 
-pub front-self : (vs : Words) → 3588 ≤ length vs → Front vs vs
+pub front-self : (vs : Words) → 2564 ≤ length vs → Front vs vs
 front-self vs h = record { long = h; same = λ i l. refl }
 
 front-then : (us vs ws : Words) → Front us vs → Front vs ws → Front us ws
 front-then us vs ws p q = record { long = q .long; same = λ i l. q .same i l ∙ p .same i l }
 
-front-slot : (vs found : Words) (r : Result) → Front vs found → Slot vs 1794 r → Slot found 1794 r
-front-slot vs found r f s = slot-move vs found 1794 1794 r (omega (arith, f .long)) (λ i l. f .same (1794 + i) (omega arith)) s
+front-slot : (vs found : Words) (r : Result) → Front vs found → Slot vs 1282 r → Slot found 1282 r
+front-slot vs found r f s = slot-move vs found 1282 1282 r (omega (arith, f .long)) (λ i l. f .same (1282 + i) (omega arith)) s
 
 -- One result in slot 1, with what was asked over its types.
 pub record OneStands (asked : Query) (found : Words) : Type 0 where
-  pub filled : Filled found 1794
-  pub asks : Asks (types-of (drop 1794 found)) asked
+  pub filled : Filled found 1282
+  pub asks : Asks (types-of (drop 1282 found)) asked
 
 -- Where there is one.
 pub record IfOne (n : ℕ) (asked : Query) (found : Words) : Type 0 where
@@ -66,7 +66,7 @@ impl-ends s q (got (r ∷ [])) = refl
 
 -- n results stand in the slots from 1 on; found has the first of them.
 pub record EndsResults (s : Words) (ts : Types) (query sub : ImplType) (n : ℕ) (found buf out : Words) (r : ℕ) : Type 0 where
-  pub ends : (vs : Words) (rs : List Result) → Front vs found → length rs ≡ n → Slots vs 1794 rs → Closed (impl-ending s ts query sub (got rs)) buf out r
+  pub ends : (vs : Words) (rs : List Result) → Front vs found → length rs ≡ n → Slots vs 1282 rs → Closed (impl-ending s ts query sub (got rs)) buf out r
 
 -- The search came to o, which is no refusal with the number 0.
 pub record EndsImpl (s : Words) (ts : Types) (query sub : ImplType) (searched : Asked) (found buf out : Words) (r : ℕ) : Type 0 where
@@ -98,19 +98,19 @@ module _ (s : Words) (ts : Types) (query sub : ImplType) (n : ℕ) (found buf : 
       one (r ∷ []) l = absurd (y (sym l))
       one (r ∷ (r′ ∷ rs)) l = refused-closed (refused 21) buf 21 (λ x. omega arith) refl
 
-  pub results-one : (out : Words) (r : ℕ) → n ≡ 1 → ClosesImpl s ts query sub found 1794 buf out r → EndsResults s ts query sub n found buf out r
+  pub results-one : (out : Words) (r : ℕ) → n ≡ 1 → ClosesImpl s ts query sub found 1282 buf out r → EndsResults s ts query sub n found buf out r
   unfolding impl-ending
   results-one out r z c = record { ends = one }
     where
-      one : (vs : Words) (rs : List Result) → Front vs found → length rs ≡ n → Slots vs 1794 rs → Closed (impl-ending s ts query sub (got rs)) buf out r
+      one : (vs : Words) (rs : List Result) → Front vs found → length rs ≡ n → Slots vs 1282 rs → Closed (impl-ending s ts query sub (got rs)) buf out r
       one vs [] f l h = absurd (omega arith)
-      one vs (x ∷ []) f l h = c .closes x (front-slot vs found x f (subst (λ i. Slot vs i x) (let e : 1794 + 1794 * 0 ≡ 1794 = omega arith in e) (h .at 0 (omega arith))))
+      one vs (x ∷ []) f l h = c .closes x (front-slot vs found x f (subst (λ i. Slot vs i x) (let e : 1282 + 1282 * 0 ≡ 1282 = omega arith in e) (h .at 0 (omega arith))))
       one vs (x ∷ (y ∷ rs)) f l h = absurd (omega arith)
 
-pub one-filled : (n : ℕ) (asked : Query) (found : Words) → IfOne n asked found → n ≡ 1 → Filled found 1794
+pub one-filled : (n : ℕ) (asked : Query) (found : Words) → IfOne n asked found → n ≡ 1 → Filled found 1282
 one-filled n asked found i e = i .one e .filled
 
-pub one-asks : (n : ℕ) (asked : Query) (found : Words) → IfOne n asked found → n ≡ 1 → Asks (types-of (drop 1794 found)) asked
+pub one-asks : (n : ℕ) (asked : Query) (found : Words) → IfOne n asked found → n ≡ 1 → Asks (types-of (drop 1282 found)) asked
 one-asks n asked found i e = i .one e .asks
 
 module _ (s : Words) (ts : Types) (query sub : ImplType) (searched : Asked) (found buf : Words) where
@@ -128,13 +128,13 @@ found-if searched asked found c n i e = record { one = λ h. i .one c (e ∙ ap 
 pub searched-one : (o : Out (List Result) × ℕ) (searched : Asked) (found : Words) (ts : Types) (asked : Query) → Answers o searched found → ((rs : List Result) → o .0 ≡ got rs → AllKept ts rs) → Asks ts asked → IfFound searched asked found
 searched-one o searched found ts asked a k h = record { one = λ c e. let g = a .found c 1 e in go (g .results) (g .size) (g .stand) (k (g .results) (ap (λ (x : Out (List Result) × ℕ). x .0) (g .is))) }
   where
-    go : (rs : List Result) → length rs ≡ 1 → Slots found 1794 rs → AllKept ts rs → OneStands asked found
+    go : (rs : List Result) → length rs ≡ 1 → Slots found 1282 rs → AllKept ts rs → OneStands asked found
     go [] l s j = absurd (omega arith)
     go (r ∷ rs) l s j =
-        let t : Slot found 1794 r = subst (λ i. Slot found i r) (let e : 1794 + 1794 * 0 ≡ 1794 = omega arith in e) (s .at 0 (omega arith)) in
+        let t : Slot found 1282 r = subst (λ i. Slot found i r) (let e : 1282 + 1282 * 0 ≡ 1282 = omega arith in e) (s .at 0 (omega arith)) in
         record {
           filled = record { result = r; slot = t };
-          asks = asks-on ts (types-of (drop 1794 found)) asked (subst Neat (sym (t .table .is)) (j .0 .neat)) (subst (λ (us : Types). length ts ≤ length us) (sym (t .table .is)) (j .0 .grown)) h;
+          asks = asks-on ts (types-of (drop 1282 found)) asked (subst Neat (sym (t .table .is)) (j .0 .neat)) (subst (λ (us : Types). length ts ≤ length us) (sym (t .table .is)) (j .0 .grown)) h;
         }
 
 -- What stands in the front of one slice stands in that of the other.

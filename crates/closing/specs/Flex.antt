@@ -217,13 +217,13 @@ pub record TreesOf (has : Bool) (found : Words) (a : ℕ) (us : Words) : Type 0 
   pub holds : (fs : List Result) → First has found a fs → Holds us 0 (first-tree fs)
 
 module _ (has : Bool) (found : Words) (a : ℕ) (h : has ≡ true) (k : FilledIf has found a) where
-  pub trees-room : a + 1537 + 257 ≤ length found
+  pub trees-room : a + 1025 + 257 ≤ length found
   trees-room = omega (arith, k .filled h .slot .room)
 
-  pub trees-most : at found (a + 1537) ≤ 256
+  pub trees-most : at found (a + 1025) ≤ 256
   trees-most = omega (arith, k .filled h .slot .trees .count, k .filled h .slot .trees .few)
 
-  pub trees-copied : (ws us : Words) → 257 ≤ length ws → Copies found ws us (a + 1537) 0 → TreesOf has found a us
+  pub trees-copied : (ws us : Words) → 257 ≤ length ws → Copies found ws us (a + 1025) 0 → TreesOf has found a us
   unfolding first-tree
   trees-copied ws us room c =
       let d = c .trees (k .filled h .result .1) (k .filled h .slot .trees) in

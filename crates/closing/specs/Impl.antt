@@ -140,10 +140,10 @@ module _ (found : Words) (a : ℕ) (asked : Query) (k : Asks (types-of (drop a f
           is r h = rw (le-ltb limit·nodes _ (few r h), impl-closing) (ap₂ (λ (x : ℕ) (y : Types). got (answer (r .1) end false false x y)) (sym (em ∙ ec)) (ap (λ (o : List Ty × Types). (unify-impl-type s (o .1) (query-of query) (asked .tr, o .0)) .1) (comes r h)))
 
 -- What `write_impl` needs of the slot, and what it writes.
-pub slot-trees : (found : Words) (a b : ℕ) → Filled found a → b ≡ a + 1537 → b + 257 ≤ length found
+pub slot-trees : (found : Words) (a b : ℕ) → Filled found a → b ≡ a + 1025 → b + 257 ≤ length found
 slot-trees found a b f e = omega (arith, f .slot .room)
 
-pub slot-few : (found : Words) (a b : ℕ) → Filled found a → b ≡ a + 1537 → at found b ≤ 256
+pub slot-few : (found : Words) (a b : ℕ) → Filled found a → b ≡ a + 1025 → at found b ≤ 256
 slot-few found a b f e = omega (arith, ap (at found) e, f .slot .trees .count, f .slot .trees .few)
 
 pub slot-in : (found : Words) (a : ℕ) → Filled found a → a ≤ length found
@@ -154,7 +154,7 @@ pub no-trees : Holds (replicate 257 0) 0 end
 unfolding tree-size Fit
 no-trees = record { count = refl; few = omega arith; lies = record { there = λ i l. absurd (omega arith); fit = tt } }
 
-pub writes-impl : (found : Words) (a : ℕ) (ts : Types) (n : ℕ) (buf out : Words) → Writes found (a + 1537) (replicate 257 0) 0 false false ts n buf out → WritesImpl found a ts n buf out
+pub writes-impl : (found : Words) (a : ℕ) (ts : Types) (n : ℕ) (buf out : Words) → Writes found (a + 1025) (replicate 257 0) 0 false false ts n buf out → WritesImpl found a ts n buf out
 writes-impl found a ts n buf out w = record { writes = λ r h. w .at (r .1) end (h .trees) no-trees }
 
 -- After the closing join.

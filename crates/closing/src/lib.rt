@@ -92,7 +92,7 @@ fn fill_row(row: &mut [u32], n: usize)
 fn export_nodes(table: &[u32], n: usize, out: &mut [u32], map: &mut [u32], row: &mut [u32])
     requires { ⌜ Neat (types-of (now table)) ⌝ }
     requires { ⌜ n ≤ length (types-of (now table)) ⌝ }
-    requires { ⌜ 1537 ≤ length (now out) ⌝ }
+    requires { ⌜ 1025 ≤ length (now out) ⌝ }
     requires { ⌜ 256 ≤ length (now map) ⌝ }
     requires { ⌜ n ≤ length (now row) ⌝ }
     ensures { λ _. ⌜ Exported (types-of (now (table .entry))) n (now (out .exit)) (now (row .exit)) ⌝ }
@@ -121,7 +121,7 @@ fn write_closing(
     requires { ⌜ at (now drop) b ≤ limit·tree-nodes ⌝ }
     requires { ⌜ Neat (types-of (now table)) ⌝ }
     requires { ⌜ n ≤ length (types-of (now table)) ⌝ }
-    requires { ⌜ 1537 ≤ length (now out) ⌝ }
+    requires { ⌜ 1025 ≤ length (now out) ⌝ }
     requires { ⌜ 256 ≤ length (now map) ⌝ }
     requires { ⌜ limit·answer ≤ length (now answer) ⌝ }
     ensures { λ _. ⌜ Writes (now (fork .entry)) a (now (drop .entry)) b inverted «self_inverse» (types-of (now (table .entry))) n (now (answer .entry)) (now (answer .exit)) ⌝ }
@@ -167,7 +167,7 @@ fn write_impl(
     requires { ⌜ Filled (now found) a ⌝ }
     requires { ⌜ Neat (types-of (now table)) ⌝ }
     requires { ⌜ n ≤ length (types-of (now table)) ⌝ }
-    requires { ⌜ 1537 ≤ length (now out) ⌝ }
+    requires { ⌜ 1025 ≤ length (now out) ⌝ }
     requires { ⌜ 256 ≤ length (now map) ⌝ }
     requires { ⌜ limit·answer ≤ length (now answer) ⌝ }
     ensures { λ _. ⌜ WritesImpl (now (found .entry)) a (types-of (now (table .entry))) n (now (answer .entry)) (now (answer .exit)) ⌝ }
@@ -208,7 +208,7 @@ fn finish_impl(
     requires { ⌜ Nodes (types-of (now table)) (now ys) ⌝ }
     requires { ⌜ Filled (now found) a ⌝ }
     requires { ⌜ n ≤ length (types-of (now table)) ⌝ }
-    requires { ⌜ 1537 ≤ length (now out) ⌝ }
+    requires { ⌜ 1025 ≤ length (now out) ⌝ }
     requires { ⌜ 256 ≤ length (now map) ⌝ }
     requires { ⌜ limit·answer ≤ length (now answer) ⌝ }
     ensures { λ _. ⌜ WritesImpl (now (found .entry)) a ((impl-type-unified (now (sheet .entry)) (types-of (now (table .entry))) (query-of query) (tr, map-list type-of-word (now (ys .entry)))) .1) n (now (answer .entry)) (now (answer .exit)) ⌝ }
@@ -234,7 +234,7 @@ pub fn close_impl(
     requires { ⌜ Asks (types-of (now table)) query ⌝ }
     requires { ⌜ Filled (now found) a ⌝ }
     requires { ⌜ Asks (types-of (drop a (now found))) asked ⌝ }
-    requires { ⌜ 1537 ≤ length (now out) ⌝ }
+    requires { ⌜ 1025 ≤ length (now out) ⌝ }
     requires { ⌜ 256 ≤ length (now map) ⌝ }
     requires { ⌜ limit·answer ≤ length (now answer) ⌝ }
     ensures { λ r. ⌜ ClosesImpl (now (sheet .entry)) (types-of (now (table .entry))) (query-of query) (query-of asked) (now (found .entry)) a (now (answer .entry)) (now (answer .exit)) r ⌝ }
@@ -278,7 +278,7 @@ fn end_results(
     requires { ⌜ Packed (now table) ⌝ }
     requires { ⌜ Asks (types-of (now table)) query ⌝ }
     requires { ⌜ IfOne n asked (now found) ⌝ }
-    requires { ⌜ 1537 ≤ length (now out) ⌝ }
+    requires { ⌜ 1025 ≤ length (now out) ⌝ }
     requires { ⌜ 256 ≤ length (now map) ⌝ }
     requires { ⌜ limit·answer ≤ length (now answer) ⌝ }
     ensures { λ r. ⌜ EndsResults (now (sheet .entry)) (types-of (now (table .entry))) (query-of query) (query-of asked) n (now (found .entry)) (now (answer .entry)) (now (answer .exit)) r ⌝ }
@@ -317,7 +317,7 @@ pub fn end_impl(
     requires { ⌜ Packed (now table) ⌝ }
     requires { ⌜ Asks (types-of (now table)) query ⌝ }
     requires { ⌜ IfFound searched asked (now found) ⌝ }
-    requires { ⌜ 1537 ≤ length (now out) ⌝ }
+    requires { ⌜ 1025 ≤ length (now out) ⌝ }
     requires { ⌜ 256 ≤ length (now map) ⌝ }
     requires { ⌜ limit·answer ≤ length (now answer) ⌝ }
     ensures { λ r. ⌜ EndsImpl (now (sheet .entry)) (types-of (now (table .entry))) (query-of query) (query-of asked) searched (now (found .entry)) (now (answer .entry)) (now (answer .exit)) r ⌝ }
@@ -427,7 +427,7 @@ fn write_flex(
     requires { ⌜ FilledIf d (now drop) b ⌝ }
     requires { ⌜ Neat (types-of (now table)) ⌝ }
     requires { ⌜ n ≤ length (types-of (now table)) ⌝ }
-    requires { ⌜ 1537 ≤ length (now out) ⌝ }
+    requires { ⌜ 1025 ≤ length (now out) ⌝ }
     requires { ⌜ 256 ≤ length (now map) ⌝ }
     requires { ⌜ limit·answer ≤ length (now answer) ⌝ }
     ensures { λ _. ⌜ WritesFlex f (now (fork .entry)) a d (now (drop .entry)) b inverted own (types-of (now (table .entry))) n (now (answer .entry)) (now (answer .exit)) ⌝ }
@@ -486,7 +486,7 @@ fn finish_flex(
     requires { ⌜ FilledIf f (now fork) a ⌝ }
     requires { ⌜ FilledIf d (now drop) b ⌝ }
     requires { ⌜ Joining (now table) t f x d y n ⌝ }
-    requires { ⌜ 1537 ≤ length (now out) ⌝ }
+    requires { ⌜ 1025 ≤ length (now out) ⌝ }
     requires { ⌜ 256 ≤ length (now map) ⌝ }
     requires { ⌜ limit·answer ≤ length (now answer) ⌝ }
     ensures { λ _. ⌜ WritesFlex f (now (fork .entry)) a d (now (drop .entry)) b inverted own (closing-join (now (sheet .entry)) (types-of (now (table .entry))) t f x d y) n (now (answer .entry)) (now (answer .exit)) ⌝ }
@@ -534,7 +534,7 @@ fn close_joined(
     requires { ⌜ FilledIf f (now fork) a ⌝ }
     requires { ⌜ FilledIf d (now drop) b ⌝ }
     requires { ⌜ Joining (now table) t f x d y n ⌝ }
-    requires { ⌜ 1537 ≤ length (now out) ⌝ }
+    requires { ⌜ 1025 ≤ length (now out) ⌝ }
     requires { ⌜ 256 ≤ length (now map) ⌝ }
     requires { ⌜ limit·answer ≤ length (now answer) ⌝ }
     ensures { λ r. ⌜ ClosesJoined (now (sheet .entry)) (types-of (now (table .entry))) t f x (now (fork .entry)) a d y (now (drop .entry)) b inverted own n (now (answer .entry)) (now (answer .exit)) r ⌝ }
@@ -587,7 +587,7 @@ fn close_found(
     requires { ⌜ Offers f (now fork) a e ⌝ }
     requires { ⌜ Offers d (now drop) b e ⌝ }
     requires { ⌜ Caller (now table) t ⌝ }
-    requires { ⌜ 1537 ≤ length (now out) ⌝ }
+    requires { ⌜ 1025 ≤ length (now out) ⌝ }
     requires { ⌜ 256 ≤ length (now map) ⌝ }
     requires { ⌜ limit·answer ≤ length (now answer) ⌝ }
     ensures { λ r. ⌜ ClosesFound (now (sheet .entry)) (types-of (now (table .entry))) t e f (now (fork .entry)) a d (now (drop .entry)) b inverted own (now (answer .entry)) (now (answer .exit)) r ⌝ }
@@ -686,7 +686,7 @@ fn close_side(
     requires { ⌜ Offers (chosen (inverted-of n0 n1 n2 n3) n0 n2) (now fork) a e ⌝ }
     requires { ⌜ Offers (chosen (inverted-of n0 n1 n2 n3) n1 n3) (now drop) b e ⌝ }
     requires { ⌜ Caller (now table) t ⌝ }
-    requires { ⌜ 1537 ≤ length (now out) ⌝ }
+    requires { ⌜ 1025 ≤ length (now out) ⌝ }
     requires { ⌜ 256 ≤ length (now map) ⌝ }
     requires { ⌜ limit·answer ≤ length (now answer) ⌝ }
     ensures { λ r. ⌜ ClosesFound (now (sheet .entry)) (types-of (now (table .entry))) t e (chosen (inverted-of n0 n1 n2 n3) n0 n2) (now (fork .entry)) a (chosen (inverted-of n0 n1 n2 n3) n1 n3) (now (drop .entry)) b (inverted-of n0 n1 n2 n3) own (now (answer .entry)) (now (answer .exit)) r ⌝ }
@@ -736,7 +736,7 @@ pub fn close_flex(
     requires { ⌜ Offers (chosen (inverted-of n0 n1 n2 n3) n0 n2) (now fork) a e ⌝ }
     requires { ⌜ Offers (chosen (inverted-of n0 n1 n2 n3) n1 n3) (now drop) b e ⌝ }
     requires { ⌜ Caller (now table) t ⌝ }
-    requires { ⌜ 1537 ≤ length (now out) ⌝ }
+    requires { ⌜ 1025 ≤ length (now out) ⌝ }
     requires { ⌜ 256 ≤ length (now map) ⌝ }
     requires { ⌜ limit·answer ≤ length (now answer) ⌝ }
     ensures { λ r. ⌜ ClosesFlex (now (sheet .entry)) (types-of (now (table .entry))) t e n0 n1 n2 n3 (now (fork .entry)) a (now (drop .entry)) b (now (answer .entry)) (now (answer .exit)) r ⌝ }

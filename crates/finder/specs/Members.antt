@@ -26,10 +26,10 @@ use Rattle.finder.specs.Tails.{sub-one, Keeps}
 
 -- The words of a question's part with d levels left, and of a part of sub-questions, of which l are left.
 abbrev pub question-room : ℕ → ℕ
-question-room d = 62790 * d + 8970
+question-room d = 44870 * d + 6410
 
 abbrev pub tail-room : ℕ → ℕ → ℕ
-tail-room d l = question-room d + 17940 * (l - 1)
+tail-room d l = question-room d + 12820 * (l - 1)
 
 -- A member of the loop over candidates: what one gives is added behind n.
 pub record CandidateStep (L : ℕ) (run : Run (List Result)) (n cur : ℕ) (ws : Words) (r : Asked) (out : Words) : Type 0 where
@@ -39,10 +39,10 @@ pub record CandidateStep (L : ℕ) (run : Run (List Result)) (n cur : ℕ) (ws :
 -- A member of the loop over the results of a sub-question: what result k gives with those that are left is added behind n.
 pub record ResultStep (L : ℕ) (f : Result → Run (List Result)) (k n cur : ℕ) (ws : Words) (r : Asked) (out : Words) : Type 0 where
   pub keeps : Keeps ws out
-  pub step : (x : Result) → Slot ws (10764 + 1794 * k) x → Single (x .1) → Stepped L (adding (f x)) n cur ws r out
+  pub step : (x : Result) → Slot ws (7692 + 1282 * k) x → Single (x .1) → Stepped L (adding (f x)) n cur ws r out
 
 -- A step from words whose slots 1 to 4 are the same.
-stepped-from : (L : ℕ) (step : List Result → Run (List Result)) (n cur : ℕ) (ws us : Words) (r : Asked) (out : Words) → n ≤ 4 → length us ≡ length ws → ((i : ℕ) → i < 8970 → at us i ≡ at ws i) → Stepped L step n cur us r out → Stepped L step n cur ws r out
+stepped-from : (L : ℕ) (step : List Result → Run (List Result)) (n cur : ℕ) (ws us : Words) (r : Asked) (out : Words) → n ≤ 4 → length us ≡ length ws → ((i : ℕ) → i < 6410 → at us i ≡ at ws i) → Stepped L step n cur us r out → Stepped L step n cur ws r out
 stepped-from L step n cur ws us r out few e h s = record { at = λ fs p t. s .at fs p (slots-kept ws us slot·length fs e (λ i l m. h i (omega arith)) t) }
 
 -- The loop over candidates: b is the next, or none is left.
@@ -73,42 +73,42 @@ candidate-none L run n cur ws out e o few low = record {
 
 -- One whose sub-questions were asked in the part from slot 5 on.
 module _ (L n cur i : ℕ) (ask : Types → ImplType → Run (List Result)) (qs : List ImplType) (ws us ys back out : Words) (asked r : Asked)
-    (few : n ≤ 4) (room : 17940 ≤ length ws) (o : Opened ws us) (w : Answers (within (ltb L) (find-subimpls ask (types-of (part 8970 us)) qs) cur) asked ys) (l : Lent 8970 us ys back) where
-  pub candidate-sub : Sub back 10764 asked
-  candidate-sub = sub-answered L 8970 cur (find-subimpls ask (types-of (part 8970 us)) qs) asked us ys back w l (omega (arith, o .len))
+    (few : n ≤ 4) (room : 12820 ≤ length ws) (o : Opened ws us) (w : Answers (within (ltb L) (find-subimpls ask (types-of (part 6410 us)) qs) cur) asked ys) (l : Lent 6410 us ys back) where
+  pub candidate-sub : Sub back 7692 asked
+  candidate-sub = sub-answered L 6410 cur (find-subimpls ask (types-of (part 6410 us)) qs) asked us ys back w l (omega (arith, o .len))
 
-  pub candidate-steps : (run : Run (List Result)) → run ≡ (find-subimpls ask (types-of (part 8970 us)) qs >>= λ rs. done (map (under i) rs)) → Settles (under i) back out n 10764 asked r → CandidateStep L run n cur ws r out
+  pub candidate-steps : (run : Run (List Result)) → run ≡ (find-subimpls ask (types-of (part 6410 us)) qs >>= λ rs. done (map (under i) rs)) → Settles (under i) back out n 7692 asked r → CandidateStep L run n cur ws r out
   candidate-steps run e s = record {
     front = record { len = s .len ∙ l .long ∙ o .len; at = λ j h. s .low j h ∙ l .low j (omega arith) ∙ o .at j (omega arith) };
     step = subst (λ (x : Run (List Result)). Stepped L (adding x) n cur ws r out) (sym e)
         (stepped-from L _ n cur ws us r out few (o .len) (o .at)
-        (settled L 8970 cur (find-subimpls ask (types-of (part 8970 us)) qs) asked us ys back w l (omega (arith, o .len)) (under i) out n r few (omega arith) s));
+        (settled L 6410 cur (find-subimpls ask (types-of (part 6410 us)) qs) asked us ys back w l (omega (arith, o .len)) (under i) out n r few (omega arith) s));
   }
 
 -- A result of the first sub-question, whose table was copied to slot 10, and of which those that are left were asked in the part from there on.
 module _ (L n cur k : ℕ) (ask : Types → ImplType → Run (List Result)) (qs : List ImplType) (ws us ys back out : Words) (asked r : Asked)
-    (few : n ≤ 4) (below : k < 4) (room : 26910 ≤ length ws) (c : Written ws us 17940 (types-of (drop (10764 + 1794 * k) ws), end))
-    (w : Answers (within (ltb L) (find-subimpls ask (types-of (part 17940 us)) qs) cur) asked ys) (l : Lent 17940 us ys back) where
-  pub result-sub : Sub back 19734 asked
-  result-sub = sub-answered L 17940 cur (find-subimpls ask (types-of (part 17940 us)) qs) asked us ys back w l (omega (arith, c .len))
+    (few : n ≤ 4) (below : k < 4) (room : 19230 ≤ length ws) (c : Written ws us 12820 (types-of (drop (7692 + 1282 * k) ws), end))
+    (w : Answers (within (ltb L) (find-subimpls ask (types-of (part 12820 us)) qs) cur) asked ys) (l : Lent 12820 us ys back) where
+  pub result-sub : Sub back 14102 asked
+  result-sub = sub-answered L 12820 cur (find-subimpls ask (types-of (part 12820 us)) qs) asked us ys back w l (omega (arith, c .len))
 
-  still : (x : Result) → Slot ws (10764 + 1794 * k) x → Slot back (10764 + 1794 * k) x
-  still x s = slot-kept ws back (10764 + 1794 * k) x (l .long ∙ c .len) (λ j p q. l .low j (omega arith) ∙ c .low j (omega arith)) s
+  still : (x : Result) → Slot ws (7692 + 1282 * k) x → Slot back (7692 + 1282 * k) x
+  still x s = slot-kept ws back (7692 + 1282 * k) x (l .long ∙ c .len) (λ j p q. l .low j (omega arith) ∙ c .low j (omega arith)) s
 
-  pub result-element : Element ws (10764 + 1794 * k) → Element back (10764 + 1794 * k)
+  pub result-element : Element ws (7692 + 1282 * k) → Element back (7692 + 1282 * k)
   result-element e = record { result = e .result; slot = still (e .result) (e .slot); one = e .one }
 
-  pub result-steps : Element ws (10764 + 1794 * k) → JoinSettles back out n (10764 + 1794 * k) 19734 asked r → ResultStep L (sub-one ask qs) k n cur ws r out
+  pub result-steps : Element ws (7692 + 1282 * k) → JoinSettles back out n (7692 + 1282 * k) 14102 asked r → ResultStep L (sub-one ask qs) k n cur ws r out
   result-steps e j = record {
     keeps = record { len = frame .len ∙ l .long ∙ c .len; at = λ m p q. frame .high m p ∙ l .low m q ∙ c .low m q };
     step = λ x s one. each x s (j .at x (still x s) one);
   }
     where
-      frame : Settles (behind (e .result .1)) back out n 19734 asked r
+      frame : Settles (behind (e .result .1)) back out n 14102 asked r
       frame = j .at (e .result) (still (e .result) (e .slot)) (e .one)
 
-      each : (x : Result) → Slot ws (10764 + 1794 * k) x → Settles (behind (x .1)) back out n 19734 asked r → Stepped L (adding (sub-one ask qs x)) n cur ws r out
+      each : (x : Result) → Slot ws (7692 + 1282 * k) x → Settles (behind (x .1)) back out n 14102 asked r → Stepped L (adding (sub-one ask qs x)) n cur ws r out
       each x s t =
-          let same : types-of (part 17940 us) ≡ x .0 = part-table 17940 us (types-of (drop (10764 + 1794 * k) ws)) (c .slot .table) .is ∙ s .table .is in
+          let same : types-of (part 12820 us) ≡ x .0 = part-table 12820 us (types-of (drop (7692 + 1282 * k) ws)) (c .slot .table) .is ∙ s .table .is in
           stepped-from L _ n cur ws us r out few (c .len) (λ i h. c .low i (omega arith))
-          (settled L 17940 cur (find-subimpls ask (x .0) qs) asked us ys back (subst (λ (ts : Types). Answers (within (ltb L) (find-subimpls ask ts qs) cur) asked ys) same w) l (omega (arith, c .len)) (behind (x .1)) out n r few (omega arith) t)
+          (settled L 12820 cur (find-subimpls ask (x .0) qs) asked us ys back (subst (λ (ts : Types). Answers (within (ltb L) (find-subimpls ask ts qs) cur) asked ys) same w) l (omega (arith, c .len)) (behind (x .1)) out n r few (omega arith) t)

@@ -69,7 +69,7 @@ pub record Resting (L : ℕ) (whole : Out (List Result) × ℕ) (f : Result → 
   pub all : List Result
   pub size : length all ≡ m
   pub ones : Every One all
-  pub there : Slots ws 10764 all
+  pub there : Slots ws 7692 all
   pub going : Going L whole (λ fs. collect f (drop k all) fs) ws n cur
 
 pub record Rested (L : ℕ) (whole : Out (List Result) × ℕ) (f : Result → Run (List Result)) (m k : ℕ) (r : Asked) (out : Words) : Type 0 where
@@ -79,7 +79,7 @@ pub record Rested (L : ℕ) (whole : Out (List Result) × ℕ) (f : Result → R
 -- Slots 5 to 9 are as they were.
 pub record Keeps (ws out : Words) : Type 0 where
   pub len : length out ≡ length ws
-  pub at : (i : ℕ) → 8970 ≤ i → i < 17940 → at out i ≡ at ws i
+  pub at : (i : ℕ) → 6410 ≤ i → i < 12820 → at out i ≡ at ws i
 
 every-get : (rs : List Result) (k : ℕ) (d : Result) → Every One rs → k < length rs → One (getD rs k d)
 every-get [] k d h l = absurd (omega arith)
@@ -88,9 +88,9 @@ every-get (r ∷ rs) (suc k) d h l = every-get rs k d (h .1) (omega arith)
 
 -- A step with result k is a turn.
 pub rest-turn : (L : ℕ) (whole : Out (List Result) × ℕ) (f : Result → Run (List Result)) (m k : ℕ) (ws out : Words) (n cur : ℕ) (r : Asked) → Resting L whole f m k ws n cur → k < m → m ≤ 4 → Keeps ws out →
-    ((x : Result) → Slot ws (10764 + 1794 * k) x → Single (x .1) → Stepped L (adding (f x)) n cur ws r out) → Rested L whole f m (k + 1) r out
+    ((x : Result) → Slot ws (7692 + 1282 * k) x → Single (x .1) → Stepped L (adding (f x)) n cur ws r out) → Rested L whole f m (k + 1) r out
 rest-turn L whole f m k ws out n cur r g more small kept step = record {
-  on = λ c d e. record { all = g .all; size = g .size; ones = g .ones; there = slots-kept ws out 10764 (g .all) (kept .len) (λ i p q. kept .at i (omega arith) (omega (arith, g .size))) (g .there); going = t .on c d e };
+  on = λ c d e. record { all = g .all; size = g .size; ones = g .ones; there = slots-kept ws out 7692 (g .all) (kept .len) (λ i p q. kept .at i (omega arith) (omega (arith, g .size))) (g .there); going = t .on c d e };
   stops = t .stops;
 }
   where
@@ -127,13 +127,13 @@ module _ (L count : ℕ) (ask : Types → ImplType → Run (List Result)) (ts : 
   tail-refused m c out e = answers-refused whole m c out (asks-first ∙ then-refused (ltb L) (ask ts q) (λ rs. collect (sub-one ask qs) rs []) count m c (w .refuses m c e))
 
   -- The loop over its results begins.
-  pub tail-start : (m c : ℕ) (ws back : Words) → Yields (Every One) (ask ts q) → first ≡ Found c m → Lent 8970 ws ys back → 17940 ≤ length ws → Resting L whole (sub-one ask qs) m 0 back 0 c
+  pub tail-start : (m c : ℕ) (ws back : Words) → Yields (Every One) (ask ts q) → first ≡ Found c m → Lent 6410 ws ys back → 12820 ≤ length ws → Resting L whole (sub-one ask qs) m 0 back 0 c
   tail-start m c ws back ones e l room =
       let g = w .found c m e in
       record {
         all = g .results;
         size = g .size;
         ones = came (Every One) ((within (ltb L) (ask ts q) count) .0) (g .results) (yields-within (Every One) (ltb L) (ask ts q) count ones) (ap (λ (o : Out (List Result) × ℕ). o .0) (g .is));
-        there = slots-back 8970 1794 ws ys back (g .results) l (omega (arith, g .size, g .few)) (g .stand);
+        there = slots-back 6410 1282 ws ys back (g .results) l (omega (arith, g .size, g .few)) (g .stand);
         going = going-start L whole (λ fs. collect (sub-one ask qs) (drop 0 (g .results)) fs) back c (g .low) (asks-first ∙ then-got (ltb L) (ask ts q) (λ rs. collect (sub-one ask qs) rs []) count c (g .results) (g .is));
       }

@@ -22,9 +22,9 @@ use slots::Asked;
 use steps::Finder;
 
 // Where the results of a part's first sub-question stand; and where what is left behind a result is asked.
-const RESULTS: usize = 10764;
+const RESULTS: usize = 7692;
 
-const REST: usize = 17940;
+const REST: usize = 12820;
 
 // An import from the sheet needs words for the places of a table's records and for its mapping, a fifth of the sheet's: for a small sheet, for one of
 // middle size, and for any; and as many for marks as a table has nodes, twice where the sheet is not small. They are zeroed each time, so that fewer are faster.
@@ -44,7 +44,7 @@ const MIDDLE_SHEET: usize = 1280;
 fn begin_middle(sheet: &[u32], ws: &mut [u32], f: Finder, basic: u32, q: Query, count: u32) -> Asked
     requires { ⌜ Sound (finder-of (now sheet) f) ⌝ }
     requires { ⌜ Asking (now ws) q ⌝ }
-    requires { ⌜ 10764 ≤ length (now ws) ⌝ }
+    requires { ⌜ 7692 ≤ length (now ws) ⌝ }
     requires { ⌜ basic < 2 ⌝ }
     requires { ⌜ count ≤ 4000000000 ⌝ }
     requires { ⌜ length (now sheet) ≤ 1280 ⌝ }
@@ -59,7 +59,7 @@ fn begin_middle(sheet: &[u32], ws: &mut [u32], f: Finder, basic: u32, q: Query, 
 fn begin_wide(sheet: &[u32], ws: &mut [u32], f: Finder, basic: u32, q: Query, count: u32) -> Asked
     requires { ⌜ Sound (finder-of (now sheet) f) ⌝ }
     requires { ⌜ Asking (now ws) q ⌝ }
-    requires { ⌜ 10764 ≤ length (now ws) ⌝ }
+    requires { ⌜ 7692 ≤ length (now ws) ⌝ }
     requires { ⌜ basic < 2 ⌝ }
     requires { ⌜ count ≤ 4000000000 ⌝ }
     ensures { λ r. ⌜ Begins (finder-of (now (sheet .entry)) f) (eqb basic 1) (now (ws .entry)) (query-of q) count r (now (ws .exit)) ⌝ }
@@ -73,7 +73,7 @@ fn begin_wide(sheet: &[u32], ws: &mut [u32], f: Finder, basic: u32, q: Query, co
 fn begin(sheet: &[u32], ws: &mut [u32], f: Finder, basic: u32, q: Query, count: u32) -> Asked
     requires { ⌜ Sound (finder-of (now sheet) f) ⌝ }
     requires { ⌜ Asking (now ws) q ⌝ }
-    requires { ⌜ 10764 ≤ length (now ws) ⌝ }
+    requires { ⌜ 7692 ≤ length (now ws) ⌝ }
     requires { ⌜ basic < 2 ⌝ }
     requires { ⌜ count ≤ 4000000000 ⌝ }
     ensures { λ r. ⌜ Begins (finder-of (now (sheet .entry)) f) (eqb basic 1) (now (ws .entry)) (query-of q) count r (now (ws .exit)) ⌝ }
@@ -91,7 +91,7 @@ fn begin(sheet: &[u32], ws: &mut [u32], f: Finder, basic: u32, q: Query, count: 
 fn open_small(sheet: &[u32], ws: &mut [u32], f: Finder, q: Query, i: usize) -> Queries
     requires { ⌜ Sound (finder-of (now sheet) f) ⌝ }
     requires { ⌜ Asking (now ws) q ⌝ }
-    requires { ⌜ 10764 ≤ length (now ws) ⌝ }
+    requires { ⌜ 7692 ≤ length (now ws) ⌝ }
     requires { ⌜ i < many (now sheet) header·impls ⌝ }
     requires { ⌜ length (now sheet) ≤ 320 ⌝ }
     ensures { λ r. ⌜ Opens (now (sheet .entry)) (now (ws .entry)) (query-of q) i r (now (ws .exit)) ⌝ }
@@ -105,7 +105,7 @@ fn open_small(sheet: &[u32], ws: &mut [u32], f: Finder, q: Query, i: usize) -> Q
 fn open_middle(sheet: &[u32], ws: &mut [u32], f: Finder, q: Query, i: usize) -> Queries
     requires { ⌜ Sound (finder-of (now sheet) f) ⌝ }
     requires { ⌜ Asking (now ws) q ⌝ }
-    requires { ⌜ 10764 ≤ length (now ws) ⌝ }
+    requires { ⌜ 7692 ≤ length (now ws) ⌝ }
     requires { ⌜ i < many (now sheet) header·impls ⌝ }
     requires { ⌜ length (now sheet) ≤ 1280 ⌝ }
     ensures { λ r. ⌜ Opens (now (sheet .entry)) (now (ws .entry)) (query-of q) i r (now (ws .exit)) ⌝ }
@@ -119,7 +119,7 @@ fn open_middle(sheet: &[u32], ws: &mut [u32], f: Finder, q: Query, i: usize) -> 
 fn open_wide(sheet: &[u32], ws: &mut [u32], f: Finder, q: Query, i: usize) -> Queries
     requires { ⌜ Sound (finder-of (now sheet) f) ⌝ }
     requires { ⌜ Asking (now ws) q ⌝ }
-    requires { ⌜ 10764 ≤ length (now ws) ⌝ }
+    requires { ⌜ 7692 ≤ length (now ws) ⌝ }
     requires { ⌜ i < many (now sheet) header·impls ⌝ }
     ensures { λ r. ⌜ Opens (now (sheet .entry)) (now (ws .entry)) (query-of q) i r (now (ws .exit)) ⌝ }
 {
@@ -132,7 +132,7 @@ fn open_wide(sheet: &[u32], ws: &mut [u32], f: Finder, q: Query, i: usize) -> Qu
 fn open_one(sheet: &[u32], ws: &mut [u32], f: Finder, q: Query, i: usize) -> Queries
     requires { ⌜ Sound (finder-of (now sheet) f) ⌝ }
     requires { ⌜ Asking (now ws) q ⌝ }
-    requires { ⌜ 10764 ≤ length (now ws) ⌝ }
+    requires { ⌜ 7692 ≤ length (now ws) ⌝ }
     requires { ⌜ i < many (now sheet) header·impls ⌝ }
     ensures { λ r. ⌜ Opens (now (sheet .entry)) (now (ws .entry)) (query-of q) i r (now (ws .exit)) ⌝ }
 {
@@ -158,7 +158,7 @@ pub fn question(
 ) -> Asked
     requires { ⌜ Searching (now sheet) (now sets) f ⌝ }
     requires { ⌜ Asking (now ws) q ⌝ }
-    requires { ⌜ 62790 * depth + 8970 ≤ length (now ws) ⌝ }
+    requires { ⌜ 44870 * depth + 6410 ≤ length (now ws) ⌝ }
     requires { ⌜ basic < 2 ⌝ }
     requires { ⌜ count ≤ 4000000000 ⌝ }
     ensures { λ r. ⌜ Answers (within (ltb (f .limit)) (question-run depth (finder-of (now (sheet .entry)) f) (eqb basic 1) (types-of (now (ws .entry))) (query-of q)) count) r (now (ws .exit)) ⌝ }
@@ -198,10 +198,10 @@ fn candidates(
 ) -> Asked
     requires { ⌜ Searching (now sheet) (now sets) f ⌝ }
     requires { ⌜ Asking (now ws) q ⌝ }
-    requires { ⌜ 62790 * depth + 71760 ≤ length (now ws) ⌝ }
+    requires { ⌜ 44870 * depth + 51280 ≤ length (now ws) ⌝ }
     requires { ⌜ basic < 2 ⌝ }
     requires { ⌜ count ≤ 4000000000 ⌝ }
-    requires { ⌜ Row (now ws) 1794 n ⌝ }
+    requires { ⌜ Row (now ws) 1282 n ⌝ }
     requires { ⌜ n ≤ 4 ⌝ }
     ensures { λ r. ⌜ Stepped (f .limit) (candidates-left depth (finder-of (now (sheet .entry)) f) (eqb basic 1) (types-of (now (ws .entry))) (query-of q)) n count (now (ws .entry)) r (now (ws .exit)) ⌝ }
 {
@@ -249,7 +249,7 @@ fn candidate(
     requires { ⌜ Searching (now sheet) (now sets) f ⌝ }
     requires { ⌜ Asking (now ws) q ⌝ }
     requires { ⌜ i < many (now sheet) header·impls ⌝ }
-    requires { ⌜ 62790 * depth + 71760 ≤ length (now ws) ⌝ }
+    requires { ⌜ 44870 * depth + 51280 ≤ length (now ws) ⌝ }
     requires { ⌜ count ≤ 4000000000 ⌝ }
     requires { ⌜ n ≤ 4 ⌝ }
     ensures { λ r. ⌜ CandidateStep (f .limit) (try-candidate (ask-below depth (finder-of (now (sheet .entry)) f)) (now (sheet .entry)) (types-of (now (ws .entry))) (query-of q) i) n count (now (ws .entry)) r (now (ws .exit)) ⌝ }
@@ -278,7 +278,7 @@ fn sub_questions(
 ) -> Asked
     requires { ⌜ Searching (now sheet) (now sets) f ⌝ }
     requires { ⌜ Tail (now ws) qs from ⌝ }
-    requires { ⌜ 62790 * depth + 8970 + 17940 * (qs .n - from - 1) ≤ length (now ws) ⌝ }
+    requires { ⌜ 44870 * depth + 6410 + 12820 * (qs .n - from - 1) ≤ length (now ws) ⌝ }
     requires { ⌜ count ≤ 4000000000 ⌝ }
     ensures { λ r. ⌜ Answers (within (ltb (f .limit)) (find-subimpls (ask-below depth (finder-of (now (sheet .entry)) f)) (types-of (now (ws .entry))) (drop from (queries-of qs))) count) r (now (ws .exit)) ⌝ }
 {
@@ -311,7 +311,7 @@ fn results(
 ) -> Asked
     requires { ⌜ Searching (now sheet) (now sets) f ⌝ }
     requires { ⌜ Elements (now ws) m qs from ⌝ }
-    requires { ⌜ 62790 * depth + 8970 + 17940 * (qs .n - from) ≤ length (now ws) ⌝ }
+    requires { ⌜ 44870 * depth + 6410 + 12820 * (qs .n - from) ≤ length (now ws) ⌝ }
     requires { ⌜ from < qs .n ⌝ }
     requires { ⌜ m ≤ 4 ⌝ }
     requires { ⌜ count ≤ 4000000000 ⌝ }
@@ -353,8 +353,8 @@ fn result(
     count: u32,
 ) -> Asked
     requires { ⌜ Searching (now sheet) (now sets) f ⌝ }
-    requires { ⌜ ElementAt (now ws) (10764 + 1794 * k) qs from ⌝ }
-    requires { ⌜ 62790 * depth + 8970 + 17940 * (qs .n - from) ≤ length (now ws) ⌝ }
+    requires { ⌜ ElementAt (now ws) (7692 + 1282 * k) qs from ⌝ }
+    requires { ⌜ 44870 * depth + 6410 + 12820 * (qs .n - from) ≤ length (now ws) ⌝ }
     requires { ⌜ from < qs .n ⌝ }
     requires { ⌜ k < 4 ⌝ }
     requires { ⌜ n ≤ 4 ⌝ }

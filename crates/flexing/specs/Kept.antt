@@ -32,17 +32,17 @@ use Rattle.flexing.specs.Asked.{Flexing, exported, flex-question}
 
 -- The words of slot 1, as those of a slot alone.
 pub record Copied (ws us : Words) : Type 0 where
-  pub room : 1794 ≤ length us
-  pub at : (i : ℕ) → i < 1794 → at us i ≡ at ws (1794 + i)
+  pub room : 1282 ≤ length us
+  pub at : (i : ℕ) → i < 1282 → at us i ≡ at ws (1282 + i)
 
-pub slot-taken : (ws from to us : Words) → 3588 ≤ length ws → 1794 ≤ length to → from ≡ drop 1794 ws → us ≡ copied 1794 from to → Copied ws us
-slot-taken ws from to us h k d x = let e : us ≡ copied 1794 (drop 1794 ws) to = x ∙ ap (λ (l : Words). copied 1794 l to) d in record {
-  room = omega (arith, ap (λ (l : Words). length l) e, copied-length 1794 (drop 1794 ws) to);
-  at = λ i l. ap (λ (l : Words). at l i) e ∙ copied-at 1794 i (drop 1794 ws) to l (omega (arith, length-drop 1794 ws)) (omega arith) ∙ getD-drop 1794 ws i 0;
+pub slot-taken : (ws from to us : Words) → 2564 ≤ length ws → 1282 ≤ length to → from ≡ drop 1282 ws → us ≡ copied 1282 from to → Copied ws us
+slot-taken ws from to us h k d x = let e : us ≡ copied 1282 (drop 1282 ws) to = x ∙ ap (λ (l : Words). copied 1282 l to) d in record {
+  room = omega (arith, ap (λ (l : Words). length l) e, copied-length 1282 (drop 1282 ws) to);
+  at = λ i l. ap (λ (l : Words). at l i) e ∙ copied-at 1282 i (drop 1282 ws) to l (omega (arith, length-drop 1282 ws)) (omega arith) ∙ getD-drop 1282 ws i 0;
 }
 
-copied-slot : (ws us : Words) (r : Result) → Copied ws us → Slot ws 1794 r → Slot us 0 r
-copied-slot ws us r c s = slot-move ws us 1794 0 r (omega (arith, c .room)) (λ i l. ap (at us) (let e : 0 + i ≡ i = omega arith in e) ∙ c .at i l) s
+copied-slot : (ws us : Words) (r : Result) → Copied ws us → Slot ws 1282 r → Slot us 0 r
+copied-slot ws us r c s = slot-move ws us 1282 0 r (omega (arith, c .room)) (λ i l. ap (at us) (let e : 0 + i ≡ i = omega arith in e) ∙ c .at i l) s
 
 -- What a search came to, in the code's terms: a number that ends the call, or the results that it counts as.
 pub record Taken (o : Out (List Result)) (ws : Words) (a n : ℕ) : Type 0 where
@@ -53,7 +53,7 @@ pub record Taken (o : Out (List Result)) (ws : Words) (a n : ℕ) : Type 0 where
 
 pub record Takes (o : Out (List Result) × ℕ) (ws : Words) (t : Turn) : Type 0 where
   pub stops : t .stop ≢ 0 → or-nothing (o .0) ≡ refused (t .stop)
-  pub goes : t .stop ≡ 0 → Taken (or-nothing (o .0)) ws 1794 (t .n)
+  pub goes : t .stop ≡ 0 → Taken (or-nothing (o .0)) ws 1282 (t .n)
   pub count : t .count ≡ o .1
 
 pub record Settles (asked : Asked) (t : Turn) : Type 0 where
@@ -89,15 +89,15 @@ module _ (asked : Asked) where
     };
   }
     where
-      one : (fs : List Result) (out : Words) (r : Result) (rs : List Result) → fs ≡ r ∷ rs → Slots out 1794 fs → Slot out 1794 r
-      one fs out r rs e s = subst (λ i. Slot out i r) (let z : 1794 + 1794 * 0 ≡ 1794 = omega arith in z) ((subst (λ (l : List Result). Slots out 1794 l) e s) .at 0 (omega arith))
+      one : (fs : List Result) (out : Words) (r : Result) (rs : List Result) → fs ≡ r ∷ rs → Slots out 1282 fs → Slot out 1282 r
+      one fs out r rs e s = subst (λ i. Slot out i r) (let z : 1282 + 1282 * 0 ≡ 1282 = omega arith in z) ((subst (λ (l : List Result). Slots out 1282 l) e s) .at 0 (omega arith))
 
   module _ (m c : ℕ) (e : asked ≡ Refused m c) where
     nothing : ((o : Out (List Result)) → o ≡ refused m → or-nothing o ≡ got []) → Settles asked (record { stop = 0; n = 0; count = c })
     nothing h = record {
       at = λ o out w z. let g = w .refuses m c e in record {
         stops = λ x. absurd (x refl);
-        goes = λ x. none-taken out 1794 (or-nothing (o .0)) (h (o .0) (ap (λ (p : Out (List Result) × ℕ). p .0) g));
+        goes = λ x. none-taken out 1282 (or-nothing (o .0)) (h (o .0) (ap (λ (p : Out (List Result) × ℕ). p .0) g));
         count = sym (ap (λ (p : Out (List Result) × ℕ). p .1) g);
       };
     }

@@ -40,10 +40,10 @@ struct Turn {
 fn export(question: &[u32], dst: &mut [u32]) -> u32
     requires { ⌜ Fitting (question-types (now question)) ⌝ }
     requires { ⌜ at (now question) question·type / 2 < length (question-types (now question)) ⌝ }
-    requires { ⌜ 1537 ≤ length (now dst) ⌝ }
+    requires { ⌜ 1025 ≤ length (now dst) ⌝ }
     ensures { λ r. ⌜ ExportsType (question-types (now (question .entry))) (at (now (question .entry)) question·type) (now (dst .exit)) r ⌝ }
 {
-    let mut table = [0u32; 1537];
+    let mut table = [0u32; 1025];
     loading::load_table(question, &mut table);
     let mut map = [0u32; 256];
     let t = words::word(question, layout::QUESTION_TYPE);
@@ -62,7 +62,7 @@ fn ask_one(
     count: u32,
 ) -> Asked
     requires { ⌜ Flexing (now sheet) (now sets) (now question) f ⌝ }
-    requires { ⌜ 1013610 ≤ length (now ws) ⌝ }
+    requires { ⌜ 724330 ≤ length (now ws) ⌝ }
     requires { ⌜ count ≤ 4000000000 ⌝ }
     ensures { λ r. ⌜ Answers (within (ltb (f .limit)) (flex-question (finder-of (now (sheet .entry)) f) (now (question .entry)) h inverted) count) r (now (ws .exit)) ⌝ }
 {
@@ -74,16 +74,16 @@ fn ask_one(
 
 // The words of a slice behind slot 0.
 fn results(ws: &[u32]) -> &[u32]
-    requires { ⌜ 1794 ≤ length (now ws) ⌝ }
-    ensures { λ r. ⌜ now r ≡ drop 1794 (now (ws .entry)) ⌝ }
+    requires { ⌜ 1282 ≤ length (now ws) ⌝ }
+    ensures { λ r. ⌜ now r ≡ drop 1282 (now (ws .entry)) ⌝ }
 {
     &ws[slots::SLOT..]
 }
 
 // Keeps the first result of a search aside: the words of slot 1, as those of a slot alone.
 fn keep(ws: &[u32], kept: &mut [u32])
-    requires { ⌜ 3588 ≤ length (now ws) ⌝ }
-    requires { ⌜ 1794 ≤ length (now kept) ⌝ }
+    requires { ⌜ 2564 ≤ length (now ws) ⌝ }
+    requires { ⌜ 1282 ≤ length (now kept) ⌝ }
     ensures { λ _. ⌜ Copied (now (ws .entry)) (now (kept .exit)) ⌝ }
 {
     let from = results(ws);
@@ -133,8 +133,8 @@ fn ask_turn(
     count: u32,
 ) -> Turn
     requires { ⌜ Flexing (now sheet) (now sets) (now question) f ⌝ }
-    requires { ⌜ 1013610 ≤ length (now ws) ⌝ }
-    requires { ⌜ 1794 ≤ length (now kept) ⌝ }
+    requires { ⌜ 724330 ≤ length (now ws) ⌝ }
+    requires { ⌜ 1282 ≤ length (now kept) ⌝ }
     requires { ⌜ count ≤ 4000000000 ⌝ }
     ensures { λ r. ⌜ Turned (f .limit) (finder-of (now (sheet .entry)) f) (now (question .entry)) h inverted count (now (kept .exit)) r ⌝ }
 {
@@ -164,9 +164,9 @@ fn close_side(
     requires { ⌜ limit·answer ≤ length (now answer) ⌝ }
     ensures { λ r. ⌜ SideEnds (now (sheet .entry)) (now (question .entry)) n0 n1 n2 n3 (now (fork .entry)) (now (drop .entry)) (now (answer .entry)) (now (answer .exit)) r ⌝ }
 {
-    let mut table = [0u32; 1537];
+    let mut table = [0u32; 1025];
     loading::load_table(question, &mut table);
-    let mut out = [0u32; 1537];
+    let mut out = [0u32; 1025];
     let t = words::word(question, layout::QUESTION_TYPE);
     let e = loading::export_type(&table, t, &mut out, ws);
     closing::close_flex(
@@ -271,13 +271,13 @@ fn inverse_drop_turn(
     count: u32,
 ) -> Ended
     requires { ⌜ Flexing (now sheet) (now sets) (now question) f ⌝ }
-    requires { ⌜ 1013610 ≤ length (now ws) ⌝ }
+    requires { ⌜ 724330 ≤ length (now ws) ⌝ }
     requires { ⌜ limit·answer ≤ length (now answer) ⌝ }
     requires { ⌜ count ≤ 1000003 ⌝ }
     requires { ⌜ Behind (now question) ((n2, now k2) ∷ (n1, now k1) ∷ (n0, now k0) ∷ []) ⌝ }
     ensures { λ r. ⌜ Rests (f .limit) (finder-of (now (sheet .entry)) f) (now (question .entry)) ((n2, now (k2 .entry)) ∷ (n1, now (k1 .entry)) ∷ (n0, now (k0 .entry)) ∷ []) (after-inverse (finder-of (now (sheet .entry)) f) (now (question .entry))) count (now (answer .entry)) (now (answer .exit)) r ⌝ }
 {
-    let mut kept = [0u32; 1794];
+    let mut kept = [0u32; 1282];
     let t = ask_turn(
         sheet,
         sets,
@@ -329,13 +329,13 @@ fn inverse_fork_turn(
     count: u32,
 ) -> Ended
     requires { ⌜ Flexing (now sheet) (now sets) (now question) f ⌝ }
-    requires { ⌜ 1013610 ≤ length (now ws) ⌝ }
+    requires { ⌜ 724330 ≤ length (now ws) ⌝ }
     requires { ⌜ limit·answer ≤ length (now answer) ⌝ }
     requires { ⌜ count ≤ 1000002 ⌝ }
     requires { ⌜ Behind (now question) ((n1, now k1) ∷ (n0, now k0) ∷ []) ⌝ }
     ensures { λ r. ⌜ Rests (f .limit) (finder-of (now (sheet .entry)) f) (now (question .entry)) ((n1, now (k1 .entry)) ∷ (n0, now (k0 .entry)) ∷ []) (after-drop (finder-of (now (sheet .entry)) f) (now (question .entry))) count (now (answer .entry)) (now (answer .exit)) r ⌝ }
 {
-    let mut kept = [0u32; 1794];
+    let mut kept = [0u32; 1282];
     let t = ask_turn(
         sheet,
         sets,
@@ -383,13 +383,13 @@ fn drop_turn(
     count: u32,
 ) -> Ended
     requires { ⌜ Flexing (now sheet) (now sets) (now question) f ⌝ }
-    requires { ⌜ 1013610 ≤ length (now ws) ⌝ }
+    requires { ⌜ 724330 ≤ length (now ws) ⌝ }
     requires { ⌜ limit·answer ≤ length (now answer) ⌝ }
     requires { ⌜ count ≤ 1000001 ⌝ }
     requires { ⌜ Behind (now question) ((n0, now k0) ∷ []) ⌝ }
     ensures { λ r. ⌜ Rests (f .limit) (finder-of (now (sheet .entry)) f) (now (question .entry)) ((n0, now (k0 .entry)) ∷ []) (after-fork (finder-of (now (sheet .entry)) f) (now (question .entry))) count (now (answer .entry)) (now (answer .exit)) r ⌝ }
 {
-    let mut kept = [0u32; 1794];
+    let mut kept = [0u32; 1282];
     let t = ask_turn(
         sheet,
         sets,
@@ -433,12 +433,12 @@ fn fork_turn(
     count: u32,
 ) -> Ended
     requires { ⌜ Flexing (now sheet) (now sets) (now question) f ⌝ }
-    requires { ⌜ 1013610 ≤ length (now ws) ⌝ }
+    requires { ⌜ 724330 ≤ length (now ws) ⌝ }
     requires { ⌜ limit·answer ≤ length (now answer) ⌝ }
     requires { ⌜ count ≤ limit·count ⌝ }
     ensures { λ r. ⌜ Rests (f .limit) (finder-of (now (sheet .entry)) f) (now (question .entry)) [] (flex-question (finder-of (now (sheet .entry)) f) (now (question .entry)) header·fork false ∷ after-fork (finder-of (now (sheet .entry)) f) (now (question .entry))) count (now (answer .entry)) (now (answer .exit)) r ⌝ }
 {
-    let mut kept = [0u32; 1794];
+    let mut kept = [0u32; 1282];
     let t = ask_turn(
         sheet,
         sets,
@@ -470,7 +470,7 @@ pub fn ask_flex(
     count: u32,
 ) -> Ended
     requires { ⌜ Flexing (now sheet) (now sets) (now question) f ⌝ }
-    requires { ⌜ 1013610 ≤ length (now ws) ⌝ }
+    requires { ⌜ 724330 ≤ length (now ws) ⌝ }
     requires { ⌜ limit·answer ≤ length (now answer) ⌝ }
     requires { ⌜ count ≤ limit·count ⌝ }
     ensures { λ r. ⌜ Ends (flex-within (ltb (f .limit)) (finder-of (now (sheet .entry)) f) (now (question .entry)) count) (now (answer .entry)) (now (answer .exit)) r ⌝ }

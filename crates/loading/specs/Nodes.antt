@@ -21,7 +21,7 @@ use Rattle.rules.specs.RootRank.{child-in}
 use Rattle.rules.specs.Slim.{SlimState}
 use Rattle.rules.specs.Transfer.{type-of-word, cell-types, node-state, table}
 use Rattle.rules.specs.Neat.{Neat}
-use Rattle.table.specs.Packing.{types-of, Pushes, Becomes, TypeWords}
+use Rattle.table.specs.Packing.{types-of, Pushes, Becomes, Above, TypeWords}
 use Rattle.transfer.specs.Leaves.{type-at}
 
 -- A table that words can hold: neat, and of at most 256 nodes.
@@ -113,7 +113,10 @@ module _ (q : Words) (p k : ℕ) (f : NodeFits q p) (d : Kind q p k) where
   known-here = state-known q p (λ e. d .some (d .is ∙ e))
 
   few-cells : length (cell-types q (at q (p + 4))) ≤ 8
-  few-cells = subst SlimState known-here (f .slim) .0
+  few-cells = subst SlimState known-here (f .slim) .few
+
+  pub known-low : k < 16
+  known-low = subst (λ x. x < 16) (sym (d .is)) (subst SlimState known-here (f .slim) .low)
 
   low-cells : AllIn limit·nodes (cell-types q (at q (p + 4)))
   low-cells = subst (ChildrenIn limit·nodes) known-here (f .inside)
@@ -135,6 +138,9 @@ module _ (q : Words) (p k : ℕ) (f : NodeFits q p) (d : Kind q p k) where
           go : (j : ℕ) → (j < length (take m cs)) ⊎ (length (take m cs) ≤ j) → at (take m cs) j < 512
           go j (inl l) = omega (arith, ap (λ (t : Ty). t .1) (type-at (take m cs) j), child-in limit·nodes (map type-of-word (take m cs)) j (subst (AllIn limit·nodes) (sym cells-here) low-cells) (omega (arith, length-map (take m cs) type-of-word)))
           go j (inr l) = omega (arith, List·getD-eq-default (take m cs) 0 l)
+
+      pub cells-above : (id : ℕ) → id ≡ at q (p + 3) → Above id (length (take m cs))
+      cells-above id e = record { small = λ l. subst (λ x. x < 4096) (sym e) (subst SlimState known-here (f .slim) .small (omega (arith, ap length cells-here, length-map (take m cs) type-of-word))) }
 
       -- i and d are inversion word and id, and the node is pushed.
       pub known-pushed : (ws us : Words) (i id r : ℕ) → length (types-of ws) < 256 → i ≡ at q (p + 2) → id ≡ at q (p + 3) → Pushes ws us (known (eqb i 1) k id (map type-of-word (take m cs))) r → Becomes us (types-of ws ++ (new-node (length (types-of ws)) (node-state q p) ∷ []))

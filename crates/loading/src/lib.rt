@@ -67,7 +67,7 @@ fn load_node(q: &[u32], p: usize, dst: &mut [u32])
 // The question's table.
 pub fn load_table(q: &[u32], dst: &mut [u32])
     requires { ⌜ Fitting (question-types (now q)) ⌝ }
-    requires { ⌜ 1537 ≤ length (now dst) ⌝ }
+    requires { ⌜ 1025 ≤ length (now dst) ⌝ }
     ensures { λ _. ⌜ Becomes (now (dst .exit)) (question-types (now (q .entry))) ⌝ }
 {
     table::clear_table(dst);
@@ -103,7 +103,7 @@ pub fn type_question(tr: u32, inverted: bool, t: u32) -> Query
 // `export` of a query: its types in a table of their own.
 pub fn export_question(table: &[u32], query: Query, dst: &mut [u32], map: &mut [u32]) -> Query
     requires { ⌜ Asks (types-of (now table)) query ⌝ }
-    requires { ⌜ 1537 ≤ length (now dst) ⌝ }
+    requires { ⌜ 1025 ≤ length (now dst) ⌝ }
     requires { ⌜ 256 ≤ length (now map) ⌝ }
     ensures { λ r. ⌜ Exports (types-of (now (table .entry))) (query-of query) (now (dst .exit)) r ⌝ }
 {
@@ -121,7 +121,7 @@ pub fn export_question(table: &[u32], query: Query, dst: &mut [u32], map: &mut [
 pub fn export_type(table: &[u32], t: u32, dst: &mut [u32], map: &mut [u32]) -> u32
     requires { ⌜ Neat (types-of (now table)) ⌝ }
     requires { ⌜ t / 2 < length (types-of (now table)) ⌝ }
-    requires { ⌜ 1537 ≤ length (now dst) ⌝ }
+    requires { ⌜ 1025 ≤ length (now dst) ⌝ }
     requires { ⌜ 256 ≤ length (now map) ⌝ }
     ensures { λ r. ⌜ ExportsType (types-of (now (table .entry))) t (now (dst .exit)) r ⌝ }
 {

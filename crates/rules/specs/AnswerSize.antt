@@ -58,7 +58,7 @@ nodes-words p (n ∷ ns) h = go (n .state) refl (nodes-words (p + node·length) 
     go unknown e ih ik = rw (e, pack-nodes) (omega arith)
     go (known i k d cs) e ih ik =
         rw (e, pack-nodes)
-        (omega (arith, length-append (pack-cells (p + node·length) cs) (pack-nodes (p + node·length + cell·length * length cs) ns), cells-words (p + node·length) cs, ik cs, (subst SlimState e (h .0)) .0))
+        (omega (arith, length-append (pack-cells (p + node·length) cs) (pack-nodes (p + node·length + cell·length * length cs) ns), cells-words (p + node·length) cs, ik cs, (subst SlimState e (h .0)) .few))
 
 range-length : (i n : ℕ) → length (range i n) ≡ n
 unfolding range

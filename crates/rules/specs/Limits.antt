@@ -15,7 +15,7 @@ limit·answer = 10240
 
 -- 4: words of the workspace at least, the constant fixed in docs. A call clears as many.
 unfoldable pub limit·workspace : ℕ
-limit·workspace = 1048576
+limit·workspace = 724330
 
 -- 5: a start count at most.
 abbrev pub limit·count : ℕ

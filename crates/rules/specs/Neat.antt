@@ -12,7 +12,7 @@ use lib.Dec.{T, eqb, ltb, ltb→lt}
 use lib.ListN.{length, getD, set, replicate, length-append, length-replicate}
 use Rattle.rules.specs.Lists.{Words, range, concat-map}
 use Rattle.rules.specs.Limits.{limit·sheet}
-use Rattle.rules.specs.Layout.{header·generics, header·impls, header·closures, impl-param·trait, impl-param·args, question·table, kind·param}
+use Rattle.rules.specs.Layout.{header·generics, header·impls, impl-param·trait, impl-param·args, question·table, kind·param}
 use Rattle.rules.specs.Sheet.{at, many, records, field, type-params, generics-table, impl-param-records, impl-generics, impl-table, impl-args}
 use Rattle.rules.specs.Types.{Ty, TypeState, unknown, known, Types, new-node, invert-if, find, state-at, ImplType, unify, unify-impl-type}
 use Rattle.rules.specs.Transfer.{Transfer, mapped, param-for, transfer-each, transfer-in, transfer-types, import-types, import-impl-type, transfer-impl-types, import-impl-types, export-types, export-impl-type, cell-types, new-nodes, table}
@@ -231,9 +231,9 @@ in-checked n xs t = go xs (every-all (λ (t : Ty). ltb (t .1) n) xs t)
 
 -- The tables of a call that passed 6 to 13.
 module _ (a : Finder) (q : Words) (r : Ready a q) where
-  few : many (a .sheet) header·closures ≤ limit·sheet
+  few : (h : ℕ) → many (a .sheet) h ≤ limit·sheet
   unfolding many records
-  few = le-trans (chain-short (a .sheet) (at (a .sheet) header·closures)) (r .short)
+  few h = le-trans (chain-short (a .sheet) (at (a .sheet) h)) (r .short)
 
   -- The question's.
   pub question-neat : Neat (table q (at q question·table))

@@ -1,4 +1,5 @@
--- No type has over 8 children, and no closure's id is over a sheet's words: 8 and 12 say so of the tables of a sheet and a question, and joining, transfer and fresh unknowns keep it.
+-- No type has over 8 children, its kind is one of 16, and where it has children or is a closure its id is below a sheet's words: 8 and 12 say so of the tables of a sheet and a question,
+-- and joining, transfer and fresh unknowns keep it.
 use Prim.Native.Nat.{ℕ, zero, suc, _+_, _*_, _≤_, _<_}
 use mathlib.Core.Path.{_≡_, refl, sym, subst}
 use mathlib.Core.Bool.{Bool, true, false}
@@ -10,8 +11,8 @@ use lib.Dec.{T, eqb, leb, ltb, leb→le, ltb→lt, eqb→eq}
 use lib.ListN.{length, replicate}
 use Rattle.rules.specs.Lists.{Words, all}
 use Rattle.rules.specs.Limits.{limit·sheet}
-use Rattle.rules.specs.Layout.{header·closures, node·kind, node·id, kind·unknown, kind·param, kind·closure}
-use Rattle.rules.specs.Sheet.{at, chain, many, kinds, row·most, row·length}
+use Rattle.rules.specs.Layout.{header·opaques, header·structs, header·enums, header·unions, header·closures, node·kind, node·id, kind·unknown, kind·param, kind·closure, kind·count}
+use Rattle.rules.specs.Sheet.{at, chain, many, kinds, kind-row, row·most, row·length}
 use Rattle.rules.specs.Types.{Ty, TypeState, unknown, known, TypeNode, Types, new-node, node-at, find, kind, xor, invert-state, state-at, larger, relabel, or-else, hang, join}
 use Rattle.rules.specs.Transfer.{Transfer, param-for, transfer-types, import-types, node-state, new-nodes, table}
 use Rattle.rules.specs.Values.{id-bound, node-fits, node-ok, table-ok}
@@ -24,10 +25,20 @@ use Rattle.rules.specs.Carried.{transfer-carries}
 abbrev pub most-children : ℕ
 most-children = 8
 
--- A type has at most so many; the id of a closure is that of a record of a sheet.
+-- Kinds are below this.
+abbrev pub most-kinds : ℕ
+most-kinds = 16
+
+-- A type has at most so many; its kind is small; and so is the id of a closure or of a type with children: it is that of a record of a sheet, or 0.
+pub record SlimKnown (k d n : ℕ) : Type 0 where
+  pub few : n ≤ most-children
+  pub low : k < most-kinds
+  pub closure : k ≡ kind·closure → d < limit·sheet
+  pub small : 0 < n → d < limit·sheet
+
 abbrev pub SlimState : TypeState → Type 0
 SlimState unknown = Unit {0}
-SlimState (known i k d cs) = (length cs ≤ most-children) × (k ≡ kind·closure → d < limit·sheet)
+SlimState (known i k d cs) = SlimKnown k d (length cs)
 
 abbrev SlimNode : TypeNode → Type 0
 SlimNode nd = SlimState (nd .state)
@@ -84,7 +95,7 @@ slim-transfer : (src : Types) → WellFormed src → Slim src → (ps : Option (
 unfolding Slim new-node
 slim-transfer src formed slim ps = transfer-carries src formed ps (λ (m : Transfer). Slim (m .1))
     (λ m r l e h. every-append SlimNode (m .1) (new-node (length (m .1)) unknown ∷ []) h (tt, tt))
-    (λ m n r i kd d cs qs e l h. every-set SlimNode (m .1) n (new-node n (known i kd d qs)) h (let k = subst SlimState e (slim-at src slim r) in (omega (arith, l, k .0), k .1)))
+    (λ m n r i kd d cs qs e l h. every-set SlimNode (m .1) n (new-node n (known i kd d qs)) h (subst (SlimKnown kd d) (sym l) (subst SlimState e (slim-at src slim r))))
 
 -- An import keeps it.
 pub slim-import : (src : Types) → WellFormed src → Slim src → (ps : Option (List Ty)) (ts : List Ty) (dst : Types) → AllIn (length src) ts → Slim dst → Slim ((import-types src ps ts dst) .1)
@@ -116,20 +127,44 @@ kinds-most : (i : ℕ) → at kinds i ≤ most-children
 unfolding kinds all
 kinds-most i = every-at (λ k. k ≤ most-children) kinds i 0 (every-weaken (λ k. T (leb k most-children)) (λ k. k ≤ most-children) (λ k. leb→le k most-children) kinds (every-all (λ k. leb k most-children) kinds tt)) (omega arith)
 
-slim-node : (s w : Words) → many s header·closures ≤ limit·sheet → (params n p : ℕ) → T (node-ok s w params n p) → SlimState (node-state w p)
+-- An id of a type with children, kind by kind.
+id-small : (s : Words) → ((h : ℕ) → many s h ≤ limit·sheet) → (params d n k : ℕ) → T (ltb k kind·count) → T (ltb d (id-bound s params d k)) → n ≤ kind-row k row·most → 0 < n → d < limit·sheet
+unfolding id-bound kinds
+id-small s few params d n k l t m h = go k l (ltb→lt d (id-bound s params d k) t) m
+  where
+    go : (k : ℕ) → T (ltb k kind·count) → d < id-bound s params d k → n ≤ kind-row k row·most → d < limit·sheet
+    go zero l t m = absurd (omega arith)
+    go (suc zero) l t m = absurd (omega arith)
+    go (suc (suc zero)) l t m = omega arith
+    go (suc (suc (suc zero))) l t m = le-trans t (few header·opaques)
+    go (suc (suc (suc (suc zero)))) l t m = le-trans t (few header·structs)
+    go (suc (suc (suc (suc (suc zero))))) l t m = le-trans t (few header·enums)
+    go (suc (suc (suc (suc (suc (suc zero)))))) l t m = le-trans t (few header·unions)
+    go (suc (suc (suc (suc (suc (suc (suc zero))))))) l t m = absurd (omega arith)
+    go (suc (suc (suc (suc (suc (suc (suc (suc zero)))))))) l t m = le-trans t (few header·closures)
+    go (suc (suc (suc (suc (suc (suc (suc (suc (suc zero))))))))) l t m = omega arith
+    go (suc (suc (suc (suc (suc (suc (suc (suc (suc (suc zero)))))))))) l t m = absurd (omega arith)
+    go (suc (suc (suc (suc (suc (suc (suc (suc (suc (suc (suc zero))))))))))) l t m = absurd (omega arith)
+    go (suc (suc (suc (suc (suc (suc (suc (suc (suc (suc (suc (suc zero)))))))))))) l t m = absurd (omega arith)
+    go (suc (suc (suc (suc (suc (suc (suc (suc (suc (suc (suc (suc (suc zero))))))))))))) l t m = absurd (omega arith)
+    go (suc (suc (suc (suc (suc (suc (suc (suc (suc (suc (suc (suc (suc (suc k)))))))))))))) l t m = absurd (not-suc-le-zero t)
+
+slim-node : (s w : Words) → ((h : ℕ) → many s h ≤ limit·sheet) → (params n p : ℕ) → T (node-ok s w params n p) → SlimState (node-state w p)
 unfolding node-ok node-fits node-state id-bound
 slim-node s w few params n p t = go (eqb (at w (p + node·kind)) kind·unknown) refl
   where
     go : (b : Bool) → eqb (at w (p + node·kind)) kind·unknown ≡ b → SlimState (node-state w p)
     go true e = rw (e, node-state) tt
     go false e =
-        rw (e, node-state) (
-          le-trans (leb→le _ _ (part _ t 5)) (kinds-most (row·length * at w (p + node·kind) + row·most)),
-          λ c. le-trans (ltb→lt (at w (p + node·id)) (many s header·closures) (subst (λ k. T (ltb (at w (p + node·id)) (id-bound s params (at w (p + node·id)) k))) c (part _ t 3))) few,
-        )
+        rw (e, node-state) (record {
+          few = le-trans (leb→le _ _ (part _ t 5)) (kinds-most (row·length * at w (p + node·kind) + row·most));
+          low = le-trans (ltb→lt (at w (p + node·kind)) kind·count (part _ t 0)) (omega arith);
+          closure = λ c. le-trans (ltb→lt (at w (p + node·id)) (many s header·closures) (subst (λ k. T (ltb (at w (p + node·id)) (id-bound s params (at w (p + node·id)) k))) c (part _ t 3))) (few header·closures);
+          small = id-small s few params (at w (p + node·id)) _ (at w (p + node·kind)) (part _ t 0) (part _ t 3) (leb→le _ _ (part _ t 5));
+        })
 
 -- A table that passed 8 or 12.
-pub slim-table : (s w : Words) → many s header·closures ≤ limit·sheet → (params h : ℕ) → T (table-ok s w params h) → Slim (table w h)
+pub slim-table : (s w : Words) → ((h : ℕ) → many s h ≤ limit·sheet) → (params h : ℕ) → T (table-ok s w params h) → Slim (table w h)
 unfolding Slim
 slim-table s w few params h t = every-table SlimState s w params h (slim-node s w few params) t
 

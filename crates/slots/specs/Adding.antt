@@ -24,7 +24,7 @@ use Rattle.slots.specs.Copies.{Beside, Filled, Tabled, Doubles, trees-ap
 
 -- Where a question's results end: its part has slots 0 to 4 for itself.
 abbrev pub results·end : ℕ
-results·end = 8970
+results·end = 6410
 
 -- A result g is added behind fs, or refused: what the rule says, whatever comes behind it, and where they stand.
 pub record Enters (fs : List Result) (g : Result) (us : Words) (o : Adding) : Type 0 where
@@ -114,7 +114,7 @@ adds-big : (ws : Words) (n : ℕ) (g : Result) → n < 4 → 256 < tree-size (g 
 adds-big ws n g h b = adds-same ws n g 17 (λ fs gs l. add-big fs g gs (omega arith) b)
 
 -- The slot behind n is written.
-pub adds-written : (ws us : Words) (n : ℕ) (g : Result) → n < 4 → Written ws us (1794 + 1794 * n) g → Adds ws us n g Added
+pub adds-written : (ws us : Words) (n : ℕ) (g : Result) → n < 4 → Written ws us (1282 + 1282 * n) g → Adds ws us n g Added
 adds-written ws us n g h w = record {
   len = w .len;
   few = λ e. h;
@@ -125,42 +125,42 @@ adds-written ws us n g h w = record {
 }
 
 -- Slots 1 to 4 are beside those behind them.
-pub beside-result : (a n : ℕ) → 8970 ≤ a → n ≤ 4 → n ≢ 4 → Beside a (1794 + 1794 * n)
+pub beside-result : (a n : ℕ) → 6410 ≤ a → n ≤ 4 → n ≢ 4 → Beside a (1282 + 1282 * n)
 beside-result a n h l e = record { either = inr (omega arith) }
 
 -- A slot is beside the one behind n results, where there is one.
 pub record Aside (a n : ℕ) : Type 0 where
-  pub at : n ≢ 4 → Beside a (1794 + 1794 * n)
+  pub at : n ≢ 4 → Beside a (1282 + 1282 * n)
 
-pub aside-beside : (a n : ℕ) → Aside a n → n ≢ 4 → Beside a (1794 + 1794 * n)
+pub aside-beside : (a n : ℕ) → Aside a n → n ≢ 4 → Beside a (1282 + 1282 * n)
 aside-beside a n h e = h .at e
 
 pub aside-first : (n : ℕ) → Aside 0 n
 aside-first n = record { at = λ e. record { either = inl (omega arith) } }
 
-pub aside-behind : (a n : ℕ) → 8970 ≤ a → n ≤ 4 → Aside a n
+pub aside-behind : (a n : ℕ) → 6410 ≤ a → n ≤ 4 → Aside a n
 aside-behind a n h l = record { at = beside-result a n h l }
 
 -- As it stands.
 pub plain-full : (ws : Words) (n from : ℕ) → n ≡ 4 → Gives plain ws ws n from (Refused 16)
 plain-full ws n from e = record { at = λ r s. adds-full ws n r e }
 
-pub plain-added : (ws us : Words) (n from : ℕ) → n ≤ 4 → n ≢ 4 → Doubles ws us from (1794 + 1794 * n) → Gives plain ws us n from Added
+pub plain-added : (ws us : Words) (n from : ℕ) → n ≤ 4 → n ≢ 4 → Doubles ws us from (1282 + 1282 * n) → Gives plain ws us n from Added
 plain-added ws us n from l e d = record { at = λ r s. adds-written ws us n r (omega arith) (d .at r s) }
 
 -- Under a Def.
 pub under-full : (ws : Words) (n from i : ℕ) → n ≡ 4 → Gives (under i) ws ws n from (Refused 16)
 under-full ws n from i e = record { at = λ r s. adds-full ws n (under i r) e }
 
-pub under-big : (ws : Words) (n from i s : ℕ) → n ≤ 4 → n ≢ 4 → s ≡ at ws (from + 1537) → 256 ≤ s → Gives (under i) ws ws n from (Refused 17)
+pub under-big : (ws : Words) (n from i s : ℕ) → n ≤ 4 → n ≢ 4 → s ≡ at ws (from + 1025) → 256 ≤ s → Gives (under i) ws ws n from (Refused 17)
 unfolding tree-size
 under-big ws n from i s l e c h = record { at = λ r t. adds-big ws n (under i r) (omega arith) (omega (arith, t .trees .count)) }
 
-pub under-small : (ws us : Words) (from b s : ℕ) → Filled ws from → Doubles ws us from b → s ≡ at ws (from + 1537) → s < 256 → at us (b + 1537) < 256
+pub under-small : (ws us : Words) (from b s : ℕ) → Filled ws from → Doubles ws us from b → s ≡ at ws (from + 1025) → s < 256 → at us (b + 1025) < 256
 under-small ws us from b s f d c h = omega (arith, f .slot .trees .count, d .at (f .result) (f .slot) .slot .trees .count)
 
 -- A slot written, and its trees changed.
-rewritten : (ws us vs : Words) (b : ℕ) (ts : Types) (x y : Trees) → Written ws us b (ts, x) → Held us vs (b + 1537) y → Written ws vs b (ts, y)
+rewritten : (ws us vs : Words) (b : ℕ) (ts : Types) (x y : Trees) → Written ws us b (ts, x) → Held us vs (b + 1025) y → Written ws vs b (ts, y)
 rewritten ws us vs b ts x y w h = record {
   len = h .len ∙ w .len;
   slot = record {
@@ -172,44 +172,44 @@ rewritten ws us vs b ts x y w h = record {
   high = λ i l. h .high i (omega arith) ∙ w .high i l;
 }
 
-pub under-added : (ws us vs : Words) (n from i : ℕ) → n ≤ 4 → n ≢ 4 → Doubles ws us from (1794 + 1794 * n) → Wraps us vs (1794 + 1794 * n + 1537) i → Gives (under i) ws vs n from Added
+pub under-added : (ws us vs : Words) (n from i : ℕ) → n ≤ 4 → n ≢ 4 → Doubles ws us from (1282 + 1282 * n) → Wraps us vs (1282 + 1282 * n + 1025) i → Gives (under i) ws vs n from Added
 under-added ws us vs n from i l e d w = record {
-  at = λ r s. let t = d .at r s in adds-written ws vs n (under i r) (omega arith) (rewritten ws us vs (1794 + 1794 * n) (r .0) (r .1) (tree tree·def i (r .1) end) t (w .trees (r .1) (t .slot .trees)));
+  at = λ r s. let t = d .at r s in adds-written ws vs n (under i r) (omega arith) (rewritten ws us vs (1282 + 1282 * n) (r .0) (r .1) (tree tree·def i (r .1) end) t (w .trees (r .1) (t .slot .trees)));
 }
 
 -- Behind the tree of another.
 pub element-filled : (ws : Words) (a : ℕ) → Element ws a → Filled ws a
 element-filled ws a e = record { result = e .result; slot = e .slot }
 
-pub element-few : (ws us : Words) (a b c : ℕ) → Element ws c → Beside c b → Tabled ws us a b → at us (c + 1537) ≤ 256
+pub element-few : (ws us : Words) (a b c : ℕ) → Element ws c → Beside c b → Tabled ws us a b → at us (c + 1025) ≤ 256
 element-few ws us a b c e p t = trees-few ws us a b c (element-filled ws c e) p t
 
 -- The two together have at most 256 nodes still.
-pub join-few : (ws us vs : Words) (e from b : ℕ) → Element ws e → Filled ws from → Beside e b → Beside from b → Tabled ws us from b → Copies us us vs (e + 1537) (b + 1537) → at ws (e + 1537) + at ws (from + 1537) ≤ 256 → at vs (b + 1537) + at vs (from + 1537) ≤ 256
+pub join-few : (ws us vs : Words) (e from b : ℕ) → Element ws e → Filled ws from → Beside e b → Beside from b → Tabled ws us from b → Copies us us vs (e + 1025) (b + 1025) → at ws (e + 1025) + at ws (from + 1025) ≤ 256 → at vs (b + 1025) + at vs (from + 1025) ≤ 256
 join-few ws us vs e from b el f pe pf t c h =
     let held = c .trees (el .result .1) (trees-kept ws us from b e (el .result .1) t pe (el .slot .trees)) in
-    let rest = holds-apart us vs (from + 1537) (b + 1537) (f .result .1) (el .result .1) (trees-apart from b pf) held (trees-kept ws us from b from (f .result .1) t pf (f .slot .trees)) in
+    let rest = holds-apart us vs (from + 1025) (b + 1025) (f .result .1) (el .result .1) (trees-apart from b pf) held (trees-kept ws us from b from (f .result .1) t pf (f .slot .trees)) in
     omega (arith, held .holds .count, rest .count, el .slot .trees .count, f .slot .trees .count)
 
-pub joined : (ws us vs xs : Words) (e from b : ℕ) → Beside e b → Beside from b → b + 1794 ≤ length ws → Tabled ws us from b → Copies us us vs (e + 1537) (b + 1537) → Appends vs vs xs (from + 1537) (b + 1537) → Joined ws xs e from b
+pub joined : (ws us vs xs : Words) (e from b : ℕ) → Beside e b → Beside from b → b + 1282 ≤ length ws → Tabled ws us from b → Copies us us vs (e + 1025) (b + 1025) → Appends vs vs xs (from + 1025) (b + 1025) → Joined ws xs e from b
 joined ws us vs xs e from b pe pf room t c a = record { at = λ r u s o v. one r u s o v }
   where
     one : (r u : Result) → Slot ws e r → Single (r .1) → Slot ws from u → Written ws xs b (behind (r .1) u)
     one r u s o v =
         let held = c .trees (r .1) (trees-kept ws us from b e (r .1) t pe (s .trees)) in
-        let rest = holds-apart us vs (from + 1537) (b + 1537) (u .1) (r .1) (trees-apart from b pf) held (trees-kept ws us from b from (u .1) t pf (v .trees)) in
+        let rest = holds-apart us vs (from + 1025) (b + 1025) (u .1) (r .1) (trees-apart from b pf) held (trees-kept ws us from b from (u .1) t pf (v .trees)) in
         subst (λ (ts : Types). Written ws xs b (ts, before (r .1) (u .1))) (v .table .is)
         (rewritten ws vs xs b (types-of (drop from ws)) (r .1) (before (r .1) (u .1)) (with-trees ws us vs from b (r .1) t room held) (a .trees (r .1) (u .1) o (held .holds) rest))
 
 pub join-full : (ws : Words) (n e from : ℕ) → n ≡ 4 → Joins ws ws n e from (Refused 16)
 join-full ws n e from h = record { at = λ r s o. record { at = λ u v. adds-full ws n (behind (r .1) u) h } }
 
-pub join-big : (ws : Words) (n e from s t : ℕ) → n ≤ 4 → n ≢ 4 → s ≡ at ws (e + 1537) → t ≡ at ws (from + 1537) → 256 < s + t → Joins ws ws n e from (Refused 17)
+pub join-big : (ws : Words) (n e from s t : ℕ) → n ≤ 4 → n ≢ 4 → s ≡ at ws (e + 1025) → t ≡ at ws (from + 1025) → 256 < s + t → Joins ws ws n e from (Refused 17)
 join-big ws n e from s t l h p q b = record { at = λ r x o. record { at = λ u v. adds-big ws n (behind (r .1) u) (omega arith) (omega (arith, x .trees .count, v .trees .count, size-before (r .1) (u .1) o)) } }
 
-pub join-added : (ws us : Words) (n e from : ℕ) → n ≤ 4 → n ≢ 4 → Joined ws us e from (1794 + 1794 * n) → Joins ws us n e from Added
+pub join-added : (ws us : Words) (n e from : ℕ) → n ≤ 4 → n ≢ 4 → Joined ws us e from (1282 + 1282 * n) → Joins ws us n e from Added
 join-added ws us n e from l h j = record { at = λ r s o. record { at = λ u v. adds-written ws us n (behind (r .1) u) (omega arith) (j .at r u s o v) } }
 
 -- The table with a leaf: it has one node.
-pub leaf-added : (ws us vs : Words) (n from k i : ℕ) → n ≤ 4 → n ≢ 4 → 8970 ≤ length ws → Tabled ws us from (1794 + 1794 * n) → Held us vs (1794 + 1794 * n + 1537) (leaf k i) → Adds ws vs n (types-of (drop from ws), leaf k i) Added
-leaf-added ws us vs n from k i l e room t h = adds-written ws vs n (types-of (drop from ws), leaf k i) (omega arith) (with-trees ws us vs from (1794 + 1794 * n) (leaf k i) t (omega arith) h)
+pub leaf-added : (ws us vs : Words) (n from k i : ℕ) → n ≤ 4 → n ≢ 4 → 6410 ≤ length ws → Tabled ws us from (1282 + 1282 * n) → Held us vs (1282 + 1282 * n + 1025) (leaf k i) → Adds ws vs n (types-of (drop from ws), leaf k i) Added
+leaf-added ws us vs n from k i l e room t h = adds-written ws vs n (types-of (drop from ws), leaf k i) (omega arith) (with-trees ws us vs from (1282 + 1282 * n) (leaf k i) t (omega arith) h)

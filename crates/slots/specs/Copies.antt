@@ -40,14 +40,14 @@ pub record Doubles (ws us : Words) (a b : ℕ) : Type 0 where
 pub count-few : (ws : Words) (a r : ℕ) → Packed (drop a ws) → r ≡ at ws a → r ≤ 256
 count-few ws a r p e = omega (arith, e, getD-drop a ws 0 0 ∙ ap (at ws) (let z : a + 0 ≡ a = omega arith in z), p .few)
 
-pub table-room : (ws : Words) (a : ℕ) → Packed (drop a ws) → a + 1537 ≤ length ws
+pub table-room : (ws : Words) (a : ℕ) → Packed (drop a ws) → a + 1025 ≤ length ws
 table-room ws a p = omega (arith, length-drop a ws, p .long)
 
-pub clear-table : (a b n : ℕ) → Beside a b → n ≤ 256 → Clear a b (6 * n + 1)
+pub clear-table : (a b n : ℕ) → Beside a b → n ≤ 256 → Clear a b (4 * n + 1)
 clear-table a b n p h = record { either = ⊎-elim (λ q. inl (omega arith)) (λ q. inr (omega arith)) (p .either) }
 
 -- The words of n nodes are the whole table.
-pub tabled : (ws us : Words) (a b n : ℕ) → n ≡ at ws a → n ≤ 256 → Packed (drop a ws) → b + 1794 ≤ length ws → Carries ws ws us a b (6 * n + 1) → Tabled ws us a b
+pub tabled : (ws us : Words) (a b n : ℕ) → n ≡ at ws a → n ≤ 256 → Packed (drop a ws) → b + 1282 ≤ length ws → Carries ws ws us a b (4 * n + 1) → Tabled ws us a b
 tabled ws us a b n e few p room c = record {
   len = c .len;
   table = table-move ws us a b (types-of (drop a ws)) (omega (arith, c .len)) (λ i l m. c .there i (omega arith)) (record { packed = p; is = refl });
@@ -58,24 +58,24 @@ tabled ws us a b n e few p room c = record {
 pub filled-packed : (ws : Words) (a : ℕ) → Filled ws a → Packed (drop a ws)
 filled-packed ws a f = f .slot .table .packed
 
-pub filled-trees : (ws : Words) (a r : ℕ) → Filled ws a → r ≡ at ws (a + 1537) → r ≤ 256
+pub filled-trees : (ws : Words) (a r : ℕ) → Filled ws a → r ≡ at ws (a + 1025) → r ≤ 256
 filled-trees ws a r f e = omega (arith, f .slot .trees .count, f .slot .trees .few)
 
-pub filled-room : (ws : Words) (a : ℕ) → Filled ws a → a + 1794 ≤ length ws
+pub filled-room : (ws : Words) (a : ℕ) → Filled ws a → a + 1282 ≤ length ws
 filled-room ws a f = f .slot .room
 
-pub trees-apart : (a b : ℕ) → Beside a b → Apart (a + 1537) (b + 1537)
+pub trees-apart : (a b : ℕ) → Beside a b → Apart (a + 1025) (b + 1025)
 trees-apart a b p = record { either = ⊎-elim (λ q. inl (omega arith)) (λ q. inr (omega arith)) (p .either) }
 
 -- The trees of a slot beside the copied table are as they were.
-pub trees-kept : (ws us : Words) (a b c : ℕ) (ts : Trees) → Tabled ws us a b → Beside c b → Holds ws (c + 1537) ts → Holds us (c + 1537) ts
-trees-kept ws us a b c ts t p h = holds-same ws us (c + 1537) ts (λ i l m. ⊎-elim (λ q. t .low i (omega arith)) (λ q. t .high i (omega arith)) (p .either)) h
+pub trees-kept : (ws us : Words) (a b c : ℕ) (ts : Trees) → Tabled ws us a b → Beside c b → Holds ws (c + 1025) ts → Holds us (c + 1025) ts
+trees-kept ws us a b c ts t p h = holds-same ws us (c + 1025) ts (λ i l m. ⊎-elim (λ q. t .low i (omega arith)) (λ q. t .high i (omega arith)) (p .either)) h
 
-pub trees-few : (ws us : Words) (a b c : ℕ) → Filled ws c → Beside c b → Tabled ws us a b → at us (c + 1537) ≤ 256
+pub trees-few : (ws us : Words) (a b c : ℕ) → Filled ws c → Beside c b → Tabled ws us a b → at us (c + 1025) ≤ 256
 trees-few ws us a b c f p t = let h = trees-kept ws us a b c (f .result .1) t p (f .slot .trees) in omega (arith, h .count, h .few)
 
 -- A table copied, and trees behind it.
-pub with-trees : (ws us vs : Words) (a b : ℕ) (ts : Trees) → Tabled ws us a b → b + 1794 ≤ length ws → Held us vs (b + 1537) ts → Written ws vs b (types-of (drop a ws), ts)
+pub with-trees : (ws us vs : Words) (a b : ℕ) (ts : Trees) → Tabled ws us a b → b + 1282 ≤ length ws → Held us vs (b + 1025) ts → Written ws vs b (types-of (drop a ws), ts)
 with-trees ws us vs a b ts t room h = record {
   len = h .len ∙ t .len;
   slot = record {
@@ -87,7 +87,7 @@ with-trees ws us vs a b ts t room h = record {
   high = λ i l. h .high i (omega arith) ∙ t .high i (omega arith);
 }
 
-pub doubled : (ws us vs : Words) (a b : ℕ) → Beside a b → b + 1794 ≤ length ws → Tabled ws us a b → Copies us us vs (a + 1537) (b + 1537) → Doubles ws vs a b
+pub doubled : (ws us vs : Words) (a b : ℕ) → Beside a b → b + 1282 ≤ length ws → Tabled ws us a b → Copies us us vs (a + 1025) (b + 1025) → Doubles ws vs a b
 doubled ws us vs a b p room t c = record { at = λ r s. one r s }
   where
     one : (r : Result) → Slot ws a r → Written ws vs b r

@@ -65,19 +65,19 @@ gathering-none give ws from n m h = record {
   at = λ fs gs e d s t. record { results = fs; size = e; stand = s; same = refl };
 }
 
-module _ (give : Result → Result) (ws us : Words) (from n₀ n m k : ℕ) (behind-all : 8970 ≤ from) (row : Row ws from m) (g : Gathering give ws us from n₀ n m k) (more : k < m) where
+module _ (give : Result → Result) (ws us : Words) (from n₀ n m k : ℕ) (behind-all : 6410 ≤ from) (row : Row ws from m) (g : Gathering give ws us from n₀ n m k) (more : k < m) where
   -- Result k stands still.
   still : (gs : List Result) → length gs ≡ m → Slots ws from gs → Slot us (from + slot·length * k) (getD gs k ([], end))
   still gs d t = slots-kept ws us from gs (g .len) (λ i p q. g .high i (omega arith)) t .at k (omega arith)
 
-  pub filled-next : Filled us (from + 1794 * k)
+  pub filled-next : Filled us (from + 1282 * k)
   filled-next = record { result = getD (row .results) k ([], end); slot = still (row .results) (row .size) (row .slots) }
 
   -- The rule's next result.
   next : (gs : List Result) → length gs ≡ m → map give (drop k gs) ≡ give (getD gs k ([], end)) ∷ map give (drop (k + 1) gs)
   next gs d = ap (map give) (drop-cons gs k ([], end) (omega arith)) ∙ ap (λ i. give (getD gs k ([], end)) ∷ map give (drop i gs)) (sym (add-one k))
 
-  module _ (vs : Words) (o : Adding) (a : Gives give us vs n (from + 1794 * k) o) where
+  module _ (vs : Words) (o : Adding) (a : Gives give us vs n (from + 1282 * k) o) where
     frame : Adds us vs n (give (getD (row .results) k ([], end))) o
     frame = a .at (getD (row .results) k ([], end)) (still (row .results) (row .size) (row .slots))
 
@@ -134,27 +134,27 @@ gathering-done give ws us from n₀ n m k count g h low = record {
 }
 
 -- The element stands still.
-module _ (ws us : Words) (e from n₀ n m k : ℕ) (el : Element ws e) (behind-all : 8970 ≤ e) (g : JoinGathering ws us e from n₀ n m k) where
+module _ (ws us : Words) (e from n₀ n m k : ℕ) (el : Element ws e) (behind-all : 6410 ≤ e) (g : JoinGathering ws us e from n₀ n m k) where
   pub element-next : Element us e
   element-next =
       let h = g .at (el .result) (el .slot) (el .one) in
       record { result = el .result; slot = slot-kept ws us e (el .result) (h .len) (λ i p q. h .high i (omega arith)) (el .slot); one = el .one }
 
-  pub join-filled-next : 8970 ≤ from → Row ws from m → k < m → Filled us (from + 1794 * k)
+  pub join-filled-next : 6410 ≤ from → Row ws from m → k < m → Filled us (from + 1282 * k)
   join-filled-next b row more = filled-next (behind (el .result .1)) ws us from n₀ n m k b row (g .at (el .result) (el .slot) (el .one)) more
 
   step : (x : Result) → Slot ws e x → Gathering (behind (x .1)) ws us from n₀ n m k → Slot us e x
   step x s h = slot-kept ws us e x (h .len) (λ i p q. h .high i (omega arith)) s
 
-  pub joining-more : (vs : Words) (o : Adding) → 8970 ≤ from → Row ws from m → k < m → Joins us vs n e (from + 1794 * k) o → o ≡ Added → JoinGathering ws vs e from n₀ (n + 1) m (k + 1)
+  pub joining-more : (vs : Words) (o : Adding) → 6410 ≤ from → Row ws from m → k < m → Joins us vs n e (from + 1282 * k) o → o ≡ Added → JoinGathering ws vs e from n₀ (n + 1) m (k + 1)
   joining-more vs o b row more j d = record {
     at = λ x s one. let h = g .at x s one in gathering-more (behind (x .1)) ws us from n₀ n m k b row h more vs o (j .at x (step x s h) one) d;
   }
 
-  pub joining-few : (vs : Words) (o : Adding) → 8970 ≤ from → Row ws from m → k < m → Joins us vs n e (from + 1794 * k) o → o ≡ Added → n + 1 ≤ 4
+  pub joining-few : (vs : Words) (o : Adding) → 6410 ≤ from → Row ws from m → k < m → Joins us vs n e (from + 1282 * k) o → o ≡ Added → n + 1 ≤ 4
   joining-few vs o b row more j d = joining-more vs o b row more j d .at (el .result) (el .slot) (el .one) .few
 
-  pub joining-stops : (vs : Words) (o : Adding) (number count : ℕ) → 8970 ≤ from → Row ws from m → k < m → Joins us vs n e (from + 1794 * k) o → o ≡ Denied number → JoinGathers ws vs n₀ e from m count (Refused number count)
+  pub joining-stops : (vs : Words) (o : Adding) (number count : ℕ) → 6410 ≤ from → Row ws from m → k < m → Joins us vs n e (from + 1282 * k) o → o ≡ Denied number → JoinGathers ws vs n₀ e from m count (Refused number count)
   joining-stops vs o number count b row more j d = record {
     at = λ x s one. let h = g .at x s one in gathering-stops (behind (x .1)) ws us from n₀ n m k b row h more vs o (j .at x (step x s h) one) number count d;
   }

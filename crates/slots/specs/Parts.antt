@@ -44,7 +44,7 @@ lent a ws ys room kept =
 pub part-table : (a : ℕ) (ws : Words) (ts : Types) → Table ws a ts → Table (part a ws) 0 ts
 part-table a ws ts t = table-move ws (part a ws) a 0 ts (omega (arith, long, part-length a ws)) (λ i l m. ap (at (part a ws)) (let z : 0 + i ≡ i = omega arith in z) ∙ part-at a ws i (omega (arith, long))) t
   where
-    long : 1537 ≤ length ws - a
+    long : 1025 ≤ length ws - a
     long = omega (arith, length-drop a ws, t .packed .long)
 
 -- Results in the part that came back.

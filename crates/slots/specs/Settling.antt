@@ -81,16 +81,16 @@ pub joins-found : (ws us : Words) (n e from : ℕ) (asked r : Asked) (c m : ℕ)
 joins-found ws us n e from asked r c m h g = record { at = λ x s o. settles-found (behind (x .1)) ws us n from asked r c m h (g .at x s o) }
 
 -- A sub-search, asked in the part from a on, found results in slot 1 of that part.
-module _ (L a cur : ℕ) (sub : Run (List Result)) (asked : Asked) (ws ys back : Words) (w : Answers (within (ltb L) sub cur) asked ys) (l : Lent a ws ys back) (room : a + 8970 ≤ length ws) where
-  pub sub-answered : Sub back (a + 1794) asked
+module _ (L a cur : ℕ) (sub : Run (List Result)) (asked : Asked) (ws ys back : Words) (w : Answers (within (ltb L) sub cur) asked ys) (l : Lent a ws ys back) (room : a + 6410 ≤ length ws) where
+  pub sub-answered : Sub back (a + 1282) asked
   sub-answered = record {
     few = λ c m e. w .found c m e .few;
     low = λ c m e. w .found c m e .low;
-    row = λ c m e. let g = w .found c m e in record { results = g .results; size = g .size; slots = slots-back a 1794 ws ys back (g .results) l (omega (arith, g .size, g .few)) (g .stand) };
+    row = λ c m e. let g = w .found c m e in record { results = g .results; size = g .size; slots = slots-back a 1282 ws ys back (g .results) l (omega (arith, g .size, g .few)) (g .stand) };
   }
 
   -- What it answered, added behind n, is a step.
-  module _ (give : Result → Result) (out : Words) (n : ℕ) (r : Asked) (few : n ≤ 4) (behind-all : 8970 ≤ a) (s : Settles give back out n (a + 1794) asked r) where
+  module _ (give : Result → Result) (out : Words) (n : ℕ) (r : Asked) (few : n ≤ 4) (behind-all : 6410 ≤ a) (s : Settles give back out n (a + 1282) asked r) where
     pub settled : Stepped L (adding (sub >>= λ rs. done (map give rs))) n cur ws r out
     unfolding _>>=_
     settled = record { at = λ fs e t. by fs e t asked refl }
@@ -106,7 +106,7 @@ module _ (L a cur : ℕ) (sub : Run (List Result)) (asked : Asked) (ws ys back :
             let g = w .found c m p in
             answers-same _ (within (ltb L) (add-results fs (map give (g .results))) c) r out
             (ap (λ y. within (ltb L) y cur) (runs fs) ∙ then-got (ltb L) sub (λ rs. add-results fs (map give rs)) cur c (g .results) (g .is))
-            (s .found c m p .at fs (g .results) e (g .size) (stays fs e t) (slots-back a 1794 ws ys back (g .results) l (omega (arith, g .size, g .few)) (g .stand)) (ltb L))
+            (s .found c m p .at fs (g .results) e (g .size) (stays fs e t) (slots-back a 1282 ws ys back (g .results) l (omega (arith, g .size, g .few)) (g .stand)) (ltb L))
         by fs e t (Refused k c) p =
             subst (λ (x : Asked). Answers (within (ltb L) (adding (sub >>= λ rs. done (map give rs)) fs) cur) x out) (sym (s .refuses k c p))
             (answers-refused _ k c out (ap (λ y. within (ltb L) y cur) (runs fs) ∙ then-refused (ltb L) sub (λ rs. add-results fs (map give rs)) cur k c (w .refuses k c p)))

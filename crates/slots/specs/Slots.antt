@@ -21,10 +21,10 @@ use Rattle.trees.specs.Changes.{lies-same}
 
 -- The words of a slot, and where its trees stand in it.
 abbrev pub slot·length : ℕ
-slot·length = 1794
+slot·length = 1282
 
 abbrev pub slot·trees : ℕ
-slot·trees = 1537
+slot·trees = 1025
 
 -- A table stands at a place: the words from there on are packed, and are these types.
 pub record Table (ws : Words) (a : ℕ) (ts : Types) : Type 0 where
@@ -49,14 +49,14 @@ pub record Written (ws us : Words) (a : ℕ) (r : Result) : Type 0 where
   pub high : (i : ℕ) → a + slot·length ≤ i → at us i ≡ at ws i
 
 -- Words that are the same as far as a table has nodes are the same table.
-pub types-same : (ws us : Words) → at us 0 ≡ at ws 0 → ((i : ℕ) → i < 6 * at ws 0 + 1 → i < 1537 → at us i ≡ at ws i) → types-of us ≡ types-of ws
+pub types-same : (ws us : Words) → at us 0 ≡ at ws 0 → ((i : ℕ) → i < 4 * at ws 0 + 1 → i < 1025 → at us i ≡ at ws i) → types-of us ≡ types-of ws
 unfolding types-of
 types-same ws us e h =
     ap (λ n. up-to (node-of us) (min n limit·nodes)) e
-    ∙ up-to-same (node-of us) (node-of ws) (min (at ws 0) limit·nodes) (λ m l. node-same ws us m (λ j p q. h (6 * m + j) (omega arith) (omega arith)))
+    ∙ up-to-same (node-of us) (node-of ws) (min (at ws 0) limit·nodes) (λ m l. node-same ws us m (λ j p q. h (4 * m + j) (omega arith) (omega arith)))
 
 -- A table goes where its words go.
-pub table-move : (ws us : Words) (a b : ℕ) (ts : Types) → b + 1537 ≤ length us → ((i : ℕ) → i < 6 * at ws a + 1 → i < 1537 → at us (b + i) ≡ at ws (a + i)) → Table ws a ts → Table us b ts
+pub table-move : (ws us : Words) (a b : ℕ) (ts : Types) → b + 1025 ≤ length us → ((i : ℕ) → i < 4 * at ws a + 1 → i < 1025 → at us (b + i) ≡ at ws (a + i)) → Table ws a ts → Table us b ts
 table-move ws us a b ts room h t = record {
   packed = record {
     long = simp length-drop (omega arith);
@@ -69,7 +69,7 @@ table-move ws us a b ts room h t = record {
     here : at (drop a ws) 0 ≡ at ws a
     here = getD-drop a ws 0 0 ∙ ap (at ws) (omega arith)
 
-    word : (i : ℕ) → i < 6 * at ws a + 1 → i < 1537 → at (drop b us) i ≡ at (drop a ws) i
+    word : (i : ℕ) → i < 4 * at ws a + 1 → i < 1025 → at (drop b us) i ≡ at (drop a ws) i
     word i l m = getD-drop b us i 0 ∙ h i l m ∙ sym (getD-drop a ws i 0)
 
     first : at (drop b us) 0 ≡ at (drop a ws) 0

@@ -46,7 +46,7 @@ answers-refused o m c out e = record { found = λ d n p. absurd (no d n p); refu
     count : (k d : ℕ) → Refused m c ≡ Refused k d → c ≡ d
     count k d p = cc
 
-pub answers-found : (o : Out (List Result) × ℕ) (c n : ℕ) (rs : List Result) (out : Words) → o ≡ (got rs, c) → c ≤ count·most → length rs ≡ n → n ≤ 4 → Slots out 1794 rs → Answers o (Found c n) out
+pub answers-found : (o : Out (List Result) × ℕ) (c n : ℕ) (rs : List Result) (out : Words) → o ≡ (got rs, c) → c ≤ count·most → length rs ≡ n → n ≤ 4 → Slots out 1282 rs → Answers o (Found c n) out
 answers-found o c n rs out e low size few s = record {
   found = λ d k p. record {
     results = rs;

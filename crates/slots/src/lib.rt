@@ -14,9 +14,9 @@ ghost use Rattle.slots.specs.Gathering.{Row, Gathers, JoinGathers};
 ghost use Rattle.slots.specs.Settling.{Sub, Settles, JoinSettles};
 
 // The words of a slot, and where its trees stand in it.
-pub const SLOT: usize = 1794;
+pub const SLOT: usize = 1282;
 
-pub const TREES: usize = 1537;
+pub const TREES: usize = 1025;
 
 // The most nodes of a result's trees, and the most results.
 const NODES: usize = 256;
@@ -54,7 +54,7 @@ fn nodes(ws: &[u32], a: usize) -> usize
     requires { ⌜ Packed (drop a (now ws)) ⌝ }
     ensures is { λ r. ⌜ r ≡ at (now (ws .entry)) a ⌝ }
     ensures few { λ r. ⌜ r ≤ 256 ⌝ }
-    ensures room { λ _. ⌜ a + 1537 ≤ length (now (ws .entry)) ⌝ }
+    ensures room { λ _. ⌜ a + 1025 ≤ length (now (ws .entry)) ⌝ }
 {
     words::next(ws, a)
 }
@@ -62,18 +62,18 @@ fn nodes(ws: &[u32], a: usize) -> usize
 // Copies a table to another slot: the words of the nodes that it has.
 fn copy_table(ws: &mut [u32], from: usize, to: usize)
     requires { ⌜ Packed (drop from (now ws)) ⌝ }
-    requires { ⌜ to + 1794 ≤ length (now ws) ⌝ }
+    requires { ⌜ to + 1282 ≤ length (now ws) ⌝ }
     requires { ⌜ Beside from to ⌝ }
     ensures { λ _. ⌜ Tabled (now (ws .entry)) (now (ws .exit)) from to ⌝ }
 {
     let n = nodes(ws, from);
-    carry(ws, from, to, 6 * n + 1)
+    carry(ws, from, to, 4 * n + 1)
 }
 
 // Copies a table to another slot, without trees.
 pub fn copy_table_slot(ws: &mut [u32], from: usize, to: usize)
     requires { ⌜ Packed (drop from (now ws)) ⌝ }
-    requires { ⌜ to + 1794 ≤ length (now ws) ⌝ }
+    requires { ⌜ to + 1282 ≤ length (now ws) ⌝ }
     requires { ⌜ Beside from to ⌝ }
     ensures { λ _. ⌜ Written (now (ws .entry)) (now (ws .exit)) to (types-of (drop from (now (ws .entry))), end) ⌝ }
 {
@@ -84,7 +84,7 @@ pub fn copy_table_slot(ws: &mut [u32], from: usize, to: usize)
 // Copies a slot: the words that its table and its trees have.
 pub fn copy_slot(ws: &mut [u32], from: usize, to: usize)
     requires { ⌜ Filled (now ws) from ⌝ }
-    requires { ⌜ to + 1794 ≤ length (now ws) ⌝ }
+    requires { ⌜ to + 1282 ≤ length (now ws) ⌝ }
     requires { ⌜ Beside from to ⌝ }
     ensures { λ _. ⌜ Doubles (now (ws .entry)) (now (ws .exit)) from to ⌝ }
 {
@@ -95,7 +95,7 @@ pub fn copy_slot(ws: &mut [u32], from: usize, to: usize)
 // How many nodes the trees of a slot have.
 fn trees_size(ws: &[u32], a: usize) -> usize
     requires { ⌜ Filled (now ws) a ⌝ }
-    ensures is { λ r. ⌜ r ≡ at (now (ws .entry)) (a + 1537) ⌝ }
+    ensures is { λ r. ⌜ r ≡ at (now (ws .entry)) (a + 1025) ⌝ }
     ensures few { λ r. ⌜ r ≤ 256 ⌝ }
 {
     words::next(ws, a + TREES)
@@ -104,7 +104,7 @@ fn trees_size(ws: &[u32], a: usize) -> usize
 // Adds a result, as it stands in a slot, behind n.
 pub fn add_result(ws: &mut [u32], n: usize, from: usize) -> Adding
     requires { ⌜ n ≤ 4 ⌝ }
-    requires { ⌜ 8970 ≤ from ⌝ }
+    requires { ⌜ 6410 ≤ from ⌝ }
     requires { ⌜ Filled (now ws) from ⌝ }
     ensures { λ r. ⌜ Gives plain (now (ws .entry)) (now (ws .exit)) n from r ⌝ }
 {
@@ -118,7 +118,7 @@ pub fn add_result(ws: &mut [u32], n: usize, from: usize) -> Adding
 // Adds a result of sub-questions behind n, under the Def of an impl.
 pub fn add_wrapped(ws: &mut [u32], n: usize, from: usize, id: u32) -> Adding
     requires { ⌜ n ≤ 4 ⌝ }
-    requires { ⌜ 8970 ≤ from ⌝ }
+    requires { ⌜ 6410 ≤ from ⌝ }
     requires { ⌜ Filled (now ws) from ⌝ }
     requires { ⌜ id < 4096 ⌝ }
     ensures { λ r. ⌜ Gives (under id) (now (ws .entry)) (now (ws .exit)) n from r ⌝ }
@@ -139,10 +139,10 @@ pub fn add_wrapped(ws: &mut [u32], n: usize, from: usize, id: u32) -> Adding
 fn join(ws: &mut [u32], element: usize, from: usize, to: usize)
     requires { ⌜ Element (now ws) element ⌝ }
     requires { ⌜ Filled (now ws) from ⌝ }
-    requires { ⌜ to + 1794 ≤ length (now ws) ⌝ }
+    requires { ⌜ to + 1282 ≤ length (now ws) ⌝ }
     requires { ⌜ Beside element to ⌝ }
     requires { ⌜ Beside from to ⌝ }
-    requires { ⌜ at (now ws) (element + 1537) + at (now ws) (from + 1537) ≤ 256 ⌝ }
+    requires { ⌜ at (now ws) (element + 1025) + at (now ws) (from + 1025) ≤ 256 ⌝ }
     ensures { λ _. ⌜ Joined (now (ws .entry)) (now (ws .exit)) element from to ⌝ }
 {
     copy_table(ws, from, to);
@@ -153,8 +153,8 @@ fn join(ws: &mut [u32], element: usize, from: usize, to: usize)
 // Adds a result of the sub-questions that are left behind n: its trees behind the tree of the element that they were asked of.
 pub fn add_joined(ws: &mut [u32], n: usize, element: usize, from: usize) -> Adding
     requires { ⌜ n ≤ 4 ⌝ }
-    requires { ⌜ 8970 ≤ element ⌝ }
-    requires { ⌜ 8970 ≤ from ⌝ }
+    requires { ⌜ 6410 ≤ element ⌝ }
+    requires { ⌜ 6410 ≤ from ⌝ }
     requires { ⌜ Element (now ws) element ⌝ }
     requires { ⌜ Filled (now ws) from ⌝ }
     ensures { λ r. ⌜ Joins (now (ws .entry)) (now (ws .exit)) n element from r ⌝ }
@@ -176,7 +176,7 @@ pub fn add_leaf(ws: &mut [u32], n: usize, from: usize, kind: u32, id: u32) -> Ad
     requires { ⌜ n ≤ 4 ⌝ }
     requires { ⌜ Packed (drop from (now ws)) ⌝ }
     requires { ⌜ Aside from n ⌝ }
-    requires { ⌜ 8970 ≤ length (now ws) ⌝ }
+    requires { ⌜ 6410 ≤ length (now ws) ⌝ }
     requires { ⌜ kind < 8 ⌝ }
     requires { ⌜ id < 4096 ⌝ }
     ensures { λ r. ⌜ Adds (now (ws .entry)) (now (ws .exit)) n (types-of (drop from (now (ws .entry))), leaf kind id) r ⌝ }
@@ -194,8 +194,8 @@ pub fn add_leaf(ws: &mut [u32], n: usize, from: usize, kind: u32, id: u32) -> Ad
 fn gather_wrapped(ws: &mut [u32], n: usize, from: usize, m: usize, count: u32, id: u32) -> Asked
     requires { ⌜ n ≤ 4 ⌝ }
     requires { ⌜ m ≤ 4 ⌝ }
-    requires { ⌜ 8970 ≤ from ⌝ }
-    requires { ⌜ from + 7176 ≤ length (now ws) ⌝ }
+    requires { ⌜ 6410 ≤ from ⌝ }
+    requires { ⌜ from + 5128 ≤ length (now ws) ⌝ }
     requires { ⌜ Row (now ws) from m ⌝ }
     requires { ⌜ count ≤ 4000000000 ⌝ }
     requires { ⌜ id < 4096 ⌝ }
@@ -229,9 +229,9 @@ fn gather_joined(
 ) -> Asked
     requires { ⌜ n ≤ 4 ⌝ }
     requires { ⌜ m ≤ 4 ⌝ }
-    requires { ⌜ 8970 ≤ element ⌝ }
-    requires { ⌜ 8970 ≤ from ⌝ }
-    requires { ⌜ from + 7176 ≤ length (now ws) ⌝ }
+    requires { ⌜ 6410 ≤ element ⌝ }
+    requires { ⌜ 6410 ≤ from ⌝ }
+    requires { ⌜ from + 5128 ≤ length (now ws) ⌝ }
     requires { ⌜ Element (now ws) element ⌝ }
     requires { ⌜ Row (now ws) from m ⌝ }
     requires { ⌜ count ≤ 4000000000 ⌝ }
@@ -257,8 +257,8 @@ fn gather_joined(
 // Adds what sub-questions answered behind n, each result under the Def of an impl; a refusal is handed on.
 pub fn settle_wrapped(ws: &mut [u32], asked: Asked, n: usize, from: usize, id: u32) -> Asked
     requires { ⌜ n ≤ 4 ⌝ }
-    requires { ⌜ 8970 ≤ from ⌝ }
-    requires { ⌜ from + 7176 ≤ length (now ws) ⌝ }
+    requires { ⌜ 6410 ≤ from ⌝ }
+    requires { ⌜ from + 5128 ≤ length (now ws) ⌝ }
     requires { ⌜ Sub (now ws) from asked ⌝ }
     requires { ⌜ id < 4096 ⌝ }
     ensures { λ r. ⌜ Settles (under id) (now (ws .entry)) (now (ws .exit)) n from asked r ⌝ }
@@ -272,9 +272,9 @@ pub fn settle_wrapped(ws: &mut [u32], asked: Asked, n: usize, from: usize, id: u
 // Adds what the sub-questions that are left answered behind n, each result behind the tree of an element; a refusal is handed on.
 pub fn settle_joined(ws: &mut [u32], asked: Asked, n: usize, element: usize, from: usize) -> Asked
     requires { ⌜ n ≤ 4 ⌝ }
-    requires { ⌜ 8970 ≤ element ⌝ }
-    requires { ⌜ 8970 ≤ from ⌝ }
-    requires { ⌜ from + 7176 ≤ length (now ws) ⌝ }
+    requires { ⌜ 6410 ≤ element ⌝ }
+    requires { ⌜ 6410 ≤ from ⌝ }
+    requires { ⌜ from + 5128 ≤ length (now ws) ⌝ }
     requires { ⌜ Element (now ws) element ⌝ }
     requires { ⌜ Sub (now ws) from asked ⌝ }
     ensures { λ r. ⌜ JoinSettles (now (ws .entry)) (now (ws .exit)) n element from asked r ⌝ }

@@ -79,12 +79,12 @@ tail-asking ws qs from t h = record {
 -- Slot 0 is as it was.
 pub record Front (ws out : Words) : Type 0 where
   pub len : length out ≡ length ws
-  pub at : (i : ℕ) → i < 1794 → at out i ≡ at ws i
+  pub at : (i : ℕ) → i < 1282 → at out i ≡ at ws i
 
 -- Slots 0 to 4 are as they were.
 pub record Opened (ws out : Words) : Type 0 where
   pub len : length out ≡ length ws
-  pub at : (i : ℕ) → i < 8970 → at out i ≡ at ws i
+  pub at : (i : ℕ) → i < 6410 → at out i ≡ at ws i
 
 -- A question begins: built-ins and impl parameters have given results.
 pub record Begins (a : rules.Finder) (basic : Bool) (ws : Words) (q : ImplType) (count : ℕ) (r : Asked) (out : Words) : Type 0 where
@@ -96,11 +96,11 @@ pub record Opens (s ws : Words) (q : ImplType) (i : ℕ) (r : Queries) (out : Wo
   pub opened : Opened ws out
   pub full : r .n ≡ 5 → (ask : Types → ImplType → Run (List Result)) → try-candidate ask s (types-of ws) q i ≡ stop 14
   pub unfit : r .n ≡ 6 → (ask : Types → ImplType → Run (List Result)) → try-candidate ask s (types-of ws) q i ≡ done []
-  pub asks : r .n ≢ 5 → r .n ≢ 6 → (ask : Types → ImplType → Run (List Result)) → try-candidate ask s (types-of ws) q i ≡ (find-subimpls ask (types-of (part 8970 out)) (queries-of r) >>= λ rs. done (map (under i) rs))
-  pub tail : r .n ≢ 5 → r .n ≢ 6 → Tail (part 8970 out) r 0
+  pub asks : r .n ≢ 5 → r .n ≢ 6 → (ask : Types → ImplType → Run (List Result)) → try-candidate ask s (types-of ws) q i ≡ (find-subimpls ask (types-of (part 6410 out)) (queries-of r) >>= λ rs. done (map (under i) rs))
+  pub tail : r .n ≢ 5 → r .n ≢ 6 → Tail (part 6410 out) r 0
 
 -- Slot 0 is as it was: so is its table.
-pub front-table : (ws us : Words) → length us ≡ length ws → ((i : ℕ) → i < 1794 → at us i ≡ at ws i) → Packed ws → Table us 0 (types-of ws)
+pub front-table : (ws us : Words) → length us ≡ length ws → ((i : ℕ) → i < 1282 → at us i ≡ at ws i) → Packed ws → Table us 0 (types-of ws)
 front-table ws us e h p = table-move ws us 0 0 (types-of ws) (omega (arith, p .long)) (λ i l m. ap (at us) (let z : 0 + i ≡ i = omega arith in z) ∙ h i (omega arith) ∙ ap (at ws) (let z : i ≡ 0 + i = omega arith in z)) (record { packed = p; is = refl })
 
 pub asking-table : (ws us : Words) (q : Query) → Asking ws q → Table us 0 (types-of ws) → Asking us q

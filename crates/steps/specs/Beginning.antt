@@ -36,7 +36,7 @@ pub begins-basic : (s : Words) (f : Finder) (ws : Words) (q : Query) (basic coun
 unfolding before-candidates within
 begins-basic s f ws q basic count e low = record {
   front = record { len = refl; at = λ i l. refl };
-  at = λ L. answers-found _ count 0 [] ws (ap (λ (b : ℕ). within (ltb L) (before-candidates (finder-of s f) (eqb b 1) (types-of ws) (query-of q)) count) e) low refl (omega arith) (slots-none ws 1794);
+  at = λ L. answers-found _ count 0 [] ws (ap (λ (b : ℕ). within (ltb L) (before-candidates (finder-of s f) (eqb b 1) (types-of ws) (query-of q)) count) e) low refl (omega arith) (slots-none ws 1282);
 }
 
 -- Another: `first` is what the built-ins answered.
@@ -45,7 +45,7 @@ built s ws q = add-results [] (map (λ (t : Trees). (types-of ws, t)) (find-auto
 
 module _ (s ws us : Words) (q : Query) (count : ℕ) (first : Asked) (o : Autos s ws (query-of q) count first us) where
   answered : (L : ℕ) → Answers (within (ltb L) (built s ws q) count) first us
-  answered L = o .at L .at [] refl (slots-none ws 1794)
+  answered L = o .at L .at [] refl (slots-none ws 1282)
 
   pub autos-asking : Asking ws q → Asking us q
   autos-asking a = asking-table ws us q a (front-table ws us (o .len) (o .low) (a .packed))
@@ -57,7 +57,7 @@ module _ (s ws us : Words) (q : Query) (count : ℕ) (first : Asked) (o : Autos 
     pub autos-low : c ≤ 4000000000
     autos-low = answered 0 .found c n e .low
 
-    pub autos-row : Row us 1794 n
+    pub autos-row : Row us 1282 n
     autos-row = let g = answered 0 .found c n e in record { results = g .results; size = g .size; slots = g .stand }
 
 module _ (s : Words) (f : Finder) (ws us : Words) (q : Query) (basic count : ℕ) (first : Asked) (other : basic ≢ 1) (o : Autos s ws (query-of q) count first us) where

@@ -30,33 +30,33 @@ use Rattle.steps.specs.Asking.{finder-of, Sound, Asking, Opened}
 pub sound-sheet : (s : Words) (f : Finder) → Sound (finder-of s f) → opening.Sound s
 sound-sheet s f h = opening.sound-of (finder-of s f) (h .question) (h .ready) (h .ready .short)
 
-pub beside-behind : Beside 0 8970
+pub beside-behind : Beside 0 6410
 beside-behind = record { either = inl (omega arith) }
 
 -- The copy, with a question of the table.
-module _ (ws us : Words) (q : Query) (a : Asking ws q) (w : Written ws us 8970 (types-of ws, end)) where
-  copied : Table (part 8970 us) 0 (types-of ws)
-  copied = part-table 8970 us (types-of ws) (w .slot .table)
+module _ (ws us : Words) (q : Query) (a : Asking ws q) (w : Written ws us 6410 (types-of ws, end)) where
+  copied : Table (part 6410 us) 0 (types-of ws)
+  copied = part-table 6410 us (types-of ws) (w .slot .table)
 
-  pub behind-packed : Packed (part 8970 us)
+  pub behind-packed : Packed (part 6410 us)
   behind-packed = copied .packed
 
-  pub behind-neat : Neat (types-of (part 8970 us))
+  pub behind-neat : Neat (types-of (part 6410 us))
   behind-neat = subst Neat (sym (copied .is)) (a .neat)
 
-  pub behind-inside : AllIn (length (types-of (part 8970 us))) ((query-of q) .1)
+  pub behind-inside : AllIn (length (types-of (part 6410 us))) ((query-of q) .1)
   behind-inside = subst (λ (ts : Types). AllIn (length ts) ((query-of q) .1)) (sym (copied .is)) (a .inside)
 
 -- What came back: the table is that of the part, and slots 0 to 4 are as they were.
-module _ (ws us ys : Words) (w : Written ws us 8970 (types-of ws, end)) (kept : length ys ≡ length (part 8970 us)) where
+module _ (ws us ys : Words) (w : Written ws us 6410 (types-of ws, end)) (kept : length ys ≡ length (part 6410 us)) where
   abbrev back : Words
-  back = putMid 8970 (length us - 8970) us ys
+  back = putMid 6410 (length us - 6410) us ys
 
-  came : Lent 8970 us ys back
-  came = lent 8970 us ys (omega (arith, w .slot .room)) kept
+  came : Lent 6410 us ys back
+  came = lent 6410 us ys (omega (arith, w .slot .room)) kept
 
-  pub back-table : Packed ys → Table back 8970 (types-of ys)
-  back-table p = table-move ys back 0 8970 (types-of ys) (omega (arith, came .long, w .slot .room))
+  pub back-table : Packed ys → Table back 6410 (types-of ys)
+  back-table p = table-move ys back 0 6410 (types-of ys) (omega (arith, came .long, w .slot .room))
       (λ i l m. came .part i (omega (arith, w .slot .room)) ∙ ap (at ys) (let z : i ≡ 0 + i = omega arith in z)) (record { packed = p; is = refl })
 
   pub back-opened : Opened ws back
@@ -70,18 +70,18 @@ pub record ParamIn (a : rules.Finder) (p : Query) : Type 0 where
 -- It is met with the question behind slot 4.
 pub record Behind (s ws : Words) (o : ImplType × Types) (q : ImplType) (r : Signed) (out : Words) : Type 0 where
   pub opened : Opened ws out
-  pub meets : Meets s o q r (drop 8970 out)
+  pub meets : Meets s o q r (drop 6410 out)
 
 -- Its import.
 abbrev pub brought : rules.Finder → Types → ImplType → ImplType × Types
 brought a ts p = import-impl-type ((impl-params (a .sheet) (a .generics)) .0) none p ts
 
-pub behind-met : (s ws us ys : Words) (f : Finder) (q p : Query) (r : Signed) → Written ws us 8970 (types-of ws, end) → length ys ≡ length (part 8970 us) →
-    Meets s (import-impl-type ((impl-params s (f .generics)) .0) none (query-of p) (types-of (part 8970 us))) (query-of q) r ys →
-    Behind s ws (brought (finder-of s f) (types-of ws) (query-of p)) (query-of q) r (putMid 8970 (length us - 8970) us ys)
+pub behind-met : (s ws us ys : Words) (f : Finder) (q p : Query) (r : Signed) → Written ws us 6410 (types-of ws, end) → length ys ≡ length (part 6410 us) →
+    Meets s (import-impl-type ((impl-params s (f .generics)) .0) none (query-of p) (types-of (part 6410 us))) (query-of q) r ys →
+    Behind s ws (brought (finder-of s f) (types-of ws) (query-of p)) (query-of q) r (putMid 6410 (length us - 6410) us ys)
 behind-met s ws us ys f q p r w kept m =
     let t = back-table ws us ys w kept (m .packed) in
-    let n = subst (λ (ts : Types). Meets s (import-impl-type ((impl-params s (f .generics)) .0) none (query-of p) ts) (query-of q) r ys) (part-table 8970 us (types-of ws) (w .slot .table) .is) m in
+    let n = subst (λ (ts : Types). Meets s (import-impl-type ((impl-params s (f .generics)) .0) none (query-of p) ts) (query-of q) r ys) (part-table 6410 us (types-of ws) (w .slot .table) .is) m in
     record {
       opened = back-opened ws us ys w kept;
       meets = record {

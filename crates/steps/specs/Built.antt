@@ -40,21 +40,21 @@ pub tail-none : (ask : Types → ImplType → Run (List Result)) (ts : Types) �
 unfolding find-subimpls
 tail-none ask ts = refl
 
-pub beside-one : Beside 0 1794
+pub beside-one : Beside 0 1282
 beside-one = record { either = inl (omega arith) }
 
-pub none-left : (ws out : Words) (count : ℕ) → count ≤ 4000000000 → Written ws out 1794 (types-of ws, end) → NoneLeft ws count (Found count 1) out
+pub none-left : (ws out : Words) (count : ℕ) → count ≤ 4000000000 → Written ws out 1282 (types-of ws, end) → NoneLeft ws count (Found count 1) out
 unfolding within
 none-left ws out count low w = record {
   at = λ L ask. answers-found _ count 1 ((types-of ws, end) ∷ []) out (ap (λ r. within (ltb L) r count) (tail-none ask (types-of ws))) low refl (omega arith)
-      (slots-more out 1794 0 [] (types-of ws, end) refl (slots-none out 1794) (subst (λ a. Slot out a (types-of ws, end)) (let z : 1794 ≡ 1794 + 1794 * 0 = omega arith in z) (w .slot)));
+      (slots-more out 1282 0 [] (types-of ws, end) refl (slots-none out 1282) (subst (λ a. Slot out a (types-of ws, end)) (let z : 1282 ≡ 1282 + 1282 * 0 = omega arith in z) (w .slot)));
 }
 
 -- The types that stand at `from`, with a leaf, are added behind n; slot 0 and what lies behind slot 4 is as it was.
 pub record LeafStep (ws : Words) (n from k i count : ℕ) (r : Asked) (out : Words) : Type 0 where
   pub len : length out ≡ length ws
-  pub low : (j : ℕ) → j < 1794 → at out j ≡ at ws j
-  pub high : (j : ℕ) → 8970 ≤ j → at out j ≡ at ws j
+  pub low : (j : ℕ) → j < 1282 → at out j ≡ at ws j
+  pub high : (j : ℕ) → 6410 ≤ j → at out j ≡ at ws j
   pub at : (L : ℕ) → Stepped L (λ fs. add-results fs ((types-of (drop from ws), leaf k i) ∷ [])) n count ws r out
 
 pub leaf-added : (ws out : Words) (n from k i count : ℕ) (o : Adding) → Adds ws out n (types-of (drop from ws), leaf k i) o → o ≡ Added → count ≤ 4000000000 → LeafStep ws n from k i count (Found count (n + 1)) out
@@ -83,8 +83,8 @@ leaf-refused ws out n from k i count m o a e = record {
 -- Built-in fork and drop are added behind no results; slot 0 and what lies behind slot 4 is as it was.
 pub record Autos (s ws : Words) (q : ImplType) (count : ℕ) (r : Asked) (out : Words) : Type 0 where
   pub len : length out ≡ length ws
-  pub low : (j : ℕ) → j < 1794 → at out j ≡ at ws j
-  pub high : (j : ℕ) → 8970 ≤ j → at out j ≡ at ws j
+  pub low : (j : ℕ) → j < 1282 → at out j ≡ at ws j
+  pub high : (j : ℕ) → 6410 ≤ j → at out j ≡ at ws j
   pub at : (L : ℕ) → Stepped L (λ fs. add-results fs (map (λ (t : Trees). (types-of ws, t)) (find-auto-impls s (types-of ws) q))) 0 count ws r out
 
 -- The ids that built-ins may have are below 4,096.

@@ -227,15 +227,15 @@ module _ (s ws us : Words) (q : Query) (i : ℕ) (m : Signed) (w : Meets s (sign
           few l j = omega (arith, sought .most, l, j)
 
 -- The part is that behind slot 4, where the table was copied.
-module _ (ws us : Words) (q : Query) (w : Written ws us 8970 (types-of ws, end)) where
-  pub behind-asking : Asking ws q → Asking (part 8970 us) q
-  behind-asking a = asking-table ws (part 8970 us) q a (part-table 8970 us (types-of ws) (w .slot .table))
+module _ (ws us : Words) (q : Query) (w : Written ws us 6410 (types-of ws, end)) where
+  pub behind-asking : Asking ws q → Asking (part 6410 us) q
+  behind-asking a = asking-table ws (part 6410 us) q a (part-table 6410 us (types-of ws) (w .slot .table))
 
-  pub opens : (s : Words) (i : ℕ) (r : Queries) (ys : Words) → length ys ≡ length (part 8970 us) → PartOpens s (types-of (part 8970 us)) (query-of q) i r ys → Opens s ws (query-of q) i r (putMid 8970 (length us - 8970) us ys)
+  pub opens : (s : Words) (i : ℕ) (r : Queries) (ys : Words) → length ys ≡ length (part 6410 us) → PartOpens s (types-of (part 6410 us)) (query-of q) i r ys → Opens s ws (query-of q) i r (putMid 6410 (length us - 6410) us ys)
   opens s i r ys kept o =
-      let back = putMid 8970 (length us - 8970) us ys in
-      let same = part-table 8970 us (types-of ws) (w .slot .table) .is in
-      let t = part-table 8970 back (types-of ys) (back-table ws us ys w kept (o .packed)) in
+      let back = putMid 6410 (length us - 6410) us ys in
+      let same = part-table 6410 us (types-of ws) (w .slot .table) .is in
+      let t = part-table 6410 back (types-of ys) (back-table ws us ys w kept (o .packed)) in
       record {
         opened = back-opened ws us ys w kept;
         full = λ l ask. ap (λ (ts : Types). try-candidate ask s ts (query-of q) i) (sym same) ∙ o .full l ask;

@@ -139,15 +139,15 @@ module _ (s ws : Words) (f : Finder) (q p : Query) (k n count : ℕ) where
       };
     }
 
-    pub met-packed : Packed (drop 8970 us)
+    pub met-packed : Packed (drop 6410 us)
     met-packed = b .meets .packed
 
-    pub met-fits : m ≡ Fits → n ≤ 4 → (r : Asked) (out : Words) → LeafStep us n 8970 1 k count r out → ParamStep (finder-of s f) ws (query-of q) (query-of p) k n count r out
+    pub met-fits : m ≡ Fits → n ≤ 4 → (r : Asked) (out : Words) → LeafStep us n 6410 1 k count r out → ParamStep (finder-of s f) ws (query-of q) (query-of p) k n count r out
     met-fits x few r out l = let g = b .meets .fits x in record {
       front = record { len = l .len ∙ b .opened .len; at = λ i h. l .low i h ∙ b .opened .at i (omega arith) };
       at = λ L. record {
         at = λ fs z t.
-            answers-same _ (within (ltb L) (add-results fs ((types-of (drop 8970 us), leaf tree·param k) ∷ [])) count) r out
+            answers-same _ (within (ltb L) (add-results fs ((types-of (drop 6410 us), leaf tree·param k) ∷ [])) count) r out
             (ap (λ (y : Run (List Result)). within (ltb L) y count) (one-met (finder-of s f) (types-of ws) (query-of q) k (query-of p) fs e (g .room) (g .met) ∙ ap (λ (ts : Types). add-results fs ((ts, leaf tree·param k) ∷ [])) (sym (g .types))))
             (l .at L .at fs z (still few fs z t));
       };
@@ -169,7 +169,7 @@ pub record ParamsDone (s : Words) (f : Finder) (q : Query) (ps : Queries) (n₀ 
 pub params-few : (s : Words) (f : Finder) → Sound (finder-of s f) → Few ((impl-params s (f .generics)) .1)
 params-few s f h = few-params (finder-of s f) (h .question) (h .ready) (f .generics) (h .ready .generics)
 
-pub adding-start : (s : Words) (f : Finder) (q : Query) (ps : Queries) (n c : ℕ) (ws : Words) → Asking ws q → Row ws 1794 n → n ≤ 4 → c ≤ 4000000000 → ParamsDone s f q ps n c ws ws 0 n c
+pub adding-start : (s : Words) (f : Finder) (q : Query) (ps : Queries) (n c : ℕ) (ws : Words) → Asking ws q → Row ws 1282 n → n ≤ 4 → c ≤ 4000000000 → ParamsDone s f q ps n c ws ws 0 n c
 adding-start s f q ps n c ws a row few low = record {
   front = record { len = refl; at = λ i l. refl };
   asking = a;

@@ -41,7 +41,7 @@ pub struct Finder {
 }
 
 // Where a question's results end: a candidate's sub-questions begin there.
-pub const SUB: usize = 8970;
+pub const SUB: usize = 6410;
 
 // The kind of an impl parameter's tree.
 const PARAM: u32 = 1;
@@ -57,7 +57,7 @@ pub const NONE: usize = 384;
 // No sub-questions are left: the table itself, without trees.
 pub fn none_left(ws: &mut [u32], count: u32) -> Asked
     requires { ⌜ Packed (now ws) ⌝ }
-    requires { ⌜ 8970 ≤ length (now ws) ⌝ }
+    requires { ⌜ 6410 ≤ length (now ws) ⌝ }
     requires { ⌜ count ≤ 4000000000 ⌝ }
     ensures { λ r. ⌜ NoneLeft (now (ws .entry)) count r (now (ws .exit)) ⌝ }
 {
@@ -70,7 +70,7 @@ fn leaf_step(ws: &mut [u32], n: usize, from: usize, kind: u32, id: u32, count: u
     requires { ⌜ n ≤ 4 ⌝ }
     requires { ⌜ Packed (drop from (now ws)) ⌝ }
     requires { ⌜ Aside from n ⌝ }
-    requires { ⌜ 8970 ≤ length (now ws) ⌝ }
+    requires { ⌜ 6410 ≤ length (now ws) ⌝ }
     requires { ⌜ kind < 8 ⌝ }
     requires { ⌜ id < 4096 ⌝ }
     requires { ⌜ count ≤ 4000000000 ⌝ }
@@ -86,7 +86,7 @@ fn leaf_step(ws: &mut [u32], n: usize, from: usize, kind: u32, id: u32, count: u
 // Built-in fork and drop: adds what `find_auto_impls` finds.
 fn add_autos(sheet: &[u32], ws: &mut [u32], q: Query, count: u32) -> Asked
     requires { ⌜ Packed (now ws) ⌝ }
-    requires { ⌜ 8970 ≤ length (now ws) ⌝ }
+    requires { ⌜ 6410 ≤ length (now ws) ⌝ }
     requires { ⌜ q .n ≤ 4 ⌝ }
     requires { ⌜ SmallIds (now sheet) (types-of (now ws)) ⌝ }
     requires { ⌜ count ≤ 4000000000 ⌝ }
@@ -114,7 +114,7 @@ fn meet_behind(
     requires { ⌜ Sound (finder-of (now sheet) f) ⌝ }
     requires { ⌜ Scratch (now sheet) (now places) (now map) ⌝ }
     requires { ⌜ Asking (now ws) q ⌝ }
-    requires { ⌜ 10764 ≤ length (now ws) ⌝ }
+    requires { ⌜ 7692 ≤ length (now ws) ⌝ }
     requires { ⌜ ParamIn (finder-of (now sheet) f) p ⌝ }
     ensures { λ r. ⌜ Behind (now (sheet .entry)) (now (ws .entry)) (brought (finder-of (now (sheet .entry)) f) (types-of (now (ws .entry))) (query-of p)) (query-of q) r (now (ws .exit)) ⌝ }
 {
@@ -138,7 +138,7 @@ fn param_met(
     requires { ⌜ Sound (finder-of (now sheet) f) ⌝ }
     requires { ⌜ Scratch (now sheet) (now places) (now map) ⌝ }
     requires { ⌜ Asking (now ws) q ⌝ }
-    requires { ⌜ 10764 ≤ length (now ws) ⌝ }
+    requires { ⌜ 7692 ≤ length (now ws) ⌝ }
     requires { ⌜ ParamIn (finder-of (now sheet) f) p ⌝ }
     requires { ⌜ approx-eq (query-of q) (query-of p) ≡ true ⌝ }
     requires { ⌜ k < 4 ⌝ }
@@ -170,7 +170,7 @@ fn add_param(
     requires { ⌜ Sound (finder-of (now sheet) f) ⌝ }
     requires { ⌜ Scratch (now sheet) (now places) (now map) ⌝ }
     requires { ⌜ Asking (now ws) q ⌝ }
-    requires { ⌜ 10764 ≤ length (now ws) ⌝ }
+    requires { ⌜ 7692 ≤ length (now ws) ⌝ }
     requires { ⌜ ParamIn (finder-of (now sheet) f) p ⌝ }
     requires { ⌜ k < 4 ⌝ }
     requires { ⌜ n ≤ 4 ⌝ }
@@ -198,8 +198,8 @@ fn add_params(
     requires { ⌜ Sound (finder-of (now sheet) f) ⌝ }
     requires { ⌜ Scratch (now sheet) (now places) (now map) ⌝ }
     requires { ⌜ Asking (now ws) q ⌝ }
-    requires { ⌜ 10764 ≤ length (now ws) ⌝ }
-    requires { ⌜ Row (now ws) 1794 n ⌝ }
+    requires { ⌜ 7692 ≤ length (now ws) ⌝ }
+    requires { ⌜ Row (now ws) 1282 n ⌝ }
     requires { ⌜ n ≤ 4 ⌝ }
     requires { ⌜ count ≤ 4000000000 ⌝ }
     ensures { λ r. ⌜ ParamsStep (finder-of (now (sheet .entry)) f) (now (ws .entry)) (query-of q) n count r (now (ws .exit)) ⌝ }
@@ -242,7 +242,7 @@ pub fn before_candidates(
     requires { ⌜ Sound (finder-of (now sheet) f) ⌝ }
     requires { ⌜ Scratch (now sheet) (now places) (now map) ⌝ }
     requires { ⌜ Asking (now ws) q ⌝ }
-    requires { ⌜ 10764 ≤ length (now ws) ⌝ }
+    requires { ⌜ 7692 ≤ length (now ws) ⌝ }
     requires { ⌜ basic < 2 ⌝ }
     requires { ⌜ count ≤ 4000000000 ⌝ }
     ensures { λ r. ⌜ Begins (finder-of (now (sheet .entry)) f) (eqb basic 1) (now (ws .entry)) (query-of q) count r (now (ws .exit)) ⌝ }
@@ -276,7 +276,7 @@ pub fn built_ins(
 ) -> Asked
     requires { ⌜ Sound (finder-of (now sheet) f) ⌝ }
     requires { ⌜ Asking (now ws) q ⌝ }
-    requires { ⌜ 8970 ≤ length (now ws) ⌝ }
+    requires { ⌜ 6410 ≤ length (now ws) ⌝ }
     requires { ⌜ (impl-params (now sheet) (f .generics)) .1 ≡ [] ⌝ }
     requires { ⌜ count ≤ 4000000000 ⌝ }
     ensures { λ r. ⌜ Begins (finder-of (now (sheet .entry)) f) (eqb basic 1) (now (ws .entry)) (query-of q) count r (now (ws .exit)) ⌝ }
@@ -389,7 +389,7 @@ fn open_copy(
     requires { ⌜ Sound (finder-of (now sheet) f) ⌝ }
     requires { ⌜ Scratch (now sheet) (now places) (now map) ⌝ }
     requires { ⌜ Asking (now ws) q ⌝ }
-    requires { ⌜ 10764 ≤ length (now ws) ⌝ }
+    requires { ⌜ 7692 ≤ length (now ws) ⌝ }
     requires { ⌜ i < many (now sheet) header·impls ⌝ }
     ensures { λ r. ⌜ Opens (now (sheet .entry)) (now (ws .entry)) (query-of q) i r (now (ws .exit)) ⌝ }
 {
@@ -410,7 +410,7 @@ pub fn open_candidate(
     requires { ⌜ Sound (finder-of (now sheet) f) ⌝ }
     requires { ⌜ Scratch (now sheet) (now places) (now map) ⌝ }
     requires { ⌜ Asking (now ws) q ⌝ }
-    requires { ⌜ 10764 ≤ length (now ws) ⌝ }
+    requires { ⌜ 7692 ≤ length (now ws) ⌝ }
     requires { ⌜ i < many (now sheet) header·impls ⌝ }
     ensures { λ r. ⌜ Opens (now (sheet .entry)) (now (ws .entry)) (query-of q) i r (now (ws .exit)) ⌝ }
 {

@@ -23,33 +23,33 @@ copied-at (suc n) zero (x ∷ xs) (y ∷ ys) h a b = refl
 copied-at (suc n) (suc i) (x ∷ xs) (y ∷ ys) h a b = copied-at n i xs ys (le-of-suc-le-suc h) (le-of-suc-le-suc a) (le-of-suc-le-suc b)
 
 -- c is the count of a table, and w the same.
-pub copied-table : (from to us : Words) (c w : ℕ) → Packed from → 1537 ≤ length to → c ≡ length (types-of from) → w ≡ c → us ≡ copied (6 * w + 1) from to → Becomes us (types-of from)
+pub copied-table : (from to us : Words) (c w : ℕ) → Packed from → 1025 ≤ length to → c ≡ length (types-of from) → w ≡ c → us ≡ copied (4 * w + 1) from to → Becomes us (types-of from)
 unfolding types-of
 copied-table from to us c w g long ec ew e = rw e (record {
   packed = record {
-    long = omega (arith, copied-length (6 * w + 1) from to);
+    long = omega (arith, copied-length (4 * w + 1) from to);
     few = omega (arith, first, g .few);
     counted = subst Counted (sym same) (g .counted);
   };
   is = same;
 })
   where
-    first : at (copied (6 * w + 1) from to) 0 ≡ at from 0
-    first = copied-at (6 * w + 1) 0 from to (omega arith) (omega (arith, g .long)) (omega arith)
+    first : at (copied (4 * w + 1) from to) 0 ≡ at from 0
+    first = copied-at (4 * w + 1) 0 from to (omega arith) (omega (arith, g .long)) (omega arith)
 
     low : c ≤ limit·nodes
     low = omega (arith, types-length from)
 
-    node : (m : ℕ) → m < c → node-of (copied (6 * w + 1) from to) m ≡ node-of from m
-    node m h = node-same from (copied (6 * w + 1) from to) m (λ j a b. copied-at (6 * w + 1) (6 * m + j) from to (omega arith) (omega (arith, g .long, low)) (omega (arith, low)))
+    node : (m : ℕ) → m < c → node-of (copied (4 * w + 1) from to) m ≡ node-of from m
+    node m h = node-same from (copied (4 * w + 1) from to) m (λ j a b. copied-at (4 * w + 1) (4 * m + j) from to (omega arith) (omega (arith, g .long, low)) (omega (arith, low)))
 
-    same : types-of (copied (6 * w + 1) from to) ≡ types-of from
+    same : types-of (copied (4 * w + 1) from to) ≡ types-of from
     same =
-        ap (λ n. up-to (node-of (copied (6 * w + 1) from to)) (min n limit·nodes)) first
-        ∙ up-to-same (node-of (copied (6 * w + 1) from to)) (node-of from) (min (at from 0) limit·nodes) (λ i h. node i (omega (arith, types-length from)))
+        ap (λ n. up-to (node-of (copied (4 * w + 1) from to)) (min n limit·nodes)) first
+        ∙ up-to-same (node-of (copied (4 * w + 1) from to)) (node-of from) (min (at from 0) limit·nodes) (λ i h. node i (omega (arith, types-length from)))
 
 -- A table without nodes.
-pub cleared-table : (ws : Words) → 1537 ≤ length ws → Becomes (set ws 0 0) []
+pub cleared-table : (ws : Words) → 1025 ≤ length ws → Becomes (set ws 0 0) []
 unfolding types-of up-to
 cleared-table ws long = record {
   packed = record {

@@ -19,44 +19,41 @@ use Rattle.rules.specs.Answer.{word-of-type}
 use Rattle.rules.specs.Joining.{map-length}
 use Rattle.rules.specs.Pigeonholes.{lt-or}
 use Rattle.table.specs.Reads.{unknown-here}
-use Rattle.table.specs.Packing.{head·size, head·arity, head·inverted, eight, state-of, node-from, node-of, types-of, up-at, kind-at, kind-in, Counted, Packed, Put, Rewritten, Becomes, Roots, Head}
+use Rattle.table.specs.Packing.{head·kind, head·size, head·arity, head·inverted, eight, state-of, id-from, node-from, node-of, with-head, types-of, up-at, kind-at, kind-in, Counted, Packed, Put, Rewritten, Becomes, Roots, Head}
 use Rattle.table.specs.Nodes.{type-word, types-few, node-in, node-past}
 use Rattle.table.specs.Classes.{relabel-state, map-node, sizes-most, counted-hang}
-use Rattle.table.specs.Writes.{put-head, put-is, put-node, head-node, even-type, bit-back}
+use Rattle.table.specs.Writes.{put-is, put-node, head-node, even-type, bit-back}
 
 -- A node as type t of its root.
 unfoldable pub moved : Ty → TypeNode → TypeNode
 moved t nd = record { up = t; state = nd .state; size = nd .size }
 
 -- The head that says so.
-pub up-head : (h u : ℕ) → u < 512 → Head (h % 18 + 18 * (u + 512 * (h / 18 / 512 % 512))) u (head·size h) (head·arity h) (head·inverted h)
+up-head : (h u : ℕ) → u < 512 → Head (h % 512 + 512 * (u + 512 * (h / 262144 % 512))) (head·kind h) u (head·size h) (head·arity h) (head·inverted h)
 up-head h u l = record {
+  kind = omega arith;
   up-word = omega arith;
   size-word = omega arith;
   arity = omega arith;
-  inverted = ap (λ j. eqb j 1) (let q : (h % 18 + 18 * (u + 512 * (h / 18 / 512 % 512))) % 2 ≡ h % 2 = omega arith in q);
+  inverted = ap (λ j. eqb j 1) (let q : (h % 512 + 512 * (u + 512 * (h / 262144 % 512))) / 16 % 2 ≡ h / 16 % 2 = omega arith in q);
 }
 
-node-here : (ws : Words) (n h : ℕ) → n < length (types-of ws) → h ≡ at ws (6 * n + 1) → node-at (types-of ws) n ≡ node-from h (at ws (6 * n + 2)) (at ws (6 * n + 3)) (at ws (6 * n + 4)) (at ws (6 * n + 5)) (at ws (6 * n + 6))
-unfolding node-of
-node-here ws n h l e = node-in ws n l ∙ ap (λ g. node-from g (at ws (6 * n + 2)) (at ws (6 * n + 3)) (at ws (6 * n + 4)) (at ws (6 * n + 5)) (at ws (6 * n + 6))) (sym e)
+node-here : (ws : Words) (n h : ℕ) → n < length (types-of ws) → h ≡ at ws (4 * n + 1) → node-at (types-of ws) n ≡ with-head h ws n
+unfolding node-of with-head
+node-here ws n h l e = node-in ws n l ∙ ap (λ g. with-head g ws n) (sym e)
 
-from-moved : (h k d x y z : ℕ) (t : Ty) → moved t (node-from h k d x y z) ≡ record { up = t; state = state-of k (head·inverted h) d (take (head·arity h) (eight x y z)); size = head·size h }
+from-moved : (h x y z : ℕ) (t : Ty) → moved t (node-from h x y z) ≡ record { up = t; state = state-of (head·kind h) (head·inverted h) (id-from (head·arity h) z) (take (head·arity h) (eight x y z)); size = head·size h }
 unfolding node-from moved
-from-moved h k d x y z t = refl
+from-moved h x y z t = refl
 
-pub set-up : (ws : Words) (n w h u : ℕ) → 1537 ≤ length ws → n < length (types-of ws) → w ≡ n → u < 512 → h ≡ at ws (6 * n + 1) → Rewritten ws (set ws (6 * w + 1) (h % 18 + 18 * (u + 512 * (h / 18 / 512 % 512)))) (set (types-of ws) n (moved (type-of-word u) (node-at (types-of ws) n)))
-unfolding moved
-set-up ws n w h u long l e lu eh =
-    put-node ws (set ws (6 * w + 1) (h % 18 + 18 * (u + 512 * (h / 18 / 512 % 512)))) n (moved (type-of-word u) (node-at (types-of ws) n)) l
-    (put-is ws (set ws (6 * w + 1) (h % 18 + 18 * (u + 512 * (h / 18 / 512 % 512)))) n _ (moved (type-of-word u) (node-at (types-of ws) n)) whole (put-head ws n w (h % 18 + 18 * (u + 512 * (h / 18 / 512 % 512))) e (omega (arith, types-few ws)) long))
+pub set-up : (ws us : Words) (n h u : ℕ) → n < length (types-of ws) → u < 512 → h ≡ at ws (4 * n + 1) → Put ws us n (with-head (h % 512 + 512 * (u + 512 * (h / 262144 % 512))) ws n) → Rewritten ws us (set (types-of ws) n (moved (type-of-word u) (node-at (types-of ws) n)))
+unfolding moved with-head
+set-up ws us n h u l lu eh p =
+    put-node ws us n (moved (type-of-word u) (node-at (types-of ws) n)) l (put-is ws us n _ (moved (type-of-word u) (node-at (types-of ws) n)) whole p)
   where
-    there : node-at (types-of ws) n ≡ node-from h (at ws (6 * n + 2)) (at ws (6 * n + 3)) (at ws (6 * n + 4)) (at ws (6 * n + 5)) (at ws (6 * n + 6))
-    there = node-here ws n h l eh
-
-    whole : node-from (h % 18 + 18 * (u + 512 * (h / 18 / 512 % 512))) (at ws (6 * n + 2)) (at ws (6 * n + 3)) (at ws (6 * n + 4)) (at ws (6 * n + 5)) (at ws (6 * n + 6)) ≡ moved (type-of-word u) (node-at (types-of ws) n)
-    whole = head-node _ u (head·size h) (head·arity h) (head·inverted h) (at ws (6 * n + 2)) (at ws (6 * n + 3)) (at ws (6 * n + 4)) (at ws (6 * n + 5)) (at ws (6 * n + 6)) (up-head h u lu)
-        ∙ sym (ap (moved (type-of-word u)) there ∙ from-moved h (at ws (6 * n + 2)) (at ws (6 * n + 3)) (at ws (6 * n + 4)) (at ws (6 * n + 5)) (at ws (6 * n + 6)) (type-of-word u))
+    whole : with-head (h % 512 + 512 * (u + 512 * (h / 262144 % 512))) ws n ≡ moved (type-of-word u) (node-at (types-of ws) n)
+    whole = head-node _ (head·kind h) u (head·size h) (head·arity h) (head·inverted h) (at ws (4 * n + 2)) (at ws (4 * n + 3)) (at ws (4 * n + 4)) (up-head h u lu)
+        ∙ sym (ap (moved (type-of-word u)) (node-here ws n h l eh) ∙ from-moved h (at ws (4 * n + 2)) (at ws (4 * n + 3)) (at ws (4 * n + 4)) (type-of-word u))
 
 -- The first i nodes of a table, changed.
 unfoldable pub firsts : (TypeNode → TypeNode) → ℕ → Types → Types
@@ -142,7 +139,7 @@ unfolding firsts
 firsts-none ws f = record { len = refl; count = refl; is = refl }
 
 module _ (ws vs : Words) (n i : ℕ) (f : TypeNode → TypeNode) (en : n ≡ length (types-of ws)) (w : Rewritten ws vs (firsts f i (types-of ws))) where
-  pub firsts-long : 1537 ≤ length ws → 1537 ≤ length vs
+  pub firsts-long : 1025 ≤ length ws → 1025 ≤ length vs
   firsts-long h = omega (arith, w .len)
 
   pub firsts-in : i < n → i < length (types-of vs)
@@ -170,48 +167,38 @@ unfolding invert-state state-of
 invert-of b zero i d cs = refl
 invert-of b (suc k) i d cs = refl
 
--- What the words of node m are with another head.
-unfoldable pub with-head : ℕ → Words → ℕ → TypeNode
-with-head h ws m = node-from h (at ws (6 * m + 2)) (at ws (6 * m + 3)) (at ws (6 * m + 4)) (at ws (6 * m + 5)) (at ws (6 * m + 6))
-
-pub copied-node : (ws us : Words) (n m h k d x y z : ℕ) → k ≡ at ws (6 * m + 2) → d ≡ at ws (6 * m + 3) → x ≡ at ws (6 * m + 4) → y ≡ at ws (6 * m + 5) → z ≡ at ws (6 * m + 6) → Put ws us n (node-from h k d x y z) → Put ws us n (with-head h ws m)
+pub copied-node : (ws us : Words) (n m h x y z : ℕ) → x ≡ at ws (4 * m + 2) → y ≡ at ws (4 * m + 3) → z ≡ at ws (4 * m + 4) → Put ws us n (node-from h x y z) → Put ws us n (with-head h ws m)
 unfolding with-head
-copied-node ws us n m h k d x y z ek ed ex ey ez p = put-is ws us n (node-from h k d x y z) (with-head h ws m) (cc) p
+copied-node ws us n m h x y z ex ey ez p = put-is ws us n (node-from h x y z) (with-head h ws m) (cc) p
 
 -- j says whether a state is inverted once it is inverted by b.
-pub turned-head : (h g u size m i : ℕ) (b j : Bool) → j ≡ xor b (eqb (h % 2) 1) → i ≡ bit j → Head g u size m (eqb i 1) → Head g u size m (xor b (eqb (h % 2) 1))
-turned-head h g u size m i b j ej ei e = subst (λ (c : Bool). Head g u size m c) (bit-back j i ei ∙ ej) e
+pub turned-head : (h g k u size m i : ℕ) (b j : Bool) → j ≡ xor b (eqb (h / 16 % 2) 1) → i ≡ bit j → Head g k u size m (eqb i 1) → Head g k u size m (xor b (eqb (h / 16 % 2) 1))
+turned-head h g k u size m i b j ej ei e = subst (λ (c : Bool). Head g k u size m c) (bit-back j i ei ∙ ej) e
 
 -- The words of node m are written at node n, with a head g of its own, inverted by b.
-pub wrote-state : (ws us : Words) (n m size h g : ℕ) (b : Bool) → n < length (types-of ws) → m < length (types-of ws) → h ≡ at ws (6 * m + 1) → Head g (2 * n) size (h % 18 / 2) (xor b (eqb (h % 2) 1)) → Put ws us n (with-head g ws m) → Rewritten ws us (set (types-of ws) n (root-node n (invert-state b (state-at (types-of ws) m)) size))
+pub wrote-state : (ws us : Words) (n m size h g : ℕ) (b : Bool) → n < length (types-of ws) → m < length (types-of ws) → h ≡ at ws (4 * m + 1) → Head g (h % 16) (2 * n) size (h / 32 % 16) (xor b (eqb (h / 16 % 2) 1)) → Put ws us n (with-head g ws m) → Rewritten ws us (set (types-of ws) n (root-node n (invert-state b (state-at (types-of ws) m)) size))
 unfolding root-node state-at node-from with-head
 wrote-state ws us n m size h g b hn hm eh e p =
     put-node ws us n (root-node n (invert-state b (state-at (types-of ws) m)) size) hn
     (put-is ws us n (with-head g ws m) (root-node n (invert-state b (state-at (types-of ws) m)) size) whole p)
   where
-    k : ℕ
-    k = at ws (6 * m + 2)
-
-    d : ℕ
-    d = at ws (6 * m + 3)
-
     x : ℕ
-    x = at ws (6 * m + 4)
+    x = at ws (4 * m + 2)
 
     y : ℕ
-    y = at ws (6 * m + 5)
+    y = at ws (4 * m + 3)
 
     z : ℕ
-    z = at ws (6 * m + 6)
+    z = at ws (4 * m + 4)
 
-    st : state-at (types-of ws) m ≡ state-of k (eqb (h % 2) 1) d (take (h % 18 / 2) (eight x y z))
+    st : state-at (types-of ws) m ≡ state-of (h % 16) (eqb (h / 16 % 2) 1) (id-from (h / 32 % 16) z) (take (h / 32 % 16) (eight x y z))
     st = ap (λ nd. nd .state) (node-here ws m h hm eh)
 
     whole : with-head g ws m ≡ root-node n (invert-state b (state-at (types-of ws) m)) size
     whole =
-        head-node g (2 * n) size (h % 18 / 2) (xor b (eqb (h % 2) 1)) k d x y z e
+        head-node g (h % 16) (2 * n) size (h / 32 % 16) (xor b (eqb (h / 16 % 2) 1)) x y z e
         ∙ ap₂ (λ (t : Ty) (s : TypeState). record { up = t; state = s; size = size }) (even-type n)
-        (sym (invert-of b k (eqb (h % 2) 1) d (take (h % 18 / 2) (eight x y z))) ∙ ap (invert-state b) (sym st))
+        (sym (invert-of b (h % 16) (eqb (h / 16 % 2) 1) (id-from (h / 32 % 16) z) (take (h / 32 % 16) (eight x y z))) ∙ ap (invert-state b) (sym st))
 
 upright : (st : TypeState) → invert-state false st ≡ st
 unfolding invert-state
@@ -259,7 +246,7 @@ module _ (ws : Words) (lo hi : ℕ) (g : Packed ws) (r : Roots (types-of ws) (ty
   high-low = omega (arith, types-few ws, r .right-in)
 
   -- The nodes of both are there after the class is relabelled.
-  pub moved-long : (vs : Words) (f : TypeNode → TypeNode) → Rewritten ws vs (map f (types-of ws)) → 1537 ≤ length vs
+  pub moved-long : (vs : Words) (f : TypeNode → TypeNode) → Rewritten ws vs (map f (types-of ws)) → 1025 ≤ length vs
   moved-long vs f w = omega (arith, w .len, g .long)
 
   pub moved-high : (vs : Words) (f : TypeNode → TypeNode) → Rewritten ws vs (map f (types-of ws)) → hi / 2 < length (types-of vs)

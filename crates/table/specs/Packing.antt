@@ -1,5 +1,6 @@
--- A type table in words. Word 0 counts the nodes; node n has the six words from 6 * n + 1 on: a head (which type of its root it is, the size of its class,
--- the count of its children, inverted or not), the kind (0: unknown), the id, and up to eight children at three type words to a word.
+-- A type table in words. Word 0 counts the nodes; node n has the four words from 4 * n + 1 on: a head (the kind, 0 for unknown; inverted or not; the count of its children;
+-- which type of its root it is; the size of its class), and up to eight children at three type words to a word. The last word has the id above its two children;
+-- where there are no children it is the id.
 use Prim.Native.Nat.{ℕ, zero, suc, _+_, _*_, _/_, _%_, _≤_, _<_, min}
 use mathlib.Core.Path.{_≡_}
 use mathlib.Core.Logic.{_≢_}
@@ -8,7 +9,7 @@ use mathlib.Core.List.{List, [], _∷_, _++_}
 use lib.Dec.{eqb}
 use lib.ListN.{length, take}
 use Rattle.rules.specs.Lists.{Words}
-use Rattle.rules.specs.Limits.{limit·nodes}
+use Rattle.rules.specs.Limits.{limit·sheet, limit·nodes}
 use Rattle.rules.specs.Sheet.{at}
 use Rattle.rules.specs.Types.{Ty, TypeState, unknown, known, TypeNode, Types, new-node, node-at, state-at, size-at}
 use Rattle.rules.specs.Transfer.{type-of-word}
@@ -17,25 +18,28 @@ use Rattle.rules.specs.Readings.{Acyclic}
 
 -- The words of a table.
 abbrev pub table·length : ℕ
-table·length = 1537
+table·length = 1025
 
 -- f 0, f 1, .. f (n - 1).
 unfoldable pub up-to : {A : Type 0} → (ℕ → A) → ℕ → List A
 up-to f zero = []
 up-to f (suc n) = up-to f n ++ (f n ∷ [])
 
--- What a head holds: which type of its root the node is, the size of its class, how many children, inverted or not.
-abbrev pub head·up : ℕ → ℕ
-head·up h = h / 18 % 512
-
-abbrev pub head·size : ℕ → ℕ
-head·size h = h / 18 / 512 % 512
-
-abbrev pub head·arity : ℕ → ℕ
-head·arity h = h % 18 / 2
+-- What a head holds: the kind, inverted or not, how many children, which type of its root the node is, the size of its class.
+abbrev pub head·kind : ℕ → ℕ
+head·kind h = h % 16
 
 abbrev pub head·inverted : ℕ → Bool
-head·inverted h = eqb (h % 2) 1
+head·inverted h = eqb (h / 16 % 2) 1
+
+abbrev pub head·arity : ℕ → ℕ
+head·arity h = h / 32 % 16
+
+abbrev pub head·up : ℕ → ℕ
+head·up h = h / 512 % 512
+
+abbrev pub head·size : ℕ → ℕ
+head·size h = h / 262144 % 512
 
 -- The eight children that three words have room for.
 unfoldable pub eight : ℕ → ℕ → ℕ → List Ty
@@ -49,13 +53,22 @@ unfoldable pub state-of : ℕ → Bool → ℕ → List Ty → TypeState
 state-of zero i d cs = unknown
 state-of (suc k) i d cs = known i (suc k) d cs
 
--- The node that six words are.
-unfoldable pub node-from : ℕ → ℕ → ℕ → ℕ → ℕ → ℕ → TypeNode
-node-from h k d a b c = record { up = type-of-word (head·up h); state = state-of k (head·inverted h) d (take (head·arity h) (eight a b c)); size = head·size h }
+-- The id that the last word has, by the count of children.
+unfoldable pub id-from : ℕ → ℕ → ℕ
+id-from zero c = c
+id-from (suc m) c = c / 262144
+
+-- The node that four words are.
+unfoldable pub node-from : ℕ → ℕ → ℕ → ℕ → TypeNode
+node-from h a b c = record { up = type-of-word (head·up h); state = state-of (head·kind h) (head·inverted h) (id-from (head·arity h) c) (take (head·arity h) (eight a b c)); size = head·size h }
 
 -- Node n of a table.
 unfoldable pub node-of : Words → ℕ → TypeNode
-node-of ws n = node-from (at ws (6 * n + 1)) (at ws (6 * n + 2)) (at ws (6 * n + 3)) (at ws (6 * n + 4)) (at ws (6 * n + 5)) (at ws (6 * n + 6))
+node-of ws n = node-from (at ws (4 * n + 1)) (at ws (4 * n + 2)) (at ws (4 * n + 3)) (at ws (4 * n + 4))
+
+-- What the words of node n are with another head.
+unfoldable pub with-head : ℕ → Words → ℕ → TypeNode
+with-head h ws n = node-from h (at ws (4 * n + 2)) (at ws (4 * n + 3)) (at ws (4 * n + 4))
 
 -- The table that words are.
 unfoldable pub types-of : Words → Types
@@ -137,11 +150,16 @@ pub record Roots (ts : Types) (x y : Ty) : Type 0 where
   pub apart : x .1 ≢ y .1
 
 -- A head with such fields.
-pub record Head (h u size m : ℕ) (i : Bool) : Type 0 where
+pub record Head (h k u size m : ℕ) (i : Bool) : Type 0 where
+  pub kind : head·kind h ≡ k
   pub up-word : head·up h ≡ u
   pub size-word : head·size h ≡ size
   pub arity : head·arity h ≡ m
   pub inverted : head·inverted h ≡ i
+
+-- An id that fits above as many children: any where there are none.
+pub record Above (d n : ℕ) : Type 0 where
+  pub small : 0 < n → d < limit·sheet
 
 -- Words that are types of a table: each below 512.
 pub record TypeWords (cs : Words) : Type 0 where

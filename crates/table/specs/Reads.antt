@@ -18,12 +18,12 @@ use Rattle.rules.specs.AcyclicLaws.{children-at}
 use Rattle.rules.specs.Transfer.{type-of-word}
 use Rattle.rules.specs.Answer.{word-of-type}
 use Rattle.rules.specs.Solutions.{rep}
-use Rattle.table.specs.Packing.{types-of, node-of, node-from, state-of, eight, head·up, head·size, head·arity, head·inverted, kind-in, inverted-in, id-in, up-at, kind-at, inverted-at, id-at}
+use Rattle.table.specs.Packing.{types-of, node-of, node-from, id-from, state-of, eight, head·kind, head·up, head·size, head·arity, head·inverted, kind-in, inverted-in, id-in, up-at, kind-at, inverted-at, id-at}
 use Rattle.table.specs.Nodes.{types-length, node-in, node-past, word-type, type-word}
 
 -- A word of a node, at the place that was computed.
-pub field-at : (ws : Words) (n m k r : ℕ) → m ≡ n → r ≡ at ws (6 * m + k) → r ≡ at ws (6 * n + k)
-field-at ws n m k r e q = q ∙ ap (λ x. at ws (6 * x + k)) e
+pub field-at : (ws : Words) (n m k r : ℕ) → m ≡ n → r ≡ at ws (4 * m + k) → r ≡ at ws (4 * n + k)
+field-at ws n m k r e q = q ∙ ap (λ x. at ws (4 * x + k)) e
 
 -- The count that is read.
 pub count-low : (ws : Words) (n : ℕ) → n ≡ at ws 0 → n < 256 → n ≡ length (types-of ws)
@@ -33,12 +33,12 @@ pub count-high : (ws : Words) (n : ℕ) → n ≡ at ws 0 → 256 ≤ n → 256 
 count-high ws n e h = omega (arith, types-length ws)
 
 -- c is the count, and w the head of node n.
-module _ (ws : Words) (n c w : ℕ) (ec : c ≡ length (types-of ws)) (h : n < c) (e : w ≡ at ws (6 * n + 1)) where
-  pub up-in : w / 18 % 512 ≡ word-of-type (up-at (types-of ws) n)
+module _ (ws : Words) (n c w : ℕ) (ec : c ≡ length (types-of ws)) (h : n < c) (e : w ≡ at ws (4 * n + 1)) where
+  pub up-in : w / 512 % 512 ≡ word-of-type (up-at (types-of ws) n)
   unfolding up-at node-of node-from
-  up-in = ap head·up e ∙ sym (ap (λ nd. word-of-type (nd .up)) (node-in ws n (omega arith)) ∙ word-type (head·up (at ws (6 * n + 1))))
+  up-in = ap head·up e ∙ sym (ap (λ nd. word-of-type (nd .up)) (node-in ws n (omega arith)) ∙ word-type (head·up (at ws (4 * n + 1))))
 
-  pub size-in : w / 18 / 512 % 512 ≡ size-at (types-of ws) n
+  pub size-in : w / 262144 % 512 ≡ size-at (types-of ws) n
   unfolding size-at node-of node-from
   size-in = ap head·size e ∙ sym (ap (λ nd. nd .size) (node-in ws n (omega arith)))
 
@@ -47,7 +47,7 @@ pub few-nodes : (ws : Words) (n : ℕ) → n < length (types-of ws) → n < 256
 few-nodes ws n h = omega (arith, types-length ws)
 
 -- The same of a node that is there.
-pub up-here : (ws : Words) (n w : ℕ) → n < length (types-of ws) → w ≡ at ws (6 * n + 1) → w / 18 % 512 ≡ word-of-type (up-at (types-of ws) n)
+pub up-here : (ws : Words) (n w : ℕ) → n < length (types-of ws) → w ≡ at ws (4 * n + 1) → w / 512 % 512 ≡ word-of-type (up-at (types-of ws) n)
 up-here ws n w h e = up-in ws n (length (types-of ws)) w refl h e
 
 module _ (ts : Types) (n c : ℕ) (ec : c ≡ length ts) (h : c ≤ n) where
@@ -68,13 +68,13 @@ unfolding kind-in state-of
 state-kind zero i d cs = refl
 state-kind (suc k) i d cs = refl
 
--- w is the kind word of node n.
-pub kind-here : (ws : Words) (n c w : ℕ) → c ≡ length (types-of ws) → n < c → w ≡ at ws (6 * n + 2) → w ≡ kind-at (types-of ws) n
+-- w is the head of node n.
+pub kind-here : (ws : Words) (n c w : ℕ) → c ≡ length (types-of ws) → n < c → w ≡ at ws (4 * n + 1) → w % 16 ≡ kind-at (types-of ws) n
 unfolding kind-at state-at node-of node-from
-kind-here ws n c w ec h e = e ∙ sym (ap (λ nd. kind-in (nd .state)) (node-in ws n (omega arith)) ∙ state-kind (at ws (6 * n + 2)) _ _ _)
+kind-here ws n c w ec h e = ap head·kind e ∙ sym (ap (λ nd. kind-in (nd .state)) (node-in ws n (omega arith)) ∙ state-kind (head·kind (at ws (4 * n + 1))) _ _ _)
 
 -- What a node of the table is.
-state-here : (ws : Words) (n : ℕ) → n < length (types-of ws) → state-at (types-of ws) n ≡ state-of (at ws (6 * n + 2)) (head·inverted (at ws (6 * n + 1))) (at ws (6 * n + 3)) (take (head·arity (at ws (6 * n + 1))) (eight (at ws (6 * n + 4)) (at ws (6 * n + 5)) (at ws (6 * n + 6))))
+state-here : (ws : Words) (n : ℕ) → n < length (types-of ws) → state-at (types-of ws) n ≡ state-of (head·kind (at ws (4 * n + 1))) (head·inverted (at ws (4 * n + 1))) (id-from (head·arity (at ws (4 * n + 1))) (at ws (4 * n + 4))) (take (head·arity (at ws (4 * n + 1))) (eight (at ws (4 * n + 2)) (at ws (4 * n + 3)) (at ws (4 * n + 4))))
 unfolding state-at node-of node-from
 state-here ws n h = ap (λ nd. nd .state) (node-in ws n h)
 
@@ -87,20 +87,30 @@ unknown-kind : (j : ℕ) (i : Bool) (d : ℕ) (cs : List Ty) → j ≡ 0 → sta
 unfolding state-of
 unknown-kind j i d cs e = ap (λ m. state-of m i d cs) e
 
+-- The id that the last word has.
+pub id-alone : (m c : ℕ) → m ≡ 0 → id-from m c ≡ c
+unfolding id-from
+id-alone m c e = ap (λ k. id-from k c) e
+
+pub id-above : (m c : ℕ) → m ≢ 0 → id-from m c ≡ c / 262144
+unfolding id-from
+id-above zero c z = absurd (z refl)
+id-above (suc m) c z = refl
+
 -- k is the kind of node n: an unknown node has no inversion, no id and no children, a known one those of its words.
 module _ (ws : Words) (n k : ℕ) (ek : k ≡ kind-at (types-of ws) n) where
   pub inside : k ≢ 0 → n < length (types-of ws)
   inside z = ⊎-elim (λ h. h) (λ l. absurd (z (ek ∙ sym (kind-past (types-of ws) n (length (types-of ws)) refl l)))) (lt-or n (length (types-of ws)))
 
-  pub known-here : k ≢ 0 → state-at (types-of ws) n ≡ known (head·inverted (at ws (6 * n + 1))) k (at ws (6 * n + 3)) (take (head·arity (at ws (6 * n + 1))) (eight (at ws (6 * n + 4)) (at ws (6 * n + 5)) (at ws (6 * n + 6))))
+  pub known-here : k ≢ 0 → state-at (types-of ws) n ≡ known (head·inverted (at ws (4 * n + 1))) k (id-from (head·arity (at ws (4 * n + 1))) (at ws (4 * n + 4))) (take (head·arity (at ws (4 * n + 1))) (eight (at ws (4 * n + 2)) (at ws (4 * n + 3)) (at ws (4 * n + 4))))
   known-here z =
-      let q : at ws (6 * n + 2) ≡ k = kind-here ws n (length (types-of ws)) (at ws (6 * n + 2)) refl (inside z) refl ∙ sym ek in
+      let q : head·kind (at ws (4 * n + 1)) ≡ k = kind-here ws n (length (types-of ws)) (at ws (4 * n + 1)) refl (inside z) refl ∙ sym ek in
       state-here ws n (inside z) ∙ known-kind _ k _ _ _ q z
 
   pub unknown-here : k ≡ 0 → state-at (types-of ws) n ≡ unknown
   unfolding state-at new-node state-of
   unknown-here z = ⊎-elim
-      (λ h. state-here ws n h ∙ unknown-kind _ _ _ _ (kind-here ws n (length (types-of ws)) (at ws (6 * n + 2)) refl h refl ∙ sym ek ∙ z))
+      (λ h. state-here ws n h ∙ unknown-kind _ _ _ _ (kind-here ws n (length (types-of ws)) (at ws (4 * n + 1)) refl h refl ∙ sym ek ∙ z))
       (λ l. ap (λ nd. nd .state) (node-past (types-of ws) n l))
       (lt-or n (length (types-of ws)))
 
@@ -116,22 +126,31 @@ module _ (ws : Words) (n k : ℕ) (ek : k ≡ kind-at (types-of ws) n) where
   unfolding children-at children
   children-none z = sym (ap (λ st. length (children st)) (unknown-here z))
 
-  -- w is the head of node n, or its id.
+  -- w is the head of node n.
   module _ (z : k ≢ 0) (w : ℕ) where
-    pub inverted-here : w ≡ at ws (6 * n + 1) → eqb (w % 2) 1 ≡ inverted-at (types-of ws) n
+    pub inverted-here : w ≡ at ws (4 * n + 1) → eqb (w / 16 % 2) 1 ≡ inverted-at (types-of ws) n
     unfolding inverted-at inverted-in
     inverted-here e = ap head·inverted e ∙ sym (ap inverted-in (known-here z))
 
-    pub id-here : w ≡ at ws (6 * n + 3) → w ≡ id-at (types-of ws) n
+    -- d is its last word: the id, or the id above two children.
+    pub id-bare : (d : ℕ) → d ≡ at ws (4 * n + 4) → w ≡ at ws (4 * n + 1) → w / 32 % 16 ≡ 0 → d ≡ id-at (types-of ws) n
     unfolding id-at id-in
-    id-here e = e ∙ sym (ap id-in (known-here z))
+    id-bare d ed e q = ed ∙ sym (ap id-in (known-here z) ∙ id-alone _ _ (sym (ap head·arity e) ∙ q))
 
-    pub arity-here : (m : ℕ) → w ≡ at ws (6 * n + 1) → m ≡ w % 18 / 2 → m ≡ length (children-at (types-of ws) n)
+    pub id-over : (d : ℕ) → d ≡ at ws (4 * n + 4) → w ≡ at ws (4 * n + 1) → w / 32 % 16 ≢ 0 → d / 262144 ≡ id-at (types-of ws) n
+    unfolding id-at id-in
+    id-over d ed e q = ap (λ c. c / 262144) ed ∙ sym (ap id-in (known-here z) ∙ id-above _ _ (λ y. q (ap head·arity e ∙ y)))
+
+    arity-is : w ≡ at ws (4 * n + 1) → length (children-at (types-of ws) n) ≡ min (w / 32 % 16) 8
     unfolding children-at children eight
-    arity-here m e q = q ∙ ap head·arity e ∙ sym (ap (λ st. length (children st)) (known-here z) ∙ length-take (head·arity (at ws (6 * n + 1))) (eight (at ws (6 * n + 4)) (at ws (6 * n + 5)) (at ws (6 * n + 6))) ∙ few (at ws (6 * n + 1)))
-      where
-        few : (h : ℕ) → min (head·arity h) 8 ≡ head·arity h
-        few h = omega arith
+    arity-is e = ap (λ st. length (children st)) (known-here z) ∙ length-take (head·arity (at ws (4 * n + 1))) (eight (at ws (4 * n + 2)) (at ws (4 * n + 3)) (at ws (4 * n + 4))) ∙ ap (λ h. min (head·arity h) 8) (sym e)
+
+    -- m is the count that it has: at most eight are there.
+    pub arity-here : (m : ℕ) → w ≡ at ws (4 * n + 1) → m ≡ w / 32 % 16 → m < 8 → m ≡ length (children-at (types-of ws) n)
+    arity-here m e q l = omega (arith, arity-is e)
+
+    pub arity-most : (m : ℕ) → w ≡ at ws (4 * n + 1) → m ≡ w / 32 % 16 → 8 ≤ m → 8 ≡ length (children-at (types-of ws) n)
+    arity-most m e q l = omega (arith, arity-is e)
 
 -- The j-th of three type words in a word.
 abbrev pub digit : ℕ → ℕ → ℕ
@@ -152,9 +171,9 @@ digit-third (suc (suc j)) w a b = refl
 
 module _ (ws : Words) (n : ℕ) where
   abbrev kids : List Ty
-  kids = eight (at ws (6 * n + 4)) (at ws (6 * n + 5)) (at ws (6 * n + 6))
+  kids = eight (at ws (4 * n + 2)) (at ws (4 * n + 3)) (at ws (4 * n + 4))
 
-  eight-at : (j : ℕ) → j < 8 → type-of-word (digit (j % 3) (at ws (6 * n + (4 + j / 3)))) ≡ getD kids j (false, 0)
+  eight-at : (j : ℕ) → j < 8 → type-of-word (digit (j % 3) (at ws (4 * n + (2 + j / 3)))) ≡ getD kids j (false, 0)
   unfolding eight
   eight-at zero h = refl
   eight-at (suc zero) h = refl
@@ -168,13 +187,13 @@ module _ (ws : Words) (n : ℕ) where
 
   -- m is the count of children of node n, w the word that child j stands in, and r the child.
   module _ (j m : ℕ) (em : m ≡ length (children-at (types-of ws) n)) where
-    pub child-here : (w r : ℕ) → j < m → w ≡ at ws (6 * n + (4 + j / 3)) → r ≡ digit (j % 3) w → r ≡ word-of-type (getD (children-at (types-of ws) n) j (false, 0))
+    pub child-here : (w r : ℕ) → j < m → w ≡ at ws (4 * n + (2 + j / 3)) → r ≡ digit (j % 3) w → r ≡ word-of-type (getD (children-at (types-of ws) n) j (false, 0))
     unfolding children-at children
     child-here w r l e q =
         let k : kind-at (types-of ws) n ≢ 0 = λ z. omega (arith, children-none ws n (kind-at (types-of ws) n) refl z) in
-        let a : length (children-at (types-of ws) n) ≡ head·arity (at ws (6 * n + 1)) = sym (arity-here ws n (kind-at (types-of ws) n) refl k (at ws (6 * n + 1)) (head·arity (at ws (6 * n + 1))) refl refl) in
-        let s : children-at (types-of ws) n ≡ take (head·arity (at ws (6 * n + 1))) kids = ap children (known-here ws n (kind-at (types-of ws) n) refl k) in
-        q ∙ ap (digit (j % 3)) e ∙ sym (word-type (digit (j % 3) (at ws (6 * n + (4 + j / 3))))) ∙ ap word-of-type (eight-at j (omega arith) ∙ sym (getD-take (head·arity (at ws (6 * n + 1))) kids j (false, 0) (omega arith)) ∙ sym (ap (λ (cs : List Ty). getD cs j (false, 0)) s))
+        let a : length (children-at (types-of ws) n) ≡ min (head·arity (at ws (4 * n + 1))) 8 = arity-is ws n (kind-at (types-of ws) n) refl k (at ws (4 * n + 1)) refl in
+        let s : children-at (types-of ws) n ≡ take (head·arity (at ws (4 * n + 1))) kids = ap children (known-here ws n (kind-at (types-of ws) n) refl k) in
+        q ∙ ap (digit (j % 3)) e ∙ sym (word-type (digit (j % 3) (at ws (4 * n + (2 + j / 3))))) ∙ ap word-of-type (eight-at j (omega arith) ∙ sym (getD-take (head·arity (at ws (4 * n + 1))) kids j (false, 0) (omega arith)) ∙ sym (ap (λ (cs : List Ty). getD cs j (false, 0)) s))
 
     pub child-past : m ≤ j → 0 ≡ word-of-type (getD (children-at (types-of ws) n) j (false, 0))
     unfolding word-of-type
@@ -187,7 +206,7 @@ find-here ts t u r i ei e q = q ∙ ap₂ (λ (b : Bool) (v : Ty). word-of-type 
 
 pub up-small : (ws : Words) (n u : ℕ) → u ≡ word-of-type (up-at (types-of ws) n) → u < 512
 up-small ws n u e = ⊎-elim
-    (λ h. omega (arith, up-in ws n (length (types-of ws)) (at ws (6 * n + 1)) refl h refl))
+    (λ h. omega (arith, up-in ws n (length (types-of ws)) (at ws (4 * n + 1)) refl h refl))
     (λ l. omega (arith, up-past (types-of ws) n (length (types-of ws)) refl l))
     (lt-or n (length (types-of ws)))
 

@@ -15,93 +15,79 @@ use Rattle.rules.specs.Sheet.{at}
 use Rattle.rules.specs.Types.{Ty, TypeState, unknown, known, TypeNode, Types, new-node}
 use Rattle.rules.specs.Transfer.{type-of-word}
 use Rattle.rules.specs.Solutions.{rep}
-use Rattle.table.specs.Packing.{up-to, eight, state-of, node-from, node-of, types-of, Counted, Packed, Put, Rewritten, Pushes, Becomes, Head, TypeWords}
+use Rattle.table.specs.Packing.{up-to, eight, state-of, id-from, node-from, node-of, with-head, types-of, Counted, Packed, Put, Rewritten, Pushes, Becomes, Head, Above, TypeWords}
 use Rattle.table.specs.Nodes.{up-to-same, up-to-set, types-length, types-few}
 use Rattle.table.specs.Classes.{counted-push, counted-set}
 
--- Six words are stored from place 6 * n + 1 on.
-module _ (ws : Words) (n h k d x y z : ℕ) (few : n < 256) (long : 1537 ≤ length ws) where
+-- Four words are stored from place 4 * n + 1 on.
+module _ (ws : Words) (n h x y z : ℕ) (few : n < 256) (long : 1025 ≤ length ws) where
   abbrev s₁ : Words
-  s₁ = set ws (6 * n + 1) h
+  s₁ = set ws (4 * n + 1) h
 
   abbrev s₂ : Words
-  s₂ = set s₁ (6 * n + 2) k
+  s₂ = set s₁ (4 * n + 2) x
 
   abbrev s₃ : Words
-  s₃ = set s₂ (6 * n + 3) d
+  s₃ = set s₂ (4 * n + 3) y
 
   abbrev s₄ : Words
-  s₄ = set s₃ (6 * n + 4) x
+  s₄ = set s₃ (4 * n + 4) z
 
-  abbrev s₅ : Words
-  s₅ = set s₄ (6 * n + 5) y
+  four-length : length s₄ ≡ length ws
+  four-length = simp length-set
 
-  abbrev s₆ : Words
-  s₆ = set s₅ (6 * n + 6) z
+  four-off : (i : ℕ) → i ≢ 4 * n + 1 → i ≢ 4 * n + 2 → i ≢ 4 * n + 3 → i ≢ 4 * n + 4 → at s₄ i ≡ at ws i
+  four-off i e₁ e₂ e₃ e₄ = getD-set-other s₃ (4 * n + 4) i z 0 e₄ ∙ getD-set-other s₂ (4 * n + 3) i y 0 e₃ ∙ getD-set-other s₁ (4 * n + 2) i x 0 e₂ ∙ getD-set-other ws (4 * n + 1) i h 0 e₁
 
-  six-length : length s₆ ≡ length ws
-  six-length = simp length-set
+  four-beside : (m j : ℕ) → m ≢ n → 1 ≤ j → j ≤ 4 → at s₄ (4 * m + j) ≡ at ws (4 * m + j)
+  four-beside m j e a b = four-off (4 * m + j) (omega arith) (omega arith) (omega arith) (omega arith)
 
-  six-off : (i : ℕ) → i ≢ 6 * n + 1 → i ≢ 6 * n + 2 → i ≢ 6 * n + 3 → i ≢ 6 * n + 4 → i ≢ 6 * n + 5 → i ≢ 6 * n + 6 → at s₆ i ≡ at ws i
-  six-off i e₁ e₂ e₃ e₄ e₅ e₆ = getD-set-other s₅ (6 * n + 6) i z 0 e₆ ∙ getD-set-other s₄ (6 * n + 5) i y 0 e₅ ∙ getD-set-other s₃ (6 * n + 4) i x 0 e₄ ∙ getD-set-other s₂ (6 * n + 3) i d 0 e₃ ∙ getD-set-other s₁ (6 * n + 2) i k 0 e₂ ∙ getD-set-other ws (6 * n + 1) i h 0 e₁
+  four-1 : at s₄ (4 * n + 1) ≡ h
+  four-1 =
+      getD-set-other s₃ (4 * n + 4) (4 * n + 1) z 0 (omega arith) ∙ getD-set-other s₂ (4 * n + 3) (4 * n + 1) y 0 (omega arith) ∙ getD-set-other s₁ (4 * n + 2) (4 * n + 1) x 0 (omega arith) ∙ getD-set-same ws (4 * n + 1) h 0 (omega arith)
 
-  six-beside : (m j : ℕ) → m ≢ n → 1 ≤ j → j ≤ 6 → at s₆ (6 * m + j) ≡ at ws (6 * m + j)
-  six-beside m j e a b = six-off (6 * m + j) (omega arith) (omega arith) (omega arith) (omega arith) (omega arith) (omega arith)
+  four-2 : at s₄ (4 * n + 2) ≡ x
+  four-2 =
+      getD-set-other s₃ (4 * n + 4) (4 * n + 2) z 0 (omega arith) ∙ getD-set-other s₂ (4 * n + 3) (4 * n + 2) y 0 (omega arith) ∙ getD-set-same s₁ (4 * n + 2) x 0 (simp length-set (omega arith))
 
-  six-1 : at s₆ (6 * n + 1) ≡ h
-  six-1 =
-      getD-set-other s₅ (6 * n + 6) (6 * n + 1) z 0 (omega arith) ∙ getD-set-other s₄ (6 * n + 5) (6 * n + 1) y 0 (omega arith) ∙ getD-set-other s₃ (6 * n + 4) (6 * n + 1) x 0 (omega arith) ∙ getD-set-other s₂ (6 * n + 3) (6 * n + 1) d 0 (omega arith) ∙ getD-set-other s₁ (6 * n + 2) (6 * n + 1) k 0 (omega arith) ∙ getD-set-same ws (6 * n + 1) h 0 (omega arith)
+  four-3 : at s₄ (4 * n + 3) ≡ y
+  four-3 =
+      getD-set-other s₃ (4 * n + 4) (4 * n + 3) z 0 (omega arith) ∙ getD-set-same s₂ (4 * n + 3) y 0 (simp length-set (omega arith))
 
-  six-2 : at s₆ (6 * n + 2) ≡ k
-  six-2 =
-      getD-set-other s₅ (6 * n + 6) (6 * n + 2) z 0 (omega arith) ∙ getD-set-other s₄ (6 * n + 5) (6 * n + 2) y 0 (omega arith) ∙ getD-set-other s₃ (6 * n + 4) (6 * n + 2) x 0 (omega arith) ∙ getD-set-other s₂ (6 * n + 3) (6 * n + 2) d 0 (omega arith) ∙ getD-set-same s₁ (6 * n + 2) k 0 (simp length-set (omega arith))
+  four-4 : at s₄ (4 * n + 4) ≡ z
+  four-4 =
+      getD-set-same s₃ (4 * n + 4) z 0 (simp length-set (omega arith))
 
-  six-3 : at s₆ (6 * n + 3) ≡ d
-  six-3 =
-      getD-set-other s₅ (6 * n + 6) (6 * n + 3) z 0 (omega arith) ∙ getD-set-other s₄ (6 * n + 5) (6 * n + 3) y 0 (omega arith) ∙ getD-set-other s₃ (6 * n + 4) (6 * n + 3) x 0 (omega arith) ∙ getD-set-same s₂ (6 * n + 3) d 0 (simp length-set (omega arith))
-
-  six-4 : at s₆ (6 * n + 4) ≡ x
-  six-4 =
-      getD-set-other s₅ (6 * n + 6) (6 * n + 4) z 0 (omega arith) ∙ getD-set-other s₄ (6 * n + 5) (6 * n + 4) y 0 (omega arith) ∙ getD-set-same s₃ (6 * n + 4) x 0 (simp length-set (omega arith))
-
-  six-5 : at s₆ (6 * n + 5) ≡ y
-  six-5 =
-      getD-set-other s₅ (6 * n + 6) (6 * n + 5) z 0 (omega arith) ∙ getD-set-same s₄ (6 * n + 5) y 0 (simp length-set (omega arith))
-
-  six-6 : at s₆ (6 * n + 6) ≡ z
-  six-6 =
-      getD-set-same s₅ (6 * n + 6) z 0 (simp length-set (omega arith))
-
-  six-there : node-of s₆ n ≡ node-from h k d x y z
+  four-there : node-of s₄ n ≡ node-from h x y z
   unfolding node-of
-  six-there = cc (six-1, six-2, six-3, six-4, six-5, six-6)
+  four-there = cc (four-1, four-2, four-3, four-4)
 
--- Nodes that are the same in all six words.
-pub node-same : (ws us : Words) (m : ℕ) → ((j : ℕ) → 1 ≤ j → j ≤ 6 → at us (6 * m + j) ≡ at ws (6 * m + j)) → node-of us m ≡ node-of ws m
+-- Nodes that are the same in all four words.
+pub node-same : (ws us : Words) (m : ℕ) → ((j : ℕ) → 1 ≤ j → j ≤ 4 → at us (4 * m + j) ≡ at ws (4 * m + j)) → node-of us m ≡ node-of ws m
 unfolding node-of
-node-same ws us m e = cc (e 1 (omega arith) (omega arith), e 2 (omega arith) (omega arith), e 3 (omega arith) (omega arith), e 4 (omega arith) (omega arith), e 5 (omega arith) (omega arith), e 6 (omega arith) (omega arith))
+node-same ws us m e = cc (e 1 (omega arith) (omega arith), e 2 (omega arith) (omega arith), e 3 (omega arith) (omega arith), e 4 (omega arith) (omega arith))
 
--- The six stores, w being the number of the node.
-pub put-six : (ws : Words) (n w h k d x y z : ℕ) → w ≡ n → n < 256 → 1537 ≤ length ws → Put ws (set (set (set (set (set (set ws (6 * w + 1) h) (6 * w + 2) k) (6 * w + 3) d) (6 * w + 4) x) (6 * w + 5) y) (6 * w + 6) z) n (node-from h k d x y z)
-put-six ws n w h k d x y z e few long = rw e (record {
-  len = six-length ws n h k d x y z few long;
-  count = six-off ws n h k d x y z few long 0 (omega arith) (omega arith) (omega arith) (omega arith) (omega arith) (omega arith);
-  there = six-there ws n h k d x y z few long;
-  rest = λ m q. node-same ws (s₆ ws n h k d x y z few long) m (λ j a b. six-beside ws n h k d x y z few long m j q a b);
+-- The four stores, w being the number of the node.
+pub put-four : (ws : Words) (n w h x y z : ℕ) → w ≡ n → n < 256 → 1025 ≤ length ws → Put ws (set (set (set (set ws (4 * w + 1) h) (4 * w + 2) x) (4 * w + 3) y) (4 * w + 4) z) n (node-from h x y z)
+put-four ws n w h x y z e few long = rw e (record {
+  len = four-length ws n h x y z few long;
+  count = four-off ws n h x y z few long 0 (omega arith) (omega arith) (omega arith) (omega arith);
+  there = four-there ws n h x y z few long;
+  rest = λ m q. node-same ws (s₄ ws n h x y z few long) m (λ j a b. four-beside ws n h x y z few long m j q a b);
 })
 
 -- The head alone is stored.
-pub put-head : (ws : Words) (n w h : ℕ) → w ≡ n → n < 256 → 1537 ≤ length ws → Put ws (set ws (6 * w + 1) h) n (node-from h (at ws (6 * n + 2)) (at ws (6 * n + 3)) (at ws (6 * n + 4)) (at ws (6 * n + 5)) (at ws (6 * n + 6)))
-unfolding node-of
+pub put-head : (ws : Words) (n w h : ℕ) → w ≡ n → n < 256 → 1025 ≤ length ws → Put ws (set ws (4 * w + 1) h) n (with-head h ws n)
+unfolding node-of with-head
 put-head ws n w h e few long = rw e (record {
-  len = length-set ws (6 * n + 1) h;
-  count = getD-set-other ws (6 * n + 1) 0 h 0 (omega arith);
-  there = cc (getD-set-same ws (6 * n + 1) h 0 (omega arith), off 2 (omega arith), off 3 (omega arith), off 4 (omega arith), off 5 (omega arith), off 6 (omega arith));
-  rest = λ m q. node-same ws (set ws (6 * n + 1) h) m (λ j a b. getD-set-other ws (6 * n + 1) (6 * m + j) h 0 (omega arith));
+  len = length-set ws (4 * n + 1) h;
+  count = getD-set-other ws (4 * n + 1) 0 h 0 (omega arith);
+  there = cc (getD-set-same ws (4 * n + 1) h 0 (omega arith), off 2 (omega arith), off 3 (omega arith), off 4 (omega arith));
+  rest = λ m q. node-same ws (set ws (4 * n + 1) h) m (λ j a b. getD-set-other ws (4 * n + 1) (4 * m + j) h 0 (omega arith));
 })
   where
-    off : (j : ℕ) → j ≢ 1 → at (set ws (6 * n + 1) h) (6 * n + j) ≡ at ws (6 * n + j)
-    off j q = getD-set-other ws (6 * n + 1) (6 * n + j) h 0 (omega arith)
+    off : (j : ℕ) → j ≢ 1 → at (set ws (4 * n + 1) h) (4 * n + j) ≡ at ws (4 * n + j)
+    off j q = getD-set-other ws (4 * n + 1) (4 * n + j) h 0 (omega arith)
 
 -- A node of the table is written.
 pub put-node : (ws us : Words) (n : ℕ) (nd : TypeNode) → n < length (types-of ws) → Put ws us n nd → Rewritten ws us (set (types-of ws) n nd)
@@ -118,7 +104,7 @@ put-node ws us n nd h p = record {
 -- A node is written behind the last, and counted. c is the count.
 module _ (ws us : Words) (c : ℕ) (nd : TypeNode) (ec : c ≡ length (types-of ws)) (low : c < 256) (g : Packed ws) (p : Put ws us c nd) where
   node-counted : (m : ℕ) → node-of (set us 0 (c + 1)) m ≡ node-of us m
-  node-counted m = node-same us (set us 0 (c + 1)) m (λ j a b. getD-set-other us 0 (6 * m + j) (c + 1) 0 (omega arith))
+  node-counted m = node-same us (set us 0 (c + 1)) m (λ j a b. getD-set-other us 0 (4 * m + j) (c + 1) 0 (omega arith))
 
   counted-first : at (set us 0 (c + 1)) 0 ≡ c + 1
   counted-first = getD-set-same us 0 (c + 1) 0 (omega (arith, p .len, g .long))
@@ -150,36 +136,58 @@ pub push-full : (ws : Words) (c : ℕ) (st : TypeState) → c ≡ length (types-
 push-full ws c st ec high g = record { packed = g; number = ec; room = λ h. absurd (omega arith); full = λ h. refl }
 
 -- A head from its fields.
-pub head-of : (u size m i : ℕ) → u < 512 → size < 512 → m ≤ 8 → i ≤ 1 → Head (18 * (u + 512 * size) + (2 * m + i)) u size m (eqb i 1)
-head-of u size m i hu hs hm hi = record {
+pub head-of : (k u size m i : ℕ) → k < 16 → u < 512 → size < 512 → m < 16 → i ≤ 1 → Head (k + 16 * i + (32 * m + 512 * (u + 512 * size))) k u size m (eqb i 1)
+head-of k u size m i hk hu hs hm hi = record {
+  kind = omega arith;
   up-word = omega arith;
   size-word = omega arith;
   arity = omega arith;
-  inverted = ap (λ j. eqb j 1) (let q : (18 * (u + 512 * size) + (2 * m + i)) % 2 ≡ i = omega arith in q);
+  inverted = ap (λ j. eqb j 1) (let q : (k + 16 * i + (32 * m + 512 * (u + 512 * size))) / 16 % 2 ≡ i = omega arith in q);
 }
 
 -- The node that a head and other words are.
-pub head-node : (h u size m : ℕ) (i : Bool) (k d x y z : ℕ) → Head h u size m i → node-from h k d x y z ≡ record { up = type-of-word u; state = state-of k i d (take m (eight x y z)); size = size }
+pub head-node : (h k u size m : ℕ) (i : Bool) (x y z : ℕ) → Head h k u size m i → node-from h x y z ≡ record { up = type-of-word u; state = state-of k i (id-from m z) (take m (eight x y z)); size = size }
 unfolding node-from
-head-node h u size m i k d x y z e = cc (e .up-word, e .size-word, e .arity, e .inverted)
+head-node h k u size m i x y z e = cc (e .kind, e .up-word, e .size-word, e .arity, e .inverted)
 
 -- Three type words to a word.
 abbrev pub triple : Words → ℕ → ℕ
 triple cs i = at cs i + (512 * at cs (i + 1) + 262144 * at cs (i + 2))
 
+-- The last two, and the id above them; the id alone where there are no children.
+unfoldable pub last : Words → ℕ → ℕ
+last [] d = d
+last (c ∷ cs) d = at (c ∷ cs) 6 + (512 * at (c ∷ cs) 7 + 262144 * d)
+
+pub last-none : (cs : Words) (d : ℕ) → length cs ≡ 0 → d ≡ last cs d
+unfolding last
+last-none [] d e = refl
+last-none (c ∷ cs) d e = absurd (omega arith)
+
+pub last-some : (cs : Words) (d a b : ℕ) → length cs ≢ 0 → a ≡ at cs 6 → b ≡ at cs 7 → a + (512 * b + 262144 * d) ≡ last cs d
+unfolding last
+last-some [] d a b z ea eb = absurd (z refl)
+last-some (c ∷ cs) d a b z ea eb = ap₂ (λ x y. x + (512 * y + 262144 * d)) ea eb
+
+pub above-small : (cs : Words) (d : ℕ) → Above d (length cs) → length cs ≢ 0 → d < 4096
+above-small cs d h z = h .small (omega arith)
+
 -- Up to eight types, so packed.
-pub eight-of : (cs : Words) → length cs ≤ 8 → TypeWords cs → take (length cs) (eight (triple cs 0) (triple cs 3) (triple cs 6)) ≡ map type-of-word cs
+eight-of : (cs : Words) (d : ℕ) → length cs ≤ 8 → TypeWords cs → take (length cs) (eight (triple cs 0) (triple cs 3) (at cs 6 + (512 * at cs 7 + 262144 * d))) ≡ map type-of-word cs
 unfolding eight
-eight-of cs h s = go cs h (s .small)
+eight-of cs d h s = go cs h (s .small)
   where
     three : (a b c : ℕ) → a < 512 → b < 512 → c < 512 → ((a + (512 * b + 262144 * c)) % 512 ≡ a) × ((a + (512 * b + 262144 * c)) / 512 % 512 ≡ b) × ((a + (512 * b + 262144 * c)) / 262144 % 512 ≡ c)
     three a b c ha hb hc = (omega arith, omega arith, omega arith)
 
-    go : (cs : Words) → length cs ≤ 8 → ((j : ℕ) → at cs j < 512) → take (length cs) (eight (triple cs 0) (triple cs 3) (triple cs 6)) ≡ map type-of-word cs
+    two : (a b : ℕ) → a < 512 → b < 512 → ((a + (512 * b + 262144 * d)) % 512 ≡ a) × ((a + (512 * b + 262144 * d)) / 512 % 512 ≡ b)
+    two a b ha hb = (omega arith, omega arith)
+
+    go : (cs : Words) → length cs ≤ 8 → ((j : ℕ) → at cs j < 512) → take (length cs) (eight (triple cs 0) (triple cs 3) (at cs 6 + (512 * at cs 7 + 262144 * d))) ≡ map type-of-word cs
     go cs h s =
         let p = three (at cs 0) (at cs 1) (at cs 2) (s 0) (s 1) (s 2) in
         let q = three (at cs 3) (at cs 4) (at cs 5) (s 3) (s 4) (s 5) in
-        let r = three (at cs 6) (at cs 7) (at cs 8) (s 6) (s 7) (s 8) in
+        let r = two (at cs 6) (at cs 7) (s 6) (s 7) in
         cc (p .0, p .1, p .2, q .0, q .1, q .2, r .0, r .1, firsts cs h)
       where
         firsts : (cs : Words) → length cs ≤ 8 → take (length cs) (type-of-word (at cs 0) ∷ type-of-word (at cs 1) ∷ type-of-word (at cs 2) ∷ type-of-word (at cs 3) ∷ type-of-word (at cs 4) ∷ type-of-word (at cs 5) ∷ type-of-word (at cs 6) ∷ type-of-word (at cs 7) ∷ []) ≡ map type-of-word cs
@@ -194,6 +202,17 @@ eight-of cs h s = go cs h (s .small)
         firsts (a ∷ b ∷ c ∷ d ∷ e ∷ f ∷ g ∷ i ∷ []) h = refl
         firsts (a ∷ b ∷ c ∷ d ∷ e ∷ f ∷ g ∷ i ∷ j ∷ cs) h = absurd (omega arith)
 
+-- So they and the id are what the words hold.
+last-id : (cs : Words) (d : ℕ) → TypeWords cs → id-from (length cs) (last cs d) ≡ d
+unfolding last id-from
+last-id [] d s = refl
+last-id (c ∷ cs) d s = let a = s .small 6 in let b = s .small 7 in omega arith
+
+kids-of : (cs : Words) (d : ℕ) → length cs ≤ 8 → TypeWords cs → take (length cs) (eight (triple cs 0) (triple cs 3) (last cs d)) ≡ map type-of-word cs
+unfolding last
+kids-of [] d h s = refl
+kids-of (c ∷ cs) d h s = eight-of (c ∷ cs) d h s
+
 pub put-is : (ws us : Words) (n : ℕ) (nd nd′ : TypeNode) → nd ≡ nd′ → Put ws us n nd → Put ws us n nd′
 put-is ws us n nd nd′ e p = subst (λ x. Put ws us n x) e p
 
@@ -204,10 +223,10 @@ even-type n =
     let b : 2 * n / 2 ≡ n = omega arith in
     ap₂ {C = Ty} (λ (b : Bool) (m : ℕ). (b, m)) (ne-eqb (2 * n % 2) 1 a) b
 
--- A new unknown is written.
-pub wrote-unknown : (ws us : Words) (n h : ℕ) (i : Bool) → Head h (2 * n) 1 0 i → Put ws us n (node-from h 0 0 0 0 0) → Put ws us n (new-node n unknown)
-unfolding state-of new-node
-wrote-unknown ws us n h i e p = put-is ws us n (node-from h 0 0 0 0 0) (new-node n unknown) (head-node h (2 * n) 1 0 i 0 0 0 0 0 e ∙ ap (λ (t : Ty). record { up = t; state = unknown; size = 1 }) (even-type n)) p
+-- A new unknown is written: its head says all.
+pub wrote-unknown : (ws us : Words) (n h : ℕ) (i : Bool) → Head h 0 (2 * n) 1 0 i → Put ws us n (with-head h ws n) → Put ws us n (new-node n unknown)
+unfolding state-of new-node with-head
+wrote-unknown ws us n h i e p = put-is ws us n (with-head h ws n) (new-node n unknown) (head-node h 0 (2 * n) 1 0 i _ _ _ e ∙ ap (λ (t : Ty). record { up = t; state = unknown; size = 1 }) (even-type n)) p
 
 state-known : (k : ℕ) (i : Bool) (d : ℕ) (cs : List Ty) → k ≢ 0 → state-of k i d cs ≡ known i k d cs
 unfolding state-of
@@ -218,13 +237,14 @@ pub bit-back : (b : Bool) (i : ℕ) → i ≡ bit b → eqb i 1 ≡ b
 bit-back true i e = ap (λ j. eqb j 1) e
 bit-back false i e = ap (λ j. eqb j 1) e
 
--- A new known type is written: x, y, z hold its children.
-pub wrote-known : (ws us cs : Words) (n h k d i m x y z : ℕ) (b : Bool) → i ≡ bit b → m ≡ length cs → Head h (2 * n) 1 m (eqb i 1) → k ≢ 0 → length cs ≤ 8 → TypeWords cs → x ≡ triple cs 0 → y ≡ triple cs 3 → z ≡ triple cs 6 → Put ws us n (node-from h k d x y z) → Put ws us n (new-node n (known b k d (map type-of-word cs)))
+-- A new known type is written: x, y, z hold its children and its id.
+pub wrote-known : (ws us cs : Words) (n h k d i m x y z : ℕ) (b : Bool) → i ≡ bit b → m ≡ length cs → Head h k (2 * n) 1 m (eqb i 1) → k ≢ 0 → length cs ≤ 8 → TypeWords cs → x ≡ triple cs 0 → y ≡ triple cs 3 → z ≡ last cs d → Put ws us n (node-from h x y z) → Put ws us n (new-node n (known b k d (map type-of-word cs)))
 unfolding new-node
 wrote-known ws us cs n h k d i m x y z b ei em e nz few small ex ey ez p =
-    let kids : take m (eight x y z) ≡ map type-of-word cs = cc (eight-of cs few small) in
-    put-is ws us n (node-from h k d x y z) (new-node n (known b k d (map type-of-word cs)))
-    (head-node h (2 * n) 1 m (eqb i 1) k d x y z e ∙ cc (even-type n, state-known k b d (map type-of-word cs) nz, bit-back b i ei, kids)) p
+    let kids : take m (eight x y z) ≡ map type-of-word cs = cc (kids-of cs d few small) in
+    let id : id-from m z ≡ d = cc (last-id cs d small) in
+    put-is ws us n (node-from h x y z) (new-node n (known b k d (map type-of-word cs)))
+    (head-node h k (2 * n) 1 m (eqb i 1) x y z e ∙ cc (even-type n, state-known k b d (map type-of-word cs) nz, bit-back b i ei, kids, id)) p
 
 -- A root is stored anew.
 pub set-root : (ws us : Words) (n : ℕ) (st : TypeState) → Packed ws → n < length (types-of ws) → rep (types-of ws) n ≡ n → Put ws us n (new-node n st) → Becomes us (set (types-of ws) n (new-node n st))
@@ -241,6 +261,3 @@ node-low ws n h = omega (arith, types-few ws)
 
 pub type-small : (cs : Words) (i r : ℕ) → TypeWords cs → r ≡ at cs i → r < 512
 type-small cs i r s e = omega (arith, s .small i)
-
-pub place-in : (ws : Words) (n w : ℕ) → w ≡ n → n < length (types-of ws) → 1537 ≤ length ws → 6 * w + 1 < length ws
-place-in ws n w e h long = omega (arith, types-few ws)

@@ -16,30 +16,29 @@ ghost use Rattle.rules.specs.Transfer.{type-of-word};
 ghost use Rattle.rules.specs.Answer.{word-of-type};
 ghost use Rattle.table.specs.Reads.{digit};
 ghost use Rattle.rules.specs.Limits.{limit·nodes};
-ghost use Rattle.table.specs.Packing.{table·length, types-of, node-from, Packed, Put, Rewritten, Pushes, Becomes, Roots, Head, TypeWords, up-at, kind-at, inverted-at, id-at};
-ghost use Rattle.table.specs.Writes.{triple};
-ghost use Rattle.table.specs.Joins.{moved, with-head, root-node};
-ghost use Rattle.table.specs.ChildRoots.{root-in, roots-row, ChildRoots};
+ghost use Rattle.table.specs.Packing.{table·length, types-of, node-from, with-head, Packed, Put, Rewritten, Pushes, Becomes, Roots, Head, Above, TypeWords, up-at, kind-at, inverted-at, id-at};
+ghost use Rattle.table.specs.Writes.{triple, last};
+ghost use Rattle.table.specs.Joins.{moved, root-node};
+ghost use Rattle.table.specs.ChildRoots.{root-in, roots-row, OwnArity, ChildRoots};
 
 // The words of a table of the most nodes, and its most nodes.
-pub const TABLE: usize = 1537;
+pub const TABLE: usize = 1025;
 
 pub const NODES: u32 = 256;
 
-// The words of a node, counted from 1: a head, the kind, the id, and three words of children. Word 0 of the table counts the nodes.
-const NODE: usize = 6;
+// The most children of a node.
+const MOST: usize = 8;
+
+// The words of a node, counted from 1: a head, and three words of children, the last with the id above them. Word 0 of the table counts the nodes.
+const NODE: usize = 4;
 
 const HEAD: usize = 1;
 
-const KIND: usize = 2;
+const CHILDREN: usize = 2;
 
-const ID: usize = 3;
+const MORE_CHILDREN: usize = 3;
 
-const CHILDREN: usize = 4;
-
-const MORE_CHILDREN: usize = 5;
-
-const LAST_CHILDREN: usize = 6;
+const LAST_CHILDREN: usize = 4;
 
 fn wide(w: u32) -> usize
     ensures { λ r. ⌜ r ≡ w ⌝ }
@@ -49,7 +48,7 @@ fn wide(w: u32) -> usize
 
 // Word k of node n.
 fn field(ws: &[u32], n: u32, k: usize) -> u32
-    ensures { λ r. ⌜ r ≡ at (now (ws .entry)) (6 * n + k) ⌝ }
+    ensures { λ r. ⌜ r ≡ at (now (ws .entry)) (4 * n + k) ⌝ }
 {
     words::offset(ws, NODE * wide(n), k)
 }
@@ -67,7 +66,7 @@ pub fn up_of(ws: &[u32], n: u32) -> u32
     ensures { λ r. ⌜ r ≡ word-of-type (up-at (types-of (now (ws .entry))) n) ⌝ }
 {
     if n < count(ws) {
-        field(ws, n, HEAD) / 18 % 512
+        field(ws, n, HEAD) / 512 % 512
     } else {
         0
     }
@@ -86,7 +85,7 @@ pub fn size_of(ws: &[u32], n: u32) -> u32
     ensures small { λ r. ⌜ r < 512 ⌝ }
 {
     if n < count(ws) {
-        field(ws, n, HEAD) / 18 / 512 % 512
+        field(ws, n, HEAD) / 262144 % 512
     } else {
         1
     }
@@ -96,7 +95,11 @@ pub fn size_of(ws: &[u32], n: u32) -> u32
 pub fn kind_of(ws: &[u32], n: u32) -> u32
     ensures { λ r. ⌜ r ≡ kind-at (types-of (now (ws .entry))) n ⌝ }
 {
-    if n < count(ws) { field(ws, n, KIND) } else { 0 }
+    if n < count(ws) {
+        field(ws, n, HEAD) % 16
+    } else {
+        0
+    }
 }
 
 // Whether node n is inverted; false where it is unknown.
@@ -106,7 +109,7 @@ pub fn inverted_of(ws: &[u32], n: u32) -> bool
     if kind_of(ws, n) == 0 {
         false
     } else {
-        field(ws, n, HEAD) % 2 == 1
+        field(ws, n, HEAD) / 16 % 2 == 1
     }
 }
 
@@ -117,7 +120,12 @@ pub fn id_of(ws: &[u32], n: u32) -> u32
     if kind_of(ws, n) == 0 {
         0
     } else {
-        field(ws, n, ID)
+        let z = field(ws, n, LAST_CHILDREN);
+        if field(ws, n, HEAD) / 32 % 16 == 0 {
+            z
+        } else {
+            z / 262144
+        }
     }
 }
 
@@ -128,7 +136,8 @@ pub fn child_count(ws: &[u32], n: u32) -> usize
     if kind_of(ws, n) == 0 {
         0
     } else {
-        wide(field(ws, n, HEAD) % 18 / 2)
+        let m = wide(field(ws, n, HEAD) / 32 % 16);
+        if m < MOST { m } else { MOST }
     }
 }
 
@@ -170,7 +179,7 @@ fn root_read(ws: &[u32], t: u32) -> u32
     requires { ⌜ t < 512 ⌝ }
     ensures { λ r. ⌜ r ≡ root-in (now (ws .entry)) (t / 2) ⌝ }
 {
-    ws[NODE * wide(t / 2) + HEAD] / 36 % 256
+    ws[NODE * wide(t / 2) + HEAD] / 1024 % 256
 }
 
 // The first n of the roots of the types in three words of children.
@@ -191,6 +200,17 @@ fn roots_read(ws: &[u32], n: usize, x: u32, y: u32, z: u32) -> Row
     Row { n, nodes }
 }
 
+// How many children node n with head h has; 9 where it is not its own root.
+fn own_arity(h: u32, n: u32) -> usize
+    ensures { λ r. ⌜ OwnArity h n r ⌝ }
+{
+    if h / 1024 % 256 != n {
+        return 9;
+    }
+    let m = wide(h / 32 % 16);
+    if m <= MOST { m } else { 9 }
+}
+
 // The roots of the children of known node n, read without tests; not told where the node is not its own root.
 pub fn child_roots(ws: &[u32], n: u32) -> Row
     requires { ⌜ Packed (now ws) ⌝ }
@@ -198,16 +218,10 @@ pub fn child_roots(ws: &[u32], n: u32) -> Row
     ensures { λ r. ⌜ ChildRoots (now (ws .entry)) n r ⌝ }
 {
     let w = NODE * wide(n);
-    let h = ws[w + HEAD];
-    if h / 36 % 256 != n {
-        return Row {
-            n: 9,
-            nodes: [0u32; 8],
-        };
-    }
+    let m = own_arity(ws[w + HEAD], n);
     roots_read(
         ws,
-        wide(h % 18 / 2),
+        m,
         ws[w + CHILDREN],
         ws[w + MORE_CHILDREN],
         ws[w + LAST_CHILDREN],
@@ -240,30 +254,39 @@ pub fn find(ws: &[u32], t: u32) -> u32
     invert_if(is_inverted(t), up_of(ws, t / 2))
 }
 
-// Writes the six words of node n.
-fn put(ws: &mut [u32], n: u32, h: u32, kind: u32, id: u32, x: u32, y: u32, z: u32)
+// Writes the four words of node n.
+fn put(ws: &mut [u32], n: u32, h: u32, x: u32, y: u32, z: u32)
     requires { ⌜ n < limit·nodes ⌝ }
     requires { ⌜ table·length ≤ length (now ws) ⌝ }
-    ensures { λ _. ⌜ Put (now (ws .entry)) (now (ws .exit)) n (node-from h kind id x y z) ⌝ }
+    ensures { λ _. ⌜ Put (now (ws .entry)) (now (ws .exit)) n (node-from h x y z) ⌝ }
 {
     let w = wide(n);
     ws[NODE * w + HEAD] = h;
-    ws[NODE * w + KIND] = kind;
-    ws[NODE * w + ID] = id;
     ws[NODE * w + CHILDREN] = x;
     ws[NODE * w + MORE_CHILDREN] = y;
     ws[NODE * w + LAST_CHILDREN] = z;
 }
 
-// A head from its fields: which type of its root a node is, the size of its class, how many children, inverted or not.
-fn head(up: u32, size: u32, arity: u32, inverted: u32) -> u32
+// Writes the head of node n, and leaves its other words.
+fn put_head(ws: &mut [u32], n: u32, h: u32)
+    requires { ⌜ n < limit·nodes ⌝ }
+    requires { ⌜ table·length ≤ length (now ws) ⌝ }
+    ensures { λ _. ⌜ Put (now (ws .entry)) (now (ws .exit)) n (with-head h (now (ws .entry)) n) ⌝ }
+{
+    let w = wide(n);
+    ws[NODE * w + HEAD] = h;
+}
+
+// A head from its fields: the kind, inverted or not, how many children, which type of its root a node is, the size of its class.
+fn head(kind: u32, inverted: u32, arity: u32, up: u32, size: u32) -> u32
+    requires { ⌜ kind < 16 ⌝ }
+    requires { ⌜ inverted ≤ 1 ⌝ }
+    requires { ⌜ arity < 16 ⌝ }
     requires { ⌜ up < 512 ⌝ }
     requires { ⌜ size < 512 ⌝ }
-    requires { ⌜ arity ≤ 8 ⌝ }
-    requires { ⌜ inverted ≤ 1 ⌝ }
-    ensures { λ r. ⌜ Head r up size arity (eqb inverted 1) ⌝ }
+    ensures { λ r. ⌜ Head r kind up size arity (eqb inverted 1) ⌝ }
 {
-    18 * (up + 512 * size) + (2 * arity + inverted)
+    kind + 16 * inverted + (32 * arity + 512 * (up + 512 * size))
 }
 
 fn bit_of(b: bool) -> u32
@@ -294,14 +317,28 @@ fn triple_of(cs: &[u32], i: usize) -> u32
     a + (512 * b + 262144 * c)
 }
 
+// The last two of eight type words, and an id above them; the id alone where there are no type words.
+fn last_of(cs: &[u32], id: u32) -> u32
+    requires { ⌜ TypeWords (now cs) ⌝ }
+    requires { ⌜ Above id (length (now cs)) ⌝ }
+    ensures { λ r. ⌜ r ≡ last (now (cs .entry)) id ⌝ }
+{
+    if cs.len() == 0 {
+        return id;
+    }
+    let a = type_word(cs, 6);
+    let b = type_word(cs, 7);
+    a + (512 * b + 262144 * id)
+}
+
 // Writes a new unknown at node n.
 fn write_unknown(ws: &mut [u32], n: u32)
     requires { ⌜ n < limit·nodes ⌝ }
     requires { ⌜ table·length ≤ length (now ws) ⌝ }
     ensures { λ _. ⌜ Put (now (ws .entry)) (now (ws .exit)) n (new-node n unknown) ⌝ }
 {
-    let h = head(2 * n, 1, 0, 0);
-    put(ws, n, h, 0, 0, 0, 0, 0)
+    let h = head(0, 0, 0, 2 * n, 1);
+    put_head(ws, n, h)
 }
 
 // Writes a new known type at node n.
@@ -309,16 +346,18 @@ fn write_known(ws: &mut [u32], n: u32, inverted: bool, kind: u32, id: u32, cs: &
     requires { ⌜ n < limit·nodes ⌝ }
     requires { ⌜ table·length ≤ length (now ws) ⌝ }
     requires { ⌜ kind ≢ 0 ⌝ }
+    requires { ⌜ kind < 16 ⌝ }
+    requires { ⌜ Above id (length (now cs)) ⌝ }
     requires { ⌜ length (now cs) ≤ 8 ⌝ }
     requires { ⌜ TypeWords (now cs) ⌝ }
     ensures { λ _. ⌜ Put (now (ws .entry)) (now (ws .exit)) n (new-node n (known inverted kind id (map type-of-word (now (cs .entry))))) ⌝ }
 {
     let i = bit_of(inverted);
-    let h = head(2 * n, 1, cs.len() as u32, i);
+    let h = head(kind, i, cs.len() as u32, 2 * n, 1);
     let x = triple_of(cs, 0);
     let y = triple_of(cs, 3);
-    let z = triple_of(cs, 6);
-    put(ws, n, h, kind, id, x, y, z)
+    let z = last_of(cs, id);
+    put(ws, n, h, x, y, z)
 }
 
 // `new_var`: pushes an unknown and gives its number. At the limit the number is NODES, and nothing changes.
@@ -339,6 +378,8 @@ pub fn new_var(ws: &mut [u32]) -> u32
 pub fn new_known(ws: &mut [u32], inverted: bool, kind: u32, id: u32, cs: &[u32]) -> u32
     requires { ⌜ Packed (now ws) ⌝ }
     requires { ⌜ kind ≢ 0 ⌝ }
+    requires { ⌜ kind < 16 ⌝ }
+    requires { ⌜ Above id (length (now cs)) ⌝ }
     requires { ⌜ length (now cs) ≤ 8 ⌝ }
     requires { ⌜ TypeWords (now cs) ⌝ }
     ensures { λ r. ⌜ Pushes (now (ws .entry)) (now (ws .exit)) (known inverted kind id (map type-of-word (now (cs .entry)))) r ⌝ }
@@ -358,6 +399,8 @@ pub fn set_known(ws: &mut [u32], n: u32, inverted: bool, kind: u32, id: u32, cs:
     requires { ⌜ n < length (types-of (now ws)) ⌝ }
     requires { ⌜ rep (types-of (now ws)) n ≡ n ⌝ }
     requires { ⌜ kind ≢ 0 ⌝ }
+    requires { ⌜ kind < 16 ⌝ }
+    requires { ⌜ Above id (length (now cs)) ⌝ }
     requires { ⌜ length (now cs) ≤ 8 ⌝ }
     requires { ⌜ TypeWords (now cs) ⌝ }
     ensures { λ _. ⌜ Becomes (now (ws .exit)) (set (types-of (now (ws .entry))) n (new-node n (known inverted kind id (map type-of-word (now (cs .entry)))))) ⌝ }
@@ -401,7 +444,7 @@ pub fn type_of(inverted: bool, n: u32) -> u32
 fn head_at(ws: &[u32], n: u32) -> u32
     requires { ⌜ table·length ≤ length (now ws) ⌝ }
     requires { ⌜ n < limit·nodes ⌝ }
-    ensures { λ r. ⌜ r ≡ at (now (ws .entry)) (6 * n + 1) ⌝ }
+    ensures { λ r. ⌜ r ≡ at (now (ws .entry)) (4 * n + 1) ⌝ }
 {
     let w = wide(n);
     ws[NODE * w + HEAD]
@@ -413,7 +456,7 @@ fn up_there(ws: &[u32], n: u32) -> u32
     requires { ⌜ n < length (types-of (now ws)) ⌝ }
     ensures { λ r. ⌜ r ≡ word-of-type (up-at (types-of (now (ws .entry))) n) ⌝ }
 {
-    head_at(ws, n) / 18 % 512
+    head_at(ws, n) / 512 % 512
 }
 
 // Makes node n type u of its root.
@@ -424,8 +467,7 @@ fn set_up(ws: &mut [u32], n: u32, u: u32)
     ensures { λ _. ⌜ Rewritten (now (ws .entry)) (now (ws .exit)) (set (types-of (now (ws .entry))) n (moved (type-of-word u) (node-at (types-of (now (ws .entry))) n))) ⌝ }
 {
     let h = field(ws, n, HEAD);
-    let w = wide(n);
-    ws[NODE * w + HEAD] = h % 18 + 18 * (u + 512 * (h / 18 / 512 % 512));
+    put_head(ws, n, h % 512 + 512 * (u + 512 * (h / 262144 % 512)))
 }
 
 // Node n, if it is of the class of root lo, goes into the class of which type t is.
@@ -461,10 +503,10 @@ fn relabel_class(ws: &mut [u32], lo: u32, t: u32)
 fn root_head(h: u32, n: u32, size: u32, inverted: bool) -> u32
     requires { ⌜ n < limit·nodes ⌝ }
     requires { ⌜ size < 512 ⌝ }
-    ensures { λ r. ⌜ Head r (2 * n) size (h % 18 / 2) (xor-of inverted (eqb (h % 2) 1)) ⌝ }
+    ensures { λ r. ⌜ Head r (h % 16) (2 * n) size (h / 32 % 16) (xor-of inverted (eqb (h / 16 % 2) 1)) ⌝ }
 {
-    let i = bit_of(xor(inverted, h % 2 == 1));
-    head(2 * n, size, h % 18 / 2, i)
+    let i = bit_of(xor(inverted, h / 16 % 2 == 1));
+    head(h % 16, i, h / 32 % 16, 2 * n, size)
 }
 
 // Copies the words of node m to node n, all but the head.
@@ -473,12 +515,10 @@ fn copy_node(ws: &mut [u32], n: u32, m: u32, h: u32)
     requires { ⌜ table·length ≤ length (now ws) ⌝ }
     ensures { λ _. ⌜ Put (now (ws .entry)) (now (ws .exit)) n (with-head h (now (ws .entry)) m) ⌝ }
 {
-    let kind = field(ws, m, KIND);
-    let id = field(ws, m, ID);
     let x = field(ws, m, CHILDREN);
     let y = field(ws, m, MORE_CHILDREN);
     let z = field(ws, m, LAST_CHILDREN);
-    put(ws, n, h, kind, id, x, y, z)
+    put(ws, n, h, x, y, z)
 }
 
 // Makes node n a root of a size that is what node m is, inverted or not.

@@ -24,9 +24,9 @@ use Rattle.rules.specs.AcyclicLaws.{children-at}
 use Rattle.rules.specs.Transfer.{param-for, type-of-word}
 use Rattle.transfer.specs.Records.{mapped-length}
 use Rattle.rules.specs.Answer.{word-of-type}
-use Rattle.table.specs.Packing.{types-of, Pushes, Becomes, kind-in, kind-at, inverted-at, id-at, TypeWords}
+use Rattle.table.specs.Packing.{types-of, Pushes, Becomes, kind-in, id-in, kind-at, inverted-at, id-at, Above, TypeWords}
 use Rattle.table.specs.Nodes.{type-word}
-use Rattle.transfer.specs.Moving.{params-of, entry, Mapping, param-as, Param, Settles, Enters, Typed, Read, Fills, Known}
+use Rattle.transfer.specs.Moving.{params-of, entry, Mapping, param-as, Param, Settles, Enters, Typed, Read, Fills, Known, Alike}
 use Rattle.transfer.specs.Steps.{known-parts, settled-mapped, settled-else, param-none}
 
 -- A type word below 512 stays below, inverted or not.
@@ -169,7 +169,7 @@ few-children src n s = go (state-at src n) refl (slim-at src s n)
   where
     go : (st : TypeState) → state-at src n ≡ st → SlimState (state-at src n) → length (children (state-at src n)) ≤ 8
     go unknown e h = rw e (omega arith)
-    go (known i k d cs) e h = rw e ((rw e at h) .0)
+    go (known i k d cs) e h = rw e ((rw e at h) .few)
 
 -- The first j of the m children of node n are read.
 pub record Reading (src : Types) (n : ℕ) (cs : Words) (m j : ℕ) : Type 0 where
@@ -211,6 +211,29 @@ module _ (src : Types) (n : ℕ) (cs : Words) (m j : ℕ) (g : Reading src n cs 
 -- A node is filled in.
 pub kind-there : (src : Types) (n k : ℕ) → Known src n → k ≡ kind-at src n → k ≢ 0
 kind-there src n k z e q = z .is (sym e ∙ q)
+
+-- What is written of it fits a node of a table: n has m children.
+low-state : (st : TypeState) → SlimState st → kind-in st < 16
+unfolding kind-in
+low-state unknown h = omega arith
+low-state (known i k d cs) h = h .low
+
+small-state : (st : TypeState) → SlimState st → 0 < length (children st) → id-in st < 4096
+unfolding id-in children
+small-state unknown h l = omega arith
+small-state (known i k d cs) h l = h .small l
+
+module _ (src : Types) (n m : ℕ) (a : Alike src n m) where
+  pub alike-few : m ≤ 8
+  alike-few = omega (arith, a .count, few-children src n (a .slim))
+
+  pub kind-low : (k : ℕ) → k ≡ kind-at src n → k < 16
+  unfolding kind-at
+  kind-low k e = subst (λ x. x < 16) (sym e) (low-state (state-at src n) (slim-at src (a .slim) n))
+
+  pub id-above : (d : ℕ) → d ≡ id-at src n → Above d m
+  unfolding id-at children-at
+  id-above d e = record { small = λ h. subst (λ x. x < 4096) (sym e) (small-state (state-at src n) (slim-at src (a .slim) n) (subst (λ x. 0 < x) (a .count) h)) }
 
 pub kind-known : (src : Types) (n k : ℕ) → k ≡ kind-at src n → k ≢ 0 → Known src n
 kind-known src n k e z = record { is = λ q. z (e ∙ q) }

@@ -11,6 +11,7 @@ use Rattle.rules.specs.Limits.{limit·nodes}
 use Rattle.rules.specs.Sheet.{at}
 use Rattle.rules.specs.Types.{Ty, unknown, known, Types, new-node, invert-if, state-at}
 use Rattle.rules.specs.Solutions.{rep}
+use Rattle.rules.specs.Slim.{Slim}
 use Rattle.rules.specs.RootRank.{rank}
 use Rattle.rules.specs.AcyclicLaws.{children-at}
 use Rattle.rules.specs.Transfer.{Transfer, mapped, param-for, transfer-each, transfer-in, type-of-word}
@@ -59,6 +60,11 @@ pub record Own (ts : Types) (n : ℕ) : Type 0 where
 -- A node that is not unknown.
 pub record Known (ts : Types) (n : ℕ) : Type 0 where
   pub is : kind-at ts n ≢ 0
+
+-- m is how many children node n has, and the source is slim: what stands there fits a node of a table.
+pub record Alike (src : Types) (n m : ℕ) : Type 0 where
+  pub slim : Slim src
+  pub count : m ≡ length (children-at src n)
 
 -- Nodes stay, with their roots.
 pub record Keeps (ts us : Types) : Type 0 where

@@ -27,7 +27,7 @@ use Rattle.rules.specs.Neat.{Neat}
 use Rattle.table.specs.Packing.{types-of, Packed, kind-at, inverted-at, id-at, TypeWords}
 use Rattle.table.specs.Nodes.{type-word}
 use Rattle.table.specs.Classes.{push-last, push-before, set-there, set-beside}
-use Rattle.transfer.specs.Moving.{entry, Maps, Mapping, Level, Levels, Rooted, Own, Known, Keeps, settled, filled, fresh, Moved, Moves, Transfers, AllMoved, TransfersAll, Settles, Enters, Typed, Read, Fills}
+use Rattle.transfer.specs.Moving.{entry, Maps, Mapping, Level, Levels, Rooted, Own, Known, Alike, Keeps, settled, filled, fresh, Moved, Moves, Transfers, AllMoved, TransfersAll, Settles, Enters, Typed, Read, Fills}
 use Rattle.transfer.specs.Steps.{fresh-unknown, fresh-known, in-settled, in-fresh, each-append, each-grows, in-grows, fresh-grows, level-root, root-child}
 use Rattle.transfer.specs.Records.{mapped-length}
 use Rattle.transfer.specs.Leaves.{type-at, entry-of, entry-none, few-children}
@@ -224,8 +224,8 @@ module _ (src : Types) (f : Transfer → List Ty × Transfer) (ws ms us ns cs vs
     pub children-count : m ≡ length (take m vs)
     children-count = omega (arith, children-room, length-take m vs)
 
-    pub children-few : length (take m vs) ≤ 8
-    children-few = omega (arith, children-count, read-few src n cs m g d)
+    pub children-alike : Alike src n (length (take m vs))
+    children-alike = record { slim = g .slim; count = sym children-count ∙ d .count }
 
 module _ (src : Types) (ps : Option (List Ty)) (k : ℕ) (ws ms us ns cs vs : Words) (m r n : ℕ) (b : Bool) (a : TransfersAll src (transfer-each (transfer-in k src ps) (map type-of-word (take m cs))) ws ms us ns cs vs m b) where
   module _ (d : Read src (r / 2) cs m) where

@@ -10,7 +10,7 @@ ghost use Rattle.rules.specs.Neat.{Neat};
 ghost use Rattle.rules.specs.Transfer.{type-of-word, transfer-in, transfer-each, transfer-types, import-types, export-types};
 ghost use Rattle.table.specs.Packing.{types-of, Packed, TypeWords};
 ghost use Rattle.transfer.specs.Source.{source as source-of};
-ghost use Rattle.transfer.specs.Moving.{params-of, Mapping, Level, Levels, Rooted, Own, Known, Param, Settles, Enters, Typed, Read, Fills, Transfers, TransfersAll, fresh, filled};
+ghost use Rattle.transfer.specs.Moving.{params-of, Mapping, Level, Levels, Rooted, Own, Known, Alike, Param, Settles, Enters, Typed, Read, Fills, Transfers, TransfersAll, fresh, filled};
 ghost use Rattle.transfer.specs.Imports.{types-in, Inside, Imports, ImportsImpl, ImportsImpls};
 
 pub mod records; // records.rt: a table as the records of a chain
@@ -100,7 +100,7 @@ fn fill(packed: bool, s: &[u32], places: &[u32], r: u32, dst: &mut [u32], n: u32
     requires { ⌜ Packed (now dst) ⌝ }
     requires { ⌜ Own (types-of (now dst)) n ⌝ }
     requires { ⌜ Known (source-of packed (now s) (now places)) (r / 2) ⌝ }
-    requires { ⌜ length (now cs) ≤ 8 ⌝ }
+    requires { ⌜ Alike (source-of packed (now s) (now places)) (r / 2) (length (now cs)) ⌝ }
     requires { ⌜ TypeWords (now cs) ⌝ }
     ensures { λ q. ⌜ Fills (source-of packed (now (s .entry)) (now (places .entry))) (now (dst .entry)) (now (dst .exit)) (now (cs .entry)) r n q ⌝ }
 {
@@ -293,7 +293,7 @@ pub fn export_types(
     m: usize,
 ) -> bool
     requires { ⌜ Neat (source-of packed (now s) (now places)) ⌝ }
-    requires { ⌜ 1537 ≤ length (now dst) ⌝ }
+    requires { ⌜ 1025 ≤ length (now dst) ⌝ }
     requires { ⌜ length (source-of packed (now s) (now places)) ≤ length (now map) ⌝ }
     requires { ⌜ m ≤ length (now ts) ⌝ }
     requires { ⌜ Inside (source-of packed (now s) (now places)) (take m (now ts)) ⌝ }

@@ -17,7 +17,7 @@ use Rattle.rules.specs.Solutions.{AllIn}
 use Rattle.rules.specs.Pigeonholes.{lt-or}
 use Rattle.rules.specs.Readings.{ranked-readable, readable-ranked}
 use Rattle.rules.specs.Transfer.{type-of-word, param-for}
-use Rattle.rules.specs.Slim.{Slim}
+use Rattle.rules.specs.Slim.{SlimKnown, Slim}
 use Rattle.rules.specs.Neat.{Neat, Low, low-none, unify-neat, unify-query-neat}
 use Rattle.table.specs.Packing.{types-of, Packed, Pushes, Becomes, TypeWords, Good}
 use Rattle.table.specs.Nodes.{types-few}
@@ -87,11 +87,11 @@ module _ (ws us : Words) (r : ℕ) (g : Sound ws) where
         (λ l. subst (λ (xs : Words). Neat (types-of xs)) (sym (p .full l)) (g .neat)) (lt-or r 256);
   }
 
-  pub sound-known : (cs : Words) (c k d : ℕ) (i : Bool) → c ≡ length (types-of ws) → Below c cs → length cs ≤ 8 → (k ≡ 8 → d < 4096) → Pushes ws us (known i k d (map type-of-word cs)) r → Sound us
+  pub sound-known : (cs : Words) (c k d : ℕ) (i : Bool) → c ≡ length (types-of ws) → Below c cs → length cs ≤ 8 → (k < 16) × (k ≡ 8 → d < 4096) × (0 < length cs → d < 4096) → Pushes ws us (known i k d (map type-of-word cs)) r → Sound us
   sound-known cs c k d i e b few low p = record {
     packed = p .packed;
     neat = ⊎-elim
-        (λ l. subst Neat (sym (p .room l ∙ ap (λ k′. types-of ws ++ (new-node k′ (known i k d (map type-of-word cs)) ∷ [])) (p .number))) (pushed-neat (types-of ws) (known i k d (map type-of-word cs)) (g .neat) (there ws cs c e b) (omega (arith, mapped cs), low)))
+        (λ l. subst Neat (sym (p .room l ∙ ap (λ k′. types-of ws ++ (new-node k′ (known i k d (map type-of-word cs)) ∷ [])) (p .number))) (pushed-neat (types-of ws) (known i k d (map type-of-word cs)) (g .neat) (there ws cs c e b) (subst (SlimKnown k d) (sym (mapped cs)) (record { few = few; low = low .0; closure = low .1; small = low .2 }))))
         (λ l. subst (λ (xs : Words). Neat (types-of xs)) (sym (p .full l)) (g .neat)) (lt-or r 256);
   }
     where

@@ -6,14 +6,16 @@ use mathlib.Core.List.{List, map}
 use mathlib.Core.Logic.{_≢_, ⊎-elim}
 use native.Mathlib.Nat.{not-suc-le-zero, eq-or-lt-of-le}
 use native.Mathlib.Omega.{arith}
+use lib.Dec.{eqb}
 use lib.ListN.{length, take}
 use lib.Seq.{length-take-le}
+use borrow.Author.Tests.{eqb-true}
 use Rattle.rules.specs.Lists.{Words}
 use Rattle.rules.specs.Sheet.{at}
 use Rattle.rules.specs.Types.{known, unify-impl-type}
 use Rattle.rules.specs.Transfer.{type-of-word, import-types, export-types}
 use Rattle.words.specs.Buffers.{copied, copied-length}
-use Rattle.table.specs.Packing.{types-of, Pushes, TypeWords}
+use Rattle.table.specs.Packing.{types-of, Pushes, Above, TypeWords}
 use Rattle.table.specs.Nodes.{types-few}
 use Rattle.unify.specs.declared.UnifyResult.{UnifyResult}
 use Rattle.unify.specs.Results.{Unifies}
@@ -52,14 +54,24 @@ passed true e = refl
 passed false e = absurd (true≢false e)
 
 -- `id_fits`.
-pub record IdFits (k d : ℕ) (b : Bool) : Type 0 where
-  pub at : b ≡ true → k ≡ 8 → d < 4096
+pub record IdFits (k d n : ℕ) (b : Bool) : Type 0 where
+  pub at : b ≡ true → (k < 16) × (k ≡ 8 → d < 4096) × (0 < n → d < 4096)
 
-pub id-low : (k d : ℕ) (b : Bool) → (b ≡ true → d < 4096) → IdFits k d b
-id-low k d b h = record { at = λ e p. h e }
+pub id-not : (k d n : ℕ) → IdFits k d n false
+id-not k d n = record { at = λ e. absurd (true≢false (sym e)) }
 
-pub id-free : (k d : ℕ) → k ≢ 8 → IdFits k d true
-id-free k d h = record { at = λ e p. absurd (h p) }
+pub id-low : (k d n : ℕ) → k < 16 → d < 4096 → IdFits k d n true
+id-low k d n h l = record { at = λ e. (h, λ p. l, λ p. l) }
+
+pub id-free : (k d n : ℕ) → k < 16 → k ≢ 8 → IdFits k d n (eqb n 0)
+id-free k d n h z = record { at = λ e. (h, λ p. absurd (z p), λ p. absurd (omega (arith, eqb-true n 0 e))) }
+
+module _ (k d n : ℕ) (b : Bool) (t : IdFits k d n b) (z : not b ≡ false) where
+  pub fits-kind : k < 16
+  fits-kind = t .at (passed b z) .0
+
+  pub fits-id : Above d n
+  fits-id = record { small = t .at (passed b z) .2 }
 
 -- A type that passed the test is a node of its table, whose count c is.
 pub node-there : (ws : Words) (c t : ℕ) → c ≡ length (types-of ws) → t / 2 < c → t / 2 < length (types-of ws)
@@ -73,7 +85,7 @@ module _ (ws xs : Words) (c : ℕ) (q : Bool) (e : c ≡ length (types-of ws)) (
   pub tested-words : TypeWords xs
   tested-words = below-words ws xs c e (t .holds (passed q p))
 
-pub known-pushed : (ws us cs : Words) (r c k d : ℕ) (i q : Bool) → Sound ws → c ≡ length (types-of ws) → Tested c cs q → not q ≡ false → length cs ≤ 8 → (b : Bool) → IdFits k d b → not b ≡ false → Pushes ws us (known i k d (map type-of-word cs)) r → Sound us
+pub known-pushed : (ws us cs : Words) (r c k d : ℕ) (i q : Bool) → Sound ws → c ≡ length (types-of ws) → Tested c cs q → not q ≡ false → length cs ≤ 8 → (b : Bool) → IdFits k d (length cs) b → not b ≡ false → Pushes ws us (known i k d (map type-of-word cs)) r → Sound us
 known-pushed ws us cs r c k d i q g e t p few b low z u = sound-known ws us r g cs c k d i e (t .holds (passed q p)) few (low .at (passed b z)) u
 
 -- `both_below`.

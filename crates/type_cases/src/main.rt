@@ -79,8 +79,8 @@ fn replay_steps(
     marks: &mut [u32],
     counts: &mut [u32],
 )
-    requires { ⌜ 1537 ≤ length (now a) ⌝ }
-    requires { ⌜ 1537 ≤ length (now b) ⌝ }
+    requires { ⌜ 1025 ≤ length (now a) ⌝ }
+    requires { ⌜ 1025 ≤ length (now b) ⌝ }
     requires { ⌜ 256 ≤ length (now marks) ⌝ }
 {
     table::clear_table(a);
@@ -102,8 +102,8 @@ fn replay(
     marks: &mut [u32],
     counts: &mut [u32],
 )
-    requires { ⌜ 1537 ≤ length (now a) ⌝ }
-    requires { ⌜ 1537 ≤ length (now b) ⌝ }
+    requires { ⌜ 1025 ≤ length (now a) ⌝ }
+    requires { ⌜ 1025 ≤ length (now b) ⌝ }
     requires { ⌜ 256 ≤ length (now marks) ⌝ }
 {
     cases::read_word(fd);
@@ -117,8 +117,8 @@ fn replay(
 fn replay_all(fd: i32, counts: &mut [u32]) {
     let mut s = [0u32; 1024];
     let mut o = [0u32; 8192];
-    let mut a = [0u32; 1537];
-    let mut b = [0u32; 1537];
+    let mut a = [0u32; 1025];
+    let mut b = [0u32; 1025];
     let mut marks = [0u32; 256];
     let n = cases::read_word(fd);
     let mut i = 0;

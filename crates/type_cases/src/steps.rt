@@ -2,6 +2,7 @@
 // are no nodes is not made, and is wrong. oracle/stored/README.md says how it is laid out.
 ghost use mathlib.Core.Path.{_≡_};
 ghost use mathlib.Core.Bool.{true};
+ghost use mathlib.Core.Logic.{_≢_};
 ghost use Prim.Native.Nat.{_<_, _≤_};
 ghost use lib.ListN.{length, take};
 ghost use Rattle.table.specs.Packing.{types-of};
@@ -34,7 +35,10 @@ const NODES: u32 = 9;
 // The most types in a row.
 const ROW: usize = 8;
 
-// A closure's kind; its id is that of a record of a sheet, below 4,096.
+// Kinds are below this.
+const KINDS: u32 = 16;
+
+// A closure's kind; its id is that of a record of a sheet, below 4,096, and so is that of a type with children.
 const CLOSURE: u32 = 8;
 
 const IDS: u32 = 4096;
@@ -104,32 +108,32 @@ fn unknown(o: &[u32], ws: &mut [u32]) -> bool
     n == words::word(o, 2)
 }
 
-// A closure's id is that of a record.
-fn id_fits(kind: u32, id: u32) -> bool
-    ensures { λ r. ⌜ IdFits kind id r ⌝ }
+// Whether a kind, and the id of a type with n children, are such as a sheet has: a closure's id, and that of a type with children, is that of a record.
+fn id_fits(kind: u32, id: u32, n: usize) -> bool
+    ensures { λ r. ⌜ IdFits kind id n r ⌝ }
 {
-    if kind == CLOSURE {
-        return id < IDS;
+    if kind >= KINDS {
+        return false;
     }
-    true
+    if id < IDS {
+        return true;
+    }
+    if kind == CLOSURE {
+        return false;
+    }
+    n == 0
 }
 
-// Adds a type of a kind.
-fn known(o: &[u32], ws: &mut [u32]) -> bool
+// Adds a type of a kind with m children.
+fn add_known(o: &[u32], ws: &mut [u32], kind: u32, m: usize, cs: &[u32]) -> bool
     requires { ⌜ Sound (now ws) ⌝ }
+    requires { ⌜ kind ≢ 0 ⌝ }
+    requires { ⌜ m ≤ 8 ⌝ }
+    requires { ⌜ length (now cs) ≤ 8 ⌝ }
     ensures { λ _. ⌜ Sound (now (ws .exit)) ⌝ }
 {
-    let kind = words::word(o, 2);
-    if kind == 0 {
-        return false;
-    }
     let id = words::word(o, 4);
-    if !id_fits(kind, id) {
-        return false;
-    }
-    let m = row(o, 5);
-    let cs = words::record(o, 6, m);
-    if ROW < cs.len() {
+    if !id_fits(kind, id, cs.len()) {
         return false;
     }
     let c = table::count(ws);
@@ -139,6 +143,22 @@ fn known(o: &[u32], ws: &mut [u32]) -> bool
     let inverted = words::word(o, 3) == 1;
     let n = table::new_known(ws, inverted, kind, id, cs);
     n == words::word(o, 6 + m)
+}
+
+fn known(o: &[u32], ws: &mut [u32]) -> bool
+    requires { ⌜ Sound (now ws) ⌝ }
+    ensures { λ _. ⌜ Sound (now (ws .exit)) ⌝ }
+{
+    let kind = words::word(o, 2);
+    if kind == 0 {
+        return false;
+    }
+    let m = row(o, 5);
+    let cs = words::record(o, 6, m);
+    if ROW < cs.len() {
+        return false;
+    }
+    add_known(o, ws, kind, m, cs)
 }
 
 // Joins two types.

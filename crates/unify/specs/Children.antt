@@ -70,7 +70,7 @@ digit-small (suc (suc j)) w = omega arith
 
 pub child-fits : (ws : Words) (n j c : ℕ) → c ≡ word-of-type (getD (children-at (types-of ws) n) j (false, 0)) → c < 4294967294
 child-fits ws n j c e = ⊎-elim
-    (λ h. omega (arith, digit-small (j % 3) (at ws (6 * n + (4 + j / 3))), child-here ws n j (length (children-at (types-of ws) n)) refl (at ws (6 * n + (4 + j / 3))) (digit (j % 3) (at ws (6 * n + (4 + j / 3)))) h refl refl))
+    (λ h. omega (arith, digit-small (j % 3) (at ws (4 * n + (2 + j / 3))), child-here ws n j (length (children-at (types-of ws) n)) refl (at ws (4 * n + (2 + j / 3))) (digit (j % 3) (at ws (4 * n + (2 + j / 3)))) h refl refl))
     (λ h. omega (arith, child-past ws n j (length (children-at (types-of ws) n)) refl h))
     (lt-or j (length (children-at (types-of ws) n)))
 

@@ -1,5 +1,5 @@
 -- A known node, with the children that its cells are.
-use Rattle.loading.specs.Nodes.{cells-few, cells-length, cells-short, cells-words, known-pushed}
+use Rattle.loading.specs.Nodes.{cells-few, cells-length, cells-short, cells-words, cells-above, known-low, known-pushed}
 use borrow.Author.Needs.{needs}
 use Rattle.loading.proofs.load_known.Statement.{statement}
 use Rattle.loading.proofs.load_known.Tie as tie
@@ -29,7 +29,7 @@ slice-aggregate-new-known : tie.Need-slice-aggregate-new-known
 slice-aggregate-new-known c = search (needs, cells-length)
 
 new-known-requires : tie.Need-new-known-requires
-new-known-requires c κs = (search needs, (search needs, (search (needs, cells-short), search (needs, cells-words))))
+new-known-requires c κs = (search needs, (search needs, (search (needs, known-low), (search (needs, cells-above), (search (needs, cells-short), search (needs, cells-words))))))
 
 same-length : tie.Need-same-length
 same-length c = search needs

@@ -1,5 +1,5 @@
--- `child_roots`.
-use Rattle.table.specs.ChildRoots.{known-place, roots-untold, roots-own}
+-- `child_roots`: the words of a known node.
+use Rattle.table.specs.ChildRoots.{known-place, roots-own}
 use mathlib.Core.Path.{refl}
 use borrow.Author.Needs.{needs}
 use Rattle.table.proofs.child_roots.Statement.{statement}
@@ -11,20 +11,17 @@ wide-requires c κs = search needs
 mul-w : tie.Need-mul-w
 mul-w c = search needs
 
-add-h : tie.Need-add-h
-add-h c = search needs
+add-own-arity : tie.Need-add-own-arity
+add-own-arity c = search needs
 
-mul-h : tie.Need-mul-h
-mul-h c = search needs
+mul-own-arity : tie.Need-mul-own-arity
+mul-own-arity c = search needs
 
-shared-slice-read-h : tie.Need-shared-slice-read-h
-shared-slice-read-h c = search (needs, known-place)
+shared-slice-read-own-arity : tie.Need-shared-slice-read-own-arity
+shared-slice-read-own-arity c = search (needs, known-place)
 
-returns : tie.Need-returns
-returns c = search (needs, roots-untold)
-
-wide-requires-2 : tie.Need-wide-requires-2
-wide-requires-2 c κs = search needs
+own-arity-requires : tie.Need-own-arity-requires
+own-arity-requires c κs = search needs
 
 add-roots-read : tie.Need-add-roots-read
 add-roots-read c = search needs
@@ -33,7 +30,7 @@ mul-roots-read : tie.Need-mul-roots-read
 mul-roots-read c = search needs
 
 shared-slice-read-roots-read : tie.Need-shared-slice-read-roots-read
-shared-slice-read-roots-read c = search needs
+shared-slice-read-roots-read c = search (needs, known-place)
 
 add-roots-read-2 : tie.Need-add-roots-read-2
 add-roots-read-2 c = search needs
@@ -42,7 +39,7 @@ mul-roots-read-2 : tie.Need-mul-roots-read-2
 mul-roots-read-2 c = search needs
 
 shared-slice-read-roots-read-2 : tie.Need-shared-slice-read-roots-read-2
-shared-slice-read-roots-read-2 c = search needs
+shared-slice-read-roots-read-2 c = search (needs, known-place)
 
 add-roots-read-3 : tie.Need-add-roots-read-3
 add-roots-read-3 c = search needs
@@ -51,13 +48,13 @@ mul-roots-read-3 : tie.Need-mul-roots-read-3
 mul-roots-read-3 c = search needs
 
 shared-slice-read-roots-read-3 : tie.Need-shared-slice-read-roots-read-3
-shared-slice-read-roots-read-3 c = search needs
+shared-slice-read-roots-read-3 c = search (needs, known-place)
 
 roots-read-requires : tie.Need-roots-read-requires
 roots-read-requires c κs = search needs
 
-returns-2 : tie.Need-returns-2
-returns-2 c = roots-own _ _ _ _ _ _ _ _ _ (c .before .before .before .before .before .before .before .before .before .pre .1) (c .before .before .before .before .before .before .before .wide .ensures) refl refl (search needs) (c .before .before .before .before .wide2 .ensures) refl refl refl _ (c .roots-read .ensures)
+returns : tie.Need-returns
+returns c = roots-own _ _ _ _ _ _ _ _ _ (c .before .before .before .before .before .before .before .before .pre .1) (c .before .before .before .before .before .before .wide .ensures) refl refl (c .before .before .before .before .own-arity .ensures) refl refl refl _ (c .roots-read .ensures)
 
 pub child-roots-spec : {M : Type 1} → statement M
 child-roots-spec =
@@ -65,11 +62,10 @@ child-roots-spec =
     (tie.spec
     wide-requires
     mul-w
-    add-h
-    mul-h
-    shared-slice-read-h
-    returns
-    wide-requires-2
+    add-own-arity
+    mul-own-arity
+    shared-slice-read-own-arity
+    own-arity-requires
     add-roots-read
     mul-roots-read
     shared-slice-read-roots-read
@@ -80,4 +76,4 @@ child-roots-spec =
     mul-roots-read-3
     shared-slice-read-roots-read-3
     roots-read-requires
-    returns-2)
+    returns)

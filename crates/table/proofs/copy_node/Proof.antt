@@ -13,12 +13,6 @@ field-requires-2 c κs = search needs
 field-requires-3 : tie.Need-field-requires-3
 field-requires-3 c κs = search needs
 
-field-requires-4 : tie.Need-field-requires-4
-field-requires-4 c κs = search needs
-
-field-requires-5 : tie.Need-field-requires-5
-field-requires-5 c κs = search needs
-
 put-requires : tie.Need-put-requires
 put-requires c κs = search needs
 
@@ -35,8 +29,6 @@ copy-node-spec =
     field-requires
     field-requires-2
     field-requires-3
-    field-requires-4
-    field-requires-5
     put-requires
     same-length
     returns)

@@ -19,8 +19,14 @@ mul-result-3 c = search needs
 add-result-2 : tie.Need-add-result-2
 add-result-2 c = search needs
 
+mul-result-4 : tie.Need-mul-result-4
+mul-result-4 c = search needs
+
 add-result-3 : tie.Need-add-result-3
 add-result-3 c = search needs
+
+add-result-4 : tie.Need-add-result-4
+add-result-4 c = search needs
 
 returns : tie.Need-returns
 returns c = search (needs, head-of)
@@ -28,4 +34,13 @@ returns c = search (needs, head-of)
 pub head-spec : {M : Type 1} → statement M
 head-spec =
     tie.close
-    (tie.spec mul-result add-result mul-result-2 mul-result-3 add-result-2 add-result-3 returns)
+    (tie.spec
+    mul-result
+    add-result
+    mul-result-2
+    mul-result-3
+    add-result-2
+    mul-result-4
+    add-result-3
+    add-result-4
+    returns)

@@ -1,5 +1,5 @@
--- `put`: six stores.
-use Rattle.table.specs.Writes.{put-six}
+-- `put`: four stores.
+use Rattle.table.specs.Writes.{put-four}
 use native.Mathlib.Omega.{arith}
 use lib.ListN.{length-set}
 use borrow.Author.Needs.{needs}
@@ -57,35 +57,11 @@ mul-ws-8 c = search needs
 slice-write-ws-4 : tie.Need-slice-write-ws-4
 slice-write-ws-4 c = simp length-set (omega arith)
 
-mul-ws-9 : tie.Need-mul-ws-9
-mul-ws-9 c = search needs
-
-add-ws-5 : tie.Need-add-ws-5
-add-ws-5 c = search needs
-
-mul-ws-10 : tie.Need-mul-ws-10
-mul-ws-10 c = search needs
-
-slice-write-ws-5 : tie.Need-slice-write-ws-5
-slice-write-ws-5 c = simp length-set (omega arith)
-
-mul-ws-11 : tie.Need-mul-ws-11
-mul-ws-11 c = search needs
-
-add-ws-6 : tie.Need-add-ws-6
-add-ws-6 c = search needs
-
-mul-ws-12 : tie.Need-mul-ws-12
-mul-ws-12 c = search needs
-
-slice-write-ws-6 : tie.Need-slice-write-ws-6
-slice-write-ws-6 c = simp length-set (omega arith)
-
 same-length : tie.Need-same-length
 same-length c = search needs
 
 returns : tie.Need-returns
-returns c = search (needs, put-six)
+returns c = search (needs, put-four)
 
 pub put-spec : {M : Type 1} → statement M
 put-spec =
@@ -108,13 +84,5 @@ put-spec =
     add-ws-4
     mul-ws-8
     slice-write-ws-4
-    mul-ws-9
-    add-ws-5
-    mul-ws-10
-    slice-write-ws-5
-    mul-ws-11
-    add-ws-6
-    mul-ws-12
-    slice-write-ws-6
     same-length
     returns)

@@ -1,5 +1,5 @@
 -- `set_up`: the head alone is stored.
-use Rattle.table.specs.Writes.{place-in}
+use Rattle.table.specs.Writes.{node-low}
 use Rattle.table.specs.Joins.{set-up}
 use borrow.Author.Needs.{needs}
 use Rattle.table.proofs.set_up.Statement.{statement}
@@ -8,32 +8,20 @@ use Rattle.table.proofs.set_up.Tie as tie
 field-requires : tie.Need-field-requires
 field-requires c κs = search needs
 
-wide-requires : tie.Need-wide-requires
-wide-requires c κs = search needs
+mul-put-head : tie.Need-mul-put-head
+mul-put-head c = search needs
 
-mul-ws : tie.Need-mul-ws
-mul-ws c = search needs
+add-put-head : tie.Need-add-put-head
+add-put-head c = search needs
 
-add-ws : tie.Need-add-ws
-add-ws c = search needs
+mul-put-head-2 : tie.Need-mul-put-head-2
+mul-put-head-2 c = search needs
 
-mul-ws-2 : tie.Need-mul-ws-2
-mul-ws-2 c = search needs
+add-put-head-2 : tie.Need-add-put-head-2
+add-put-head-2 c = search needs
 
-add-ws-2 : tie.Need-add-ws-2
-add-ws-2 c = search needs
-
-mul-ws-3 : tie.Need-mul-ws-3
-mul-ws-3 c = search needs
-
-add-ws-3 : tie.Need-add-ws-3
-add-ws-3 c = search needs
-
-mul-ws-4 : tie.Need-mul-ws-4
-mul-ws-4 c = search needs
-
-slice-write-ws : tie.Need-slice-write-ws
-slice-write-ws c = search (needs, place-in)
+put-head-requires : tie.Need-put-head-requires
+put-head-requires c κs = search (needs, node-low)
 
 same-length : tie.Need-same-length
 same-length c = search needs
@@ -46,14 +34,10 @@ set-up-spec =
     tie.close
     (tie.spec
     field-requires
-    wide-requires
-    mul-ws
-    add-ws
-    mul-ws-2
-    add-ws-2
-    mul-ws-3
-    add-ws-3
-    mul-ws-4
-    slice-write-ws
+    mul-put-head
+    add-put-head
+    mul-put-head-2
+    add-put-head-2
+    put-head-requires
     same-length
     returns)

@@ -1,4 +1,4 @@
--- `write_known`: its children three to a word.
+-- `write_known`: its children three to a word, the id above the last.
 use Rattle.table.specs.Writes.{wrote-known}
 use borrow.Author.Needs.{needs}
 use Rattle.table.proofs.write_known.Statement.{statement}
@@ -22,8 +22,8 @@ triple-of-requires c κs = search needs
 triple-of-requires-2 : tie.Need-triple-of-requires-2
 triple-of-requires-2 c κs = search needs
 
-triple-of-requires-3 : tie.Need-triple-of-requires-3
-triple-of-requires-3 c κs = search needs
+last-of-requires : tie.Need-last-of-requires
+last-of-requires c κs = search needs
 
 put-requires : tie.Need-put-requires
 put-requires c κs = search needs
@@ -39,12 +39,12 @@ write-known-spec =
     tie.close
     (tie.spec
     bit-of-requires
-    mul-head
     cast-head
+    mul-head
     head-requires
     triple-of-requires
     triple-of-requires-2
-    triple-of-requires-3
+    last-of-requires
     put-requires
     same-length
     returns)

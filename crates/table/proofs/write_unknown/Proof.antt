@@ -1,4 +1,4 @@
--- `write_unknown`: zeros behind a head of its own.
+-- `write_unknown`: the head says that nothing is known.
 use Rattle.table.specs.Writes.{wrote-unknown}
 use borrow.Author.Needs.{needs}
 use Rattle.table.proofs.write_unknown.Statement.{statement}
@@ -10,8 +10,8 @@ mul-head c = search needs
 head-requires : tie.Need-head-requires
 head-requires c κs = search needs
 
-put-requires : tie.Need-put-requires
-put-requires c κs = search needs
+put-head-requires : tie.Need-put-head-requires
+put-head-requires c κs = search needs
 
 same-length : tie.Need-same-length
 same-length c = search needs
@@ -20,4 +20,5 @@ returns : tie.Need-returns
 returns c = search (needs, wrote-unknown)
 
 pub write-unknown-spec : {M : Type 1} → statement M
-write-unknown-spec = tie.close (tie.spec mul-head head-requires put-requires same-length returns)
+write-unknown-spec =
+    tie.close (tie.spec mul-head head-requires put-head-requires same-length returns)

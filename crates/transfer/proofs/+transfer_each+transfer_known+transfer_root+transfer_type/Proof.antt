@@ -10,7 +10,7 @@ use Rattle.transfer.specs.Source.{source}
 use Rattle.transfer.specs.Moving.{params-of}
 use Rattle.transfer.specs.Records.{source-unknown}
 use Rattle.transfer.specs.Leaves.{kind-known}
-use Rattle.transfer.specs.Ways.{Going, going-start, going-left, going-falls, going-down, going-full, going-next, going-done, read-room, read-levels, children-own, children-small, children-room, children-count, children-few, known-done, known-full, root-room, root-full, root-unknown, entered-mapping, entered-own, root-known, root-inside, type-settled, root-level, type-fresh}
+use Rattle.transfer.specs.Ways.{Going, going-start, going-left, going-falls, going-down, going-full, going-next, going-done, read-room, read-levels, children-own, children-small, children-room, children-count, children-alike, known-done, known-full, root-room, root-full, root-unknown, entered-mapping, entered-own, root-known, root-inside, type-settled, root-level, type-fresh}
 use Prim.Native.Nat.{ℕ, _<_}
 use borrow.Fn.Kinds.{In}
 use borrow.Fn.PlainCycle.{Measures, is, falls, and}
@@ -200,7 +200,7 @@ transfer-known-slice-aggregate-fill : (t : ℕ) → transfer-known-lts.Need-slic
 transfer-known-slice-aggregate-fill t c = children-count _ _ _ _ _ _ _ _ _ _ (c .before .before .before .before .before .before .before .before .transfer-each .ensures) _ (c .before .before .before .before .before .before .before .before .before .before .before .before .before .before .before .before .before .before .before .before .pre .1 .0) (c .before .before .before .before .before .before .before .before .before .before .before .before .before .read-children .ensures)
 
 transfer-known-fill-requires : (t : ℕ) → transfer-known-lts.Need-fill-requires (transfer-known-calls t) (transfer-known-at t) transfer-known.Post
-transfer-known-fill-requires t c κs = (search needs, (search (needs, children-own, c .before .before .before .before .before .before .before .before .before .before .before .before .before .before .before .before .before .before .before .before), (search (needs, c .before .before .before .before .before .before .before .before .before .before .before .before .before .before .before .before .before .before .before .before), (search (needs, children-few), search (needs, children-small)))))
+transfer-known-fill-requires t c κs = (search needs, (search (needs, children-own, c .before .before .before .before .before .before .before .before .before .before .before .before .before .before .before .before .before .before .before .before), (search (needs, c .before .before .before .before .before .before .before .before .before .before .before .before .before .before .before .before .before .before .before .before), (children-alike _ _ _ _ _ _ _ _ _ _ (c .before .before .before .before .before .before .before .before .transfer-each .ensures) _ (c .before .before .before .before .before .before .before .before .before .before .before .before .before .before .before .before .before .before .before .before .pre .1 .0) (c .before .before .before .before .before .before .before .before .before .before .before .before .before .read-children .ensures), search (needs, children-small)))))
 
 transfer-known-same-length : (t : ℕ) → transfer-known-lts.Need-same-length (transfer-known-calls t) (transfer-known-at t) transfer-known.Post
 transfer-known-same-length t c = search needs

@@ -1,5 +1,5 @@
 -- A node filled in.
-use Rattle.transfer.specs.Leaves.{fills, kind-there}
+use Rattle.transfer.specs.Leaves.{fills, kind-there, kind-low, id-above, alike-few}
 use Rattle.table.specs.Writes.{node-low}
 use borrow.Author.Needs.{needs}
 use Rattle.transfer.proofs.fill.Statement.{statement}
@@ -15,7 +15,7 @@ id-of-requires : tie.Need-id-of-requires
 id-of-requires c κs = search needs
 
 set-known-requires : tie.Need-set-known-requires
-set-known-requires c κs = (search needs, (search needs, (search needs, (search (needs, kind-there), (search needs, search needs)))))
+set-known-requires c κs = (search needs, (search needs, (search needs, (search (needs, kind-there), (search (needs, kind-low), (search (needs, id-above), (search (needs, alike-few), search needs)))))))
 
 new-type-requires : tie.Need-new-type-requires
 new-type-requires c κs = search (needs, node-low)

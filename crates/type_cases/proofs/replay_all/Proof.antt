@@ -7,7 +7,7 @@ use Rattle.type_cases.proofs.replay_all.Statement.{statement}
 use Rattle.type_cases.proofs.replay_all.Tie as tie
 
 abbrev Inv-loop : tie.InvT-loop
-Inv-loop fd counts₀ s₀ o₀ a₀ b₀ marks₀ n i₀ counts s o a b marks i = (length s ≡ 1024) × (length o ≡ 8192) × (length a ≡ 1537) × (length b ≡ 1537) × (length marks ≡ 256) × (length counts ≡ length counts₀) × (i ≤ n)
+Inv-loop fd counts₀ s₀ o₀ a₀ b₀ marks₀ n i₀ counts s o a b marks i = (length s ≡ 1024) × (length o ≡ 8192) × (length a ≡ 1025) × (length b ≡ 1025) × (length marks ≡ 256) × (length counts ≡ length counts₀) × (i ≤ n)
 
 abbrev μ-loop : tie.MeasureT-loop
 μ-loop fd counts₀ s₀ o₀ a₀ b₀ marks₀ n i₀ counts s o a b marks i = n - i
