@@ -95,11 +95,11 @@ impl-type-right s ts a b formed ax ay k won = go (eqb (a .0) 0 || eqb (b .0) 0) 
     go false e true e′ true e″ w = rw (e, e′, unify-impl-type) (rw (e″, unify-types) (each-right (unify s) (λ us. unify-in-right (suc (length us)) s us) ts (a .1) (b .1) formed ax ay (eqb→eq (length (a .1)) (length (b .1)) (subst T (sym e″) tt)) k (rw (e, e′, unify-impl-type, e″, unify-types) at w)))
 
 -- A transfer goes on from m to m′: nodes stay as they are and roots where they went, and new nodes are their own roots.
-record Frame (m m′ : Transfer) : Type 0 where
-  long : length (m .1) ≤ length (m′ .1)
-  nodes : (n : ℕ) → n < length (m .1) → node-at (m′ .1) n ≡ node-at (m .1) n
+pub record Frame (m m′ : Transfer) : Type 0 where
+  pub long : length (m .1) ≤ length (m′ .1)
+  pub nodes : (n : ℕ) → n < length (m .1) → node-at (m′ .1) n ≡ node-at (m .1) n
   flat : (n : ℕ) → length (m .1) ≤ n → n < length (m′ .1) → rep (m′ .1) n ≡ n
-  went : (r : ℕ) (u : Ty) → mapped (m .0) r ≡ some u → mapped (m′ .0) r ≡ some u
+  pub went : (r : ℕ) (u : Ty) → mapped (m .0) r ≡ some u → mapped (m′ .0) r ≡ some u
 
 frame-refl : (m : Transfer) → Frame m m
 frame-refl m = record { long = le-refl _; nodes = λ n h. refl; flat = λ n l h. absurd (omega arith); went = λ r u e. e }
@@ -161,17 +161,17 @@ unfolding state-at new-node
 set-state xs n st h = ap (λ (x : TypeNode). x .state) (set-at xs n (new-node n st) h)
 
 -- Every transfer goes on so.
-each-frame : (f : Ty → Transfer → Ty × Transfer) → ((t : Ty) (m : Transfer) → Frame m ((f t m) .1)) → (cs : List Ty) (m : Transfer) → Frame m ((transfer-each f cs m) .1)
+pub each-frame : (f : Ty → Transfer → Ty × Transfer) → ((t : Ty) (m : Transfer) → Frame m ((f t m) .1)) → (cs : List Ty) (m : Transfer) → Frame m ((transfer-each f cs m) .1)
 unfolding transfer-each
 each-frame f fr [] m = frame-refl m
 each-frame f fr (c ∷ cs) m = frame-trans m ((f c m) .1) _ (fr c m) (each-frame f fr cs ((f c m) .1))
 
 -- A node that was pushed is there.
-past-push : (m q : Transfer) (r : ℕ) → Frame (pushed m r) q → length (m .1) < length (q .1)
+pub past-push : (m q : Transfer) (r : ℕ) → Frame (pushed m r) q → length (m .1) < length (q .1)
 past-push m q r f = omega (arith, f .long, length-append (m .1) (new-node (length (m .1)) unknown ∷ []))
 
 -- `transfer_type`, to any depth.
-in-frame : (src : Types) (ps : Option (List Ty)) (k : ℕ) (t : Ty) (m : Transfer) → Frame m ((transfer-in k src ps t m) .1)
+pub in-frame : (src : Types) (ps : Option (List Ty)) (k : ℕ) (t : Ty) (m : Transfer) → Frame m ((transfer-in k src ps t m) .1)
 unfolding transfer-in find invert-if rep
 in-frame src ps zero t m = frame-refl m
 in-frame src ps (suc k) t m = go (mapped (m .0) (rep src (t .1))) refl (param-for ps (state-at src (rep src (t .1)))) refl (state-at src (rep src (t .1))) refl (in-frame src ps k)
@@ -435,7 +435,7 @@ module _ (s : Words) (ts : Types) (q : ImplType) (neat : Neat ts) (inside : AllI
       reads = source-reads src formed free flat ps dst (p .1) into σ (π σ)
 
 -- Nodes stay where fresh unknowns come behind them.
-fresh-first : (ts : Types) (n k : ℕ) → k < length ts → node-at (with-fresh ts n) k ≡ node-at ts k
+pub fresh-first : (ts : Types) (n k : ℕ) → k < length ts → node-at (with-fresh ts n) k ≡ node-at ts k
 unfolding with-fresh node-at
 fresh-first ts n k h = List·getD-append ts (new-nodes (length ts) (replicate n unknown)) (new-node 0 unknown) k h
 

@@ -70,6 +70,7 @@ pub mod Neat
 pub mod SearchKeeps
 pub mod SubQuestions
 pub mod CommonTerms
+pub mod CommonSides
 pub mod CallKeeps
 pub mod ResultLimits
 pub mod AnswerSize
