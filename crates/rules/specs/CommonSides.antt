@@ -11,15 +11,14 @@ use native.Mathlib.Omega.{arith}
 use native.Mathlib.Decide.{ℕ-discrete}
 use lib.Dec.{T, eqb, eqb→eq}
 use lib.ListN.{length, getD, set, length-append, length-set, List·getD-eq-default}
-use lib.Seq.{getD-set-same, getD-set-other}
 use Rattle.rules.specs.Lists.{Words}
 use Rattle.rules.specs.Layout.{header·impls, kind·closure, kind·error, kind·param}
 use Rattle.rules.specs.Sheet.{many, kinds, kind-row, kind-flag, row·own-inverse, row·may-meet, row·length}
-use Rattle.rules.specs.Types.{Ty, TypeState, unknown, known, TypeNode, Types, new-node, node-at, xor, invert-if, invert-state, find, state-at, kind, self-inverse, success, from-bool, larger, relabel, or-else, hang, join, Unified, occurs-in, unify-each, unify-types, unify-children, unify-known, join-on-success, bind-unknown, unify-states, unify-roots, unify-in, unify, ImplType, unify-impl-type}
+use Rattle.rules.specs.Types.{Ty, TypeState, unknown, known, TypeNode, Types, new-node, node-at, xor, invert-if, invert-state, find, state-at, kind, self-inverse, success, from-bool, larger, or-else, hang, join, Unified, occurs-in, unify-each, unify-types, unify-children, unify-known, join-on-success, bind-unknown, unify-states, unify-roots, unify-in, unify, ImplType, unify-impl-type}
 use Rattle.rules.specs.Transfer.{Transfer, mapped, param-for, transfer-each, transfer-in, transfer-types, import-types, import-impl-type}
 use Rattle.rules.specs.Search.{Finder, impl-signature, impl-params, fresh-params, with-fresh}
 use Rattle.rules.specs.Solutions.{term-size, Sol, rep, Fits, Solves, AllIn, ChildrenIn, WellFormed, eqb-true, eqb-false, known≢, Readable}
-use Rattle.rules.specs.Joining.{map-at, map-length, hang-state, hang-top, same-terms}
+use Rattle.rules.specs.Joining.{hang-state, hang-top, same-terms}
 use Rattle.rules.specs.MostGeneral.{Won, Right, AfterAll, both-won, and-true, flip-in, known-right, join-won, unify-in-right}
 use Rattle.rules.specs.Pigeonholes.{lt-or}
 use Rattle.rules.specs.RootRank.{child-in}
@@ -27,6 +26,7 @@ use Rattle.rules.specs.TransferKeeps.{snoc-at, set-at, set-off}
 use Rattle.rules.specs.OwnInverse.{opened}
 use Rattle.rules.specs.TransferCount.{mapped-other, mapped-here}
 use Rattle.rules.specs.CheckedTables.{Ready}
+use Rattle.rules.specs.UprightRoots.{relabel-in, relabel-out, turn, hung-top, hung-off, hang-upright}
 use Rattle.rules.specs.Neat.{Neat, Brought, in-more, low-none, query-brought, impl-params-neat, fresh-length}
 use Rattle.rules.specs.SearchKeeps.{fresh-count, met, signature-brought}
 use Rattle.rules.specs.CommonTerms.{Frame, each-frame, past-push, in-frame, fresh-first}
@@ -134,39 +134,6 @@ pub record Stands (ts : Types) (t : Ty) (i : Bool) (k d : ℕ) : Type 0 where
   pub cs : List Ty
   pub is : kind ts t ≡ known i k d cs
   pub upright : UprightAt ts (t .1)
-
-relabel-in : (lo : ℕ) (t : Ty) (nd : TypeNode) → nd .up .1 ≡ lo → (relabel lo t nd) .up ≡ invert-if (nd .up .0) t
-unfolding relabel
-relabel-in lo t nd e = rw (eqb-true (nd .up .1) lo e, relabel)
-
-relabel-out : (lo : ℕ) (t : Ty) (nd : TypeNode) → nd .up .1 ≢ lo → relabel lo t nd ≡ nd
-unfolding relabel
-relabel-out lo t nd e = rw (eqb-false (nd .up .1) lo e, relabel)
-
--- The nodes of a table in which root lo was hung under root hi.
-module _ (ts : Types) (lo hi : Ty) where
-  abbrev turn : Bool
-  turn = xor (hi .0) (lo .0)
-
-  hung-top : hi .1 < length ts → (node-at (hang ts lo hi) (hi .1)) .up ≡ (false, hi .1)
-  unfolding hang node-at
-  hung-top h = ap (λ (nd : TypeNode). nd .up) (getD-set-same (map (relabel (lo .1) (turn, hi .1)) ts) (hi .1) _ _ (rw (map-length (relabel (lo .1) (turn, hi .1)) ts) h))
-
-  hung-off : (n : ℕ) → n < length ts → n ≢ hi .1 → node-at (hang ts lo hi) n ≡ relabel (lo .1) (turn, hi .1) (node-at ts n)
-  unfolding hang node-at
-  hung-off n h d = getD-set-other (map (relabel (lo .1) (turn, hi .1)) ts) (hi .1) n _ _ d ∙ map-at _ ts n _ h
-
-  -- A root stays upright.
-  hang-upright : (n : ℕ) → n < length ts → UprightAt ts n → UprightAt (hang ts lo hi) n
-  unfolding rep invert-if
-  hang-upright n h up e = go (ℕ-discrete n (hi .1)) (ℕ-discrete (rep ts n) (lo .1))
-    where
-      go : Dec (n ≡ hi .1) → Dec (rep ts n ≡ lo .1) → (node-at (hang ts lo hi) n) .up .0 ≡ false
-      go (yes q) r = ap (λ m. (node-at (hang ts lo hi) m) .up .0) q ∙ ap (λ (u : Ty). u .0) (hung-top (subst (λ m. m < length ts) q h))
-      go (no q) (yes r) = absurd (q (sym e ∙ ap (λ (nd : TypeNode). nd .up .1) (hung-off n h q) ∙ ap (λ (u : Ty). u .1) (relabel-in (lo .1) (turn, hi .1) (node-at ts n) r)))
-      go (no q) (no r) =
-          let same = hung-off n h q ∙ relabel-out (lo .1) (turn, hi .1) (node-at ts n) r in
-          ap (λ (nd : TypeNode). nd .up .0) same ∙ up (sym (ap (λ (nd : TypeNode). nd .up .1) same) ∙ e)
 
 -- From ts to us types stand where their kind is not its own inverse.
 abbrev pub SidesStay : Words → Types → Types → Type 0

@@ -66,6 +66,7 @@ pub mod Carried
 pub mod TransferCount
 pub mod Yields
 pub mod Slim
+pub mod UprightRoots
 pub mod Neat
 pub mod SearchKeeps
 pub mod SubQuestions
