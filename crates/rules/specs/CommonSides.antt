@@ -33,7 +33,7 @@ use Rattle.rules.specs.CommonTerms.{Frame, each-frame, past-push, in-fra
 use Rattle.rules.specs.Carried.{pushed, each-length}
 
 -- Inversions, one on another.
-xor-comm : (a b : Bool) → xor a b ≡ xor b a
+pub xor-comm : (a b : Bool) → xor a b ≡ xor b a
 xor-comm true true = refl
 xor-comm true false = refl
 xor-comm false true = refl
@@ -45,23 +45,23 @@ xor-back true false = refl
 xor-back false true = refl
 xor-back false false = refl
 
-xor-assoc : (a b c : Bool) → xor a (xor b c) ≡ xor (xor a b) c
+pub xor-assoc : (a b c : Bool) → xor a (xor b c) ≡ xor (xor a b) c
 xor-assoc true true true = refl
 xor-assoc true true false = refl
 xor-assoc true false c = refl
 xor-assoc false b c = refl
 
-xor-none : (a : Bool) → xor a false ≡ a
+pub xor-none : (a : Bool) → xor a false ≡ a
 xor-none true = refl
 xor-none false = refl
 
 -- Twice the same is none.
-xor-twice : (a b : Bool) → xor a (xor a b) ≡ b
+pub xor-twice : (a b : Bool) → xor a (xor a b) ≡ b
 xor-twice true true = refl
 xor-twice true false = refl
 xor-twice false b = refl
 
-same-side : (a b : Bool) → xor a b ≡ false → a ≡ b
+pub same-side : (a b : Bool) → xor a b ≡ false → a ≡ b
 same-side true true e = refl
 same-side true false e = absurd (true≢false e)
 same-side false true e = absurd (true≢false e)
@@ -162,8 +162,8 @@ sided-right s a b unknown = tt
 sided-right s a b (known i k d xs) = tt
 
 -- The side of a type of the lower class by the upper root's.
-turned : (h l i j : Bool) → xor i l ≡ xor j h → xor (xor h l) j ≡ i
-turned h l i j e = xor-comm (xor h l) j ∙ xor-assoc j h l ∙ ap (λ x. xor x l) (sym e) ∙ xor-back i l
+pub side-by : (h l i j : Bool) → xor i l ≡ xor j h → xor (xor h l) j ≡ i
+side-by h l i j e = xor-comm (xor h l) j ∙ xor-assoc j h l ∙ ap (λ x. xor x l) (sym e) ∙ xor-back i l
 
 module _ (s : Words) (ts : Types) (lo hi : Ty) (hlo : lo .1 < length ts) (hhi : hi .1 < length ts) (rlo : rep ts (lo .1) ≡ lo .1) (rhi : rep ts (hi .1) ≡ hi .1) (ne : lo .1 ≢ hi .1) (formed : WellFormed ts) where
   -- A root that stays keeps what is known of it.
@@ -176,7 +176,7 @@ module _ (s : Words) (ts : Types) (lo hi : Ty) (hlo : lo .1 < length ts) (hhi : 
       go (no q) = hang-state ts lo hi hlo hhi rlo rhi ne r h q ∙ e
 
   -- A node outside the lower class is what it was of its root.
-  up-stays : (n : ℕ) → n < length ts → UprightAt ts n → rep ts n ≢ lo .1 → (node-at (hang ts lo hi) n) .up ≡ (node-at ts n) .up
+  pub up-stays : (n : ℕ) → n < length ts → UprightAt ts n → rep ts n ≢ lo .1 → (node-at (hang ts lo hi) n) .up ≡ (node-at ts n) .up
   unfolding rep
   up-stays n h up d = go (ℕ-discrete n (hi .1))
     where
@@ -185,7 +185,7 @@ module _ (s : Words) (ts : Types) (lo hi : Ty) (hlo : lo .1 < length ts) (hhi : 
       go (no q) = ap (λ (nd : TypeNode). nd .up) (hung-off ts lo hi n h q ∙ relabel-out (lo .1) (turn ts lo hi, hi .1) (node-at ts n) d)
 
   -- One of the lower class is so of the upper root.
-  up-turns : (n : ℕ) → n < length ts → rep ts n ≡ lo .1 → (node-at (hang ts lo hi) n) .up ≡ (xor ((node-at ts n) .up .0) (xor (hi .0) (lo .0)), hi .1)
+  pub up-turns : (n : ℕ) → n < length ts → rep ts n ≡ lo .1 → (node-at (hang ts lo hi) n) .up ≡ (xor ((node-at ts n) .up .0) (xor (hi .0) (lo .0)), hi .1)
   unfolding rep invert-if
   up-turns n h e = ap (λ (nd : TypeNode). nd .up) (hung-off ts lo hi n h (λ q. ne (sym e ∙ ap (rep ts) q ∙ rhi))) ∙ relabel-in (lo .1) (turn ts lo hi, hi .1) (node-at ts n) e
 
@@ -219,11 +219,11 @@ module _ (s : Words) (ts : Types) (lo hi : Ty) (hlo : lo .1 < length ts) (hhi : 
           by unknown z = (
             cs,
             shown ∙ ap (invert-state (xor β b)) (hang-top ts lo hi hlo hhi rlo rhi ne ∙ ap (λ x. or-else x (invert-state b (state-at ts (lo .1)))) z)
-            ∙ sym (invert-twice β b (invert-state b (state-at ts (lo .1)))) ∙ ap (invert-state β) (invert-back b (state-at ts (lo .1))) ∙ from-root β (state-at ts (lo .1)) i k d cs low,
+                ∙ sym (invert-twice β b (invert-state b (state-at ts (lo .1)))) ∙ ap (invert-state β) (invert-back b (state-at ts (lo .1))) ∙ from-root β (state-at ts (lo .1)) i k d cs low,
           )
           by (known j k′ d′ ys) z =
               let f : Sided s (lo .0) (hi .0) (known (xor β i) k d cs) (known j k′ d′ ys) = subst (Sided s (lo .0) (hi .0) (known (xor β i) k d cs)) z (subst (λ u. Sided s (lo .0) (hi .0) u (state-at ts (hi .1))) low sided) in
-              let side : xor (xor β b) j ≡ i = sym (xor-assoc β b j) ∙ ap (xor β) (turned (hi .0) (lo .0) (xor β i) j (f .2 o)) ∙ xor-twice β i in
+              let side : xor (xor β b) j ≡ i = sym (xor-assoc β b j) ∙ ap (xor β) (side-by (hi .0) (lo .0) (xor β i) j (f .2 o)) ∙ xor-twice β i in
               (ys, shown ∙ ap (invert-state (xor β b)) (known-stays (hi .1) j k′ d′ ys hhi z) ∙ λ v. known (side v) (sym (f .0) v) (sym (f .1) v) ys)
 
       go : Dec (rep ts (t .1) ≡ lo .1) → (ds : List Ty) × (kind (hang ts lo hi) t ≡ known i k d ds)
@@ -240,7 +240,7 @@ join-stay s ts x y hx hy rx ry ne formed sided = go (larger ts x y) refl
     go false e = rw (e, join) (hang-stay s ts x y hx hy rx ry ne formed sided)
 
 -- Two known types that met: of one kind and id, and upright if it is not its own inverse.
-known-met : (f : Types → Ty → Ty → Unified) (s : Words) (ts : Types) (inv : Bool) (k d : ℕ) (xs : List Ty) (k′ d′ : ℕ) (ys : List Ty) → Won ((unify-known f s ts inv k d xs k′ d′ ys) .0) → (k ≡ k′) × (d ≡ d′) × (kind-flag s row·own-inverse k d ≡ false → inv ≡ false)
+pub known-met : (f : Types → Ty → Ty → Unified) (s : Words) (ts : Types) (inv : Bool) (k d : ℕ) (xs : List Ty) (k′ d′ : ℕ) (ys : List Ty) → Won ((unify-known f s ts inv k d xs k′ d′ ys) .0) → (k ≡ k′) × (d ≡ d′) × (kind-flag s row·own-inverse k d ≡ false → inv ≡ false)
 unfolding unify-known
 known-met f s ts inv k d xs k′ d′ ys w = go (eqb k kind·error || eqb k′ kind·error) refl (eqb k k′ && eqb d d′ && (not inv || kind-flag s row·may-meet k d)) refl w
   where
@@ -460,6 +460,7 @@ module _ (s : Words) where
       let cx = stay (getD xs n (false, 0)) (child-in (length ts) xs n (ax .1) (omega arith)) i k d o ex in
       let cy = stay (getD ys n (false, 0)) (child-in (length ts) ys n (ay .1) (omega arith)) j k d o ey in
       each-sides (m .1) xs ys (p .0 .formed) (subst (λ N. AllIn N xs) len (ax .1)) (subst (λ N. AllIn N ys) len (ay .1)) (omega arith) (p .1) (won .1) n (omega arith) i j k d o cx cy
+
   -- Where `unify_impl_type` succeeds there are as many types on either side, and they unify.
   types-met : (ts : Types) (a b : ImplType) → (unify-impl-type s ts a b) .0 ≡ success → (length (a .1) ≡ length (b .1)) × Won ((unify-each (unify s) ts (a .1) (b .1)) .0)
   unfolding unify-impl-type unify-types

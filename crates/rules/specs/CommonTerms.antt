@@ -84,7 +84,7 @@ solves-first ts us σ formed l same sv n h =
     (w .0 ∙ ap σ r, subst (λ (k : ℕ). Fits σ k (state-at ts (rep ts n))) r (subst (Fits σ (rep us n)) st (w .1)))
 
 -- A success of `unify_impl_type`: its solutions are those of the table before at which the arguments agree.
-impl-type-right : (s : Words) (ts : Types) (a b : ImplType) → WellFormed ts → AllIn (length ts) (a .1) → AllIn (length ts) (b .1) → Readable ts → (unify-impl-type s ts a b) .0 ≡ success → AfterAll ts (a .1) (b .1) ((unify-impl-type s ts a b) .1) × Readable ((unify-impl-type s ts a b) .1)
+pub impl-type-right : (s : Words) (ts : Types) (a b : ImplType) → WellFormed ts → AllIn (length ts) (a .1) → AllIn (length ts) (b .1) → Readable ts → (unify-impl-type s ts a b) .0 ≡ success → AfterAll ts (a .1) (b .1) ((unify-impl-type s ts a b) .1) × Readable ((unify-impl-type s ts a b) .1)
 unfolding unify-impl-type unify-types unify
 impl-type-right s ts a b formed ax ay k won = go (eqb (a .0) 0 || eqb (b .0) 0) refl (eqb (a .0) (b .0)) refl (eqb (length (a .1)) (length (b .1))) refl (subst Won (sym won) tt)
   where
@@ -98,7 +98,7 @@ impl-type-right s ts a b formed ax ay k won = go (eqb (a .0) 0 || eqb (b .0) 0) 
 pub record Frame (m m′ : Transfer) : Type 0 where
   pub long : length (m .1) ≤ length (m′ .1)
   pub nodes : (n : ℕ) → n < length (m .1) → node-at (m′ .1) n ≡ node-at (m .1) n
-  flat : (n : ℕ) → length (m .1) ≤ n → n < length (m′ .1) → rep (m′ .1) n ≡ n
+  pub flat : (n : ℕ) → length (m .1) ≤ n → n < length (m′ .1) → rep (m′ .1) n ≡ n
   pub went : (r : ℕ) (u : Ty) → mapped (m .0) r ≡ some u → mapped (m′ .0) r ≡ some u
 
 frame-refl : (m : Transfer) → Frame m m
@@ -148,15 +148,15 @@ frame-fill m q st b f = record {
     flat′ n l h (no d) = ap (λ (x : TypeNode). x .up .1) (set-off (q .1) (length (m .1)) n (new-node (length (m .1)) st) d) ∙ f .flat n l h
 
 -- What the nodes are, then.
-frame-state : (m q : Transfer) (n : ℕ) → n < length (m .1) → Frame m q → state-at (q .1) n ≡ state-at (m .1) n
+pub frame-state : (m q : Transfer) (n : ℕ) → n < length (m .1) → Frame m q → state-at (q .1) n ≡ state-at (m .1) n
 unfolding state-at
 frame-state m q n h f = ap (λ (x : TypeNode). x .state) (f .nodes n h)
 
-snoc-state : (xs : Types) (st : TypeState) → state-at (xs ++ (new-node (length xs) st ∷ [])) (length xs) ≡ st
+pub snoc-state : (xs : Types) (st : TypeState) → state-at (xs ++ (new-node (length xs) st ∷ [])) (length xs) ≡ st
 unfolding state-at new-node
 snoc-state xs st = ap (λ (x : TypeNode). x .state) (snoc-at xs (new-node (length xs) st))
 
-set-state : (xs : Types) (n : ℕ) (st : TypeState) → n < length xs → state-at (set xs n (new-node n st)) n ≡ st
+pub set-state : (xs : Types) (n : ℕ) (st : TypeState) → n < length xs → state-at (set xs n (new-node n st)) n ≡ st
 unfolding state-at new-node
 set-state xs n st h = ap (λ (x : TypeNode). x .state) (set-at xs n (new-node n st) h)
 
@@ -213,7 +213,7 @@ given-follows src ps σ τ reads = record { param = λ r u h e. param-reads r u 
     plain-reads r i k d cs false z s w = rw (z, Suits) at s
 
 -- Where none are given, a Param is a type of its own, without children.
-abbrev Bare : TypeState → Type 0
+abbrev pub Bare : TypeState → Type 0
 Bare unknown = Unit {0}
 Bare (known i k d cs) = k ≡ kind·param → cs ≡ []
 
@@ -461,7 +461,7 @@ bare-node s w params n p t = go (eqb (at w (p + node·kind)) kind·unknown) refl
     go false e = rw (e, node-state) (λ k. none-left (cell-types w (at w (p + node·children))) (subst (λ x. T (leb (length (cell-types w (at w (p + node·children)))) (kind-row x row·most))) k (part _ t 5)))
 
 -- so none has in the table of the caller's impl parameters.
-params-bare : (a : Finder) (w₀ : Words) → Ready a w₀ → (n : ℕ) → Bare (state-at ((impl-params (a .sheet) (a .generics)) .0) n)
+pub params-bare : (a : Finder) (w₀ : Words) → Ready a w₀ → (n : ℕ) → Bare (state-at ((impl-params (a .sheet) (a .generics)) .0) n)
 unfolding impl-params generics-ok generics-table field state-at node-at new-node
 params-bare a w₀ ready n = every-at (λ (x : TypeNode). Bare (x .state)) ((impl-params (a .sheet) (a .generics)) .0) n (new-node 0 unknown) (every-table Bare (a .sheet) (a .sheet) _ (generics-table (a .sheet) (a .generics)) (bare-node (a .sheet) (a .sheet) _) (part _ (ready .values .generics (a .generics) (ready .generics)) 1)) tt
 
