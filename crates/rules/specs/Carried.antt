@@ -51,7 +51,8 @@ module _ (P : Types → Type 0) (joins : (ts : Types) (a b : Ty) → P ts → P 
         go false e true q = rw (e, q, unify-children) (each-carries ts (last-of xs) (last-of ys) p)
         go false e false q = rw (e, q, unify-children) p
 
-    known-carries : (s : Words) (ts : Types) (inv : Bool) (k d : ℕ) (xs : List Ty) (k′ d′ : ℕ) (ys : List Ty) → P ts → P ((unify-known f s ts inv k d xs k′ d′ ys) .1)
+    -- Two known types keep it,
+    pub known-carries : (s : Words) (ts : Types) (inv : Bool) (k d : ℕ) (xs : List Ty) (k′ d′ : ℕ) (ys : List Ty) → P ts → P ((unify-known f s ts inv k d xs k′ d′ ys) .1)
     unfolding unify-known
     known-carries s ts inv k d xs k′ d′ ys p = go (eqb k kind·error || eqb k′ kind·error) refl (eqb k k′ && eqb d d′ && (not inv || kind-flag s row·may-meet k d)) refl
       where
@@ -82,7 +83,8 @@ module _ (P : Types → Type 0) (joins : (ts : Types) (a b : Ty) → P ts → P 
         go true e = rw (e, unify-types) (each-carries ts xs ys p)
         go false e = rw (e, unify-types) p
 
-  unify-in-carries : (n : ℕ) (s : Words) → Carries (unify-in n s)
+  -- and so do any two, to any depth.
+  pub unify-in-carries : (n : ℕ) (s : Words) → Carries (unify-in n s)
   unfolding unify-in
   unify-in-carries zero s ts a b p = p
   unify-in-carries (suc n) s ts a b p = roots-carry (λ us t u. unify-in n s us t u) (unify-in-carries n s) s ts (find ts a) (find ts b) p

@@ -1,4 +1,4 @@
--- What a candidate's signature and the question have in common where they unify: terms that both are.
+-- What a candidate's signature, or an impl parameter of the caller's generics, and the question have in common where they unify: terms that both are.
 use Prim.Native.Nat.{ℕ, zero, suc, _+_, _≤_, _<_}
 use mathlib.Core.Path.{_≡_, refl, sym, _∙_, ap, ap₂, subst}
 use mathlib.Core.Bool.{Bool, true, false, _||_}
@@ -8,16 +8,16 @@ use mathlib.Core.Logic.{_⊎_, inl, inr, ⊎-elim}
 use native.Mathlib.Nat.{not-suc-le-zero, le-refl, le-trans, lt-irrefl}
 use native.Mathlib.Omega.{arith}
 use native.Mathlib.Decide.{ℕ-discrete}
-use lib.Dec.{T, eqb, eqb→eq, leb→le}
+use lib.Dec.{T, eqb, leb, eqb→eq, leb→le}
 use lib.ListN.{length, getD, set, length-append, length-set, replicate, List·getD-append}
 use Rattle.rules.specs.Lists.{Words}
 use Rattle.rules.specs.Limits.{limit·type-params}
-use Rattle.rules.specs.Layout.{header·impls, kind·param}
-use Rattle.rules.specs.Sheet.{many, field, type-params, impl-generics, impl-table}
-use Rattle.rules.specs.Types.{Ty, TypeState, unknown, known, TypeNode, Types, new-node, node-at, state-at, xor, invert-if, find, success, unify-types, unify, ImplType, unify-impl-type}
-use Rattle.rules.specs.Transfer.{Transfer, mapped, param-for, transfer-each, transfer-in, transfer-types, import-types, import-impl-type, new-nodes}
-use Rattle.rules.specs.Values.{generics-ok}
-use Rattle.rules.specs.Search.{Finder, impl-signature, fresh-params, with-fresh}
+use Rattle.rules.specs.Layout.{header·impls, node·kind, node·children, kind·unknown, kind·param}
+use Rattle.rules.specs.Sheet.{at, many, field, kinds, kind-row, row·most, type-params, generics-table, impl-generics, impl-table}
+use Rattle.rules.specs.Types.{Ty, TypeState, unknown, known, TypeNode, Types, new-node, node-at, state-at, xor, invert-if, find, success, unify-types, unify, Unified, ImplType, unify-impl-type}
+use Rattle.rules.specs.Transfer.{Transfer, mapped, param-for, transfer-each, transfer-in, transfer-types, import-types, import-impl-type, cell-types, node-state, new-nodes}
+use Rattle.rules.specs.Values.{node-fits, node-ok, generics-ok}
+use Rattle.rules.specs.Search.{Finder, impl-signature, impl-params, fresh-params, with-fresh}
 use Rattle.rules.specs.Solutions.{Term, var, con, nil, cons, Sol, terms, rep, Fits, Solves, AllIn, ChildrenIn, WellFormed, Readable}
 use Rattle.rules.specs.Joining.{same-terms}
 use Rattle.rules.specs.MostGeneral.{Won, AfterAll, each-right, unify-in-right}
@@ -27,9 +27,11 @@ use Rattle.rules.specs.Readings.{Ranked, readable-ranked, readable-most}
 use Rattle.rules.specs.TransferKeeps.{snoc-at, snoc-off, set-at, set-off}
 use Rattle.rules.specs.CheckedSheet.{part}
 use Rattle.rules.specs.CheckedTables.{table-flat, Ready}
+use Rattle.rules.specs.Yields.{every-at}
 use Rattle.rules.specs.Carried.{pushed}
+use Rattle.rules.specs.Slim.{every-table}
 use Rattle.rules.specs.TransferCount.{mapped-other, mapped-here, import-most}
-use Rattle.rules.specs.Neat.{Neat, Brought, in-more, fresh-length, impl-generics-in, signature-neat, signature-in}
+use Rattle.rules.specs.Neat.{Neat, Brought, in-more, low-none, query-brought, fresh-length, impl-generics-in, signature-neat, signature-in, impl-params-neat}
 use Rattle.rules.specs.SearchKeeps.{fresh-count, signed, met, signature-brought}
 
 -- The term of root n of a source by its state: a Param is what π gives it.
@@ -82,7 +84,7 @@ solves-first ts us σ formed l same sv n h =
     (w .0 ∙ ap σ r, subst (λ (k : ℕ). Fits σ k (state-at ts (rep ts n))) r (subst (Fits σ (rep us n)) st (w .1)))
 
 -- A success of `unify_impl_type`: its solutions are those of the table before at which the arguments agree.
-impl-type-right : (s : Words) (ts : Types) (a b : ImplType) → WellFormed ts → AllIn (length ts) (a .1) → AllIn (length ts) (b .1) → Readable ts → (unify-impl-type s ts a b) .0 ≡ success → AfterAll ts (a .1) (b .1) ((unify-impl-type s ts a b) .1) × Readable ((unify-impl-type s ts a b) .1)
+pub impl-type-right : (s : Words) (ts : Types) (a b : ImplType) → WellFormed ts → AllIn (length ts) (a .1) → AllIn (length ts) (b .1) → Readable ts → (unify-impl-type s ts a b) .0 ≡ success → AfterAll ts (a .1) (b .1) ((unify-impl-type s ts a b) .1) × Readable ((unify-impl-type s ts a b) .1)
 unfolding unify-impl-type unify-types unify
 impl-type-right s ts a b formed ax ay k won = go (eqb (a .0) 0 || eqb (b .0) 0) refl (eqb (a .0) (b .0)) refl (eqb (length (a .1)) (length (b .1))) refl (subst Won (sym won) tt)
   where
@@ -93,11 +95,11 @@ impl-type-right s ts a b formed ax ay k won = go (eqb (a .0) 0 || eqb (b .0) 0) 
     go false e true e′ true e″ w = rw (e, e′, unify-impl-type) (rw (e″, unify-types) (each-right (unify s) (λ us. unify-in-right (suc (length us)) s us) ts (a .1) (b .1) formed ax ay (eqb→eq (length (a .1)) (length (b .1)) (subst T (sym e″) tt)) k (rw (e, e′, unify-impl-type, e″, unify-types) at w)))
 
 -- A transfer goes on from m to m′: nodes stay as they are and roots where they went, and new nodes are their own roots.
-record Frame (m m′ : Transfer) : Type 0 where
-  long : length (m .1) ≤ length (m′ .1)
-  nodes : (n : ℕ) → n < length (m .1) → node-at (m′ .1) n ≡ node-at (m .1) n
-  flat : (n : ℕ) → length (m .1) ≤ n → n < length (m′ .1) → rep (m′ .1) n ≡ n
-  went : (r : ℕ) (u : Ty) → mapped (m .0) r ≡ some u → mapped (m′ .0) r ≡ some u
+pub record Frame (m m′ : Transfer) : Type 0 where
+  pub long : length (m .1) ≤ length (m′ .1)
+  pub nodes : (n : ℕ) → n < length (m .1) → node-at (m′ .1) n ≡ node-at (m .1) n
+  pub flat : (n : ℕ) → length (m .1) ≤ n → n < length (m′ .1) → rep (m′ .1) n ≡ n
+  pub went : (r : ℕ) (u : Ty) → mapped (m .0) r ≡ some u → mapped (m′ .0) r ≡ some u
 
 frame-refl : (m : Transfer) → Frame m m
 frame-refl m = record { long = le-refl _; nodes = λ n h. refl; flat = λ n l h. absurd (omega arith); went = λ r u e. e }
@@ -146,30 +148,30 @@ frame-fill m q st b f = record {
     flat′ n l h (no d) = ap (λ (x : TypeNode). x .up .1) (set-off (q .1) (length (m .1)) n (new-node (length (m .1)) st) d) ∙ f .flat n l h
 
 -- What the nodes are, then.
-frame-state : (m q : Transfer) (n : ℕ) → n < length (m .1) → Frame m q → state-at (q .1) n ≡ state-at (m .1) n
+pub frame-state : (m q : Transfer) (n : ℕ) → n < length (m .1) → Frame m q → state-at (q .1) n ≡ state-at (m .1) n
 unfolding state-at
 frame-state m q n h f = ap (λ (x : TypeNode). x .state) (f .nodes n h)
 
-snoc-state : (xs : Types) (st : TypeState) → state-at (xs ++ (new-node (length xs) st ∷ [])) (length xs) ≡ st
+pub snoc-state : (xs : Types) (st : TypeState) → state-at (xs ++ (new-node (length xs) st ∷ [])) (length xs) ≡ st
 unfolding state-at new-node
 snoc-state xs st = ap (λ (x : TypeNode). x .state) (snoc-at xs (new-node (length xs) st))
 
-set-state : (xs : Types) (n : ℕ) (st : TypeState) → n < length xs → state-at (set xs n (new-node n st)) n ≡ st
+pub set-state : (xs : Types) (n : ℕ) (st : TypeState) → n < length xs → state-at (set xs n (new-node n st)) n ≡ st
 unfolding state-at new-node
 set-state xs n st h = ap (λ (x : TypeNode). x .state) (set-at xs n (new-node n st) h)
 
 -- Every transfer goes on so.
-each-frame : (f : Ty → Transfer → Ty × Transfer) → ((t : Ty) (m : Transfer) → Frame m ((f t m) .1)) → (cs : List Ty) (m : Transfer) → Frame m ((transfer-each f cs m) .1)
+pub each-frame : (f : Ty → Transfer → Ty × Transfer) → ((t : Ty) (m : Transfer) → Frame m ((f t m) .1)) → (cs : List Ty) (m : Transfer) → Frame m ((transfer-each f cs m) .1)
 unfolding transfer-each
 each-frame f fr [] m = frame-refl m
 each-frame f fr (c ∷ cs) m = frame-trans m ((f c m) .1) _ (fr c m) (each-frame f fr cs ((f c m) .1))
 
 -- A node that was pushed is there.
-past-push : (m q : Transfer) (r : ℕ) → Frame (pushed m r) q → length (m .1) < length (q .1)
+pub past-push : (m q : Transfer) (r : ℕ) → Frame (pushed m r) q → length (m .1) < length (q .1)
 past-push m q r f = omega (arith, f .long, length-append (m .1) (new-node (length (m .1)) unknown ∷ []))
 
 -- `transfer_type`, to any depth.
-in-frame : (src : Types) (ps : Option (List Ty)) (k : ℕ) (t : Ty) (m : Transfer) → Frame m ((transfer-in k src ps t m) .1)
+pub in-frame : (src : Types) (ps : Option (List Ty)) (k : ℕ) (t : Ty) (m : Transfer) → Frame m ((transfer-in k src ps t m) .1)
 unfolding transfer-in find invert-if rep
 in-frame src ps zero t m = frame-refl m
 in-frame src ps (suc k) t m = go (mapped (m .0) (rep src (t .1))) refl (param-for ps (state-at src (rep src (t .1)))) refl (state-at src (rep src (t .1))) refl (in-frame src ps k)
@@ -184,8 +186,50 @@ in-frame src ps (suc k) t m = go (mapped (m .0) (rep src (t .1))) refl (param-fo
         let g = each-frame (λ c w. transfer-in k src ps c w) ih cs (pushed m (rep src (t .1))) in
         frame-fill m (w .1) (known i kd d (w .0)) (past-push m (w .1) (rep src (t .1)) g) (frame-trans m (pushed m (rep src (t .1))) (w .1) (frame-push m (rep src (t .1)) e) g))
 
--- A source whose nodes are their own roots, ranked by δ, read by τ; σ solves the table that the transfer leaves, of which the nodes from lo on are new, and M is its mapping.
-module _ (src : Types) (formed : WellFormed src) (flat : (n : ℕ) → n < length src → rep src n ≡ n) (δ : ℕ → ℕ) (ranked : Ranked src δ) (ps : List Ty) (lo : ℕ) (M : List (ℕ × Ty)) (σ π τ : Sol) (reads : Reads src π τ) (given : (d : ℕ) → π d ≡ σ ((getD ps d (false, 0)) .1)) (left : (r : ℕ) (u : Ty) → r < length src → state-at src r ≡ unknown → mapped M r ≡ some u → σ (u .1) ≡ τ r) where
+-- τ reads a source as an import with ps takes it: a Param is what stands for it, if anything does,
+record Follows (src : Types) (ps : Option (List Ty)) (σ τ : Sol) : Type 0 where
+  param : (r : ℕ) (u : Ty) → r < length src → param-for ps (state-at src r) ≡ some u → σ (u .1) ≡ τ r
+  -- and any other known type is over what its children are.
+  plain : (r : ℕ) (i : Bool) (k d : ℕ) (cs : List Ty) → r < length src → param-for ps (state-at src r) ≡ none → state-at src r ≡ known i k d cs → τ r ≡ con k d (terms τ cs)
+
+-- Where parameters are given, a Param is what was given for it.
+unfoldable given : List Ty → Sol → Sol
+given ps σ d = σ ((getD ps d (false, 0)) .1)
+
+given-follows : (src : Types) (ps : List Ty) (σ τ : Sol) → Reads src (given ps σ) τ → Follows src (some ps) σ τ
+unfolding param-for invert-if given
+given-follows src ps σ τ reads = record { param = λ r u h e. param-reads r u (state-at src r) (reads r h) e; plain = λ r i k d cs h e q. plain-reads r i k d cs (eqb k kind·param) refl (subst (Suits (given ps σ) τ r) q (reads r h)) (sym (ap (param-for (some ps)) q) ∙ e) }
+  where
+    param-reads : (r : ℕ) (u : Ty) (st : TypeState) → Suits (given ps σ) τ r st → param-for (some ps) st ≡ some u → σ (u .1) ≡ τ r
+    param-reads r u unknown s q = absurd (Option·none-ne-some u q)
+    param-reads r u (known i k d cs) s q = at-kind (eqb k kind·param) refl
+      where
+        at-kind : (b : Bool) → eqb k kind·param ≡ b → σ (u .1) ≡ τ r
+        at-kind true z = ap (λ (t : Ty). σ (t .1)) (sym (Option·some-injective _ _ (rw (z, param-for) at q))) ∙ sym (rw (z, Suits) at s)
+        at-kind false z = absurd (Option·none-ne-some u (rw (z, param-for) at q))
+
+    plain-reads : (r : ℕ) (i : Bool) (k d : ℕ) (cs : List Ty) (b : Bool) → eqb k kind·param ≡ b → Suits (given ps σ) τ r (known i k d cs) → param-for (some ps) (known i k d cs) ≡ none → τ r ≡ con k d (terms τ cs)
+    plain-reads r i k d cs true z s w = absurd (Option·none-ne-some _ (sym (rw (z, param-for) at w)))
+    plain-reads r i k d cs false z s w = rw (z, Suits) at s
+
+-- Where none are given, a Param is a type of its own, without children.
+abbrev pub Bare : TypeState → Type 0
+Bare unknown = Unit {0}
+Bare (known i k d cs) = k ≡ kind·param → cs ≡ []
+
+abbrev itself : Sol
+itself d = con kind·param d nil
+
+none-follows : (src : Types) → ((n : ℕ) → Bare (state-at src n)) → (σ τ : Sol) → Reads src itself τ → Follows src none σ τ
+unfolding param-for terms
+none-follows src bare σ τ reads = record { param = λ r u h e. absurd (Option·none-ne-some u e); plain = λ r i k d cs h e q. go r i k d cs (subst Bare q (bare r)) (eqb k kind·param) refl (subst (Suits itself τ r) q (reads r h)) }
+  where
+    go : (r : ℕ) (i : Bool) (k d : ℕ) (cs : List Ty) → (k ≡ kind·param → cs ≡ []) → (b : Bool) → eqb k kind·param ≡ b → Suits itself τ r (known i k d cs) → τ r ≡ con k d (terms τ cs)
+    go r i k d cs f true z s = let e = eqb→eq k kind·param (subst T (sym z) tt) in (rw (z, Suits) at s) ∙ ap₂ (λ (x : ℕ) (ys : List Ty). con x d (terms τ ys)) (sym e) (sym (f e))
+    go r i k d cs f false z s = rw (z, Suits) at s
+
+-- A source whose nodes are their own roots, ranked by δ, read by τ as its import takes it; σ solves the table that the transfer leaves, of which the nodes from lo on are new, and M is its mapping.
+module _ (src : Types) (formed : WellFormed src) (flat : (n : ℕ) → n < length src → rep src n ≡ n) (δ : ℕ → ℕ) (ranked : Ranked src δ) (ps : Option (List Ty)) (lo : ℕ) (M : List (ℕ × Ty)) (σ τ : Sol) (follows : Follows src ps σ τ) (left : (r : ℕ) (u : Ty) → r < length src → state-at src r ≡ unknown → mapped M r ≡ some u → σ (u .1) ≡ τ r) where
   -- The new nodes of m fit σ, and what went somewhere by then is in M.
   record Ends (m : Transfer) : Type 0 where
     fits : (n : ℕ) → lo ≤ n → n < length (m .1) → Fits σ n (state-at (m .1) n)
@@ -241,28 +285,6 @@ module _ (src : Types) (formed : WellFormed src) (flat : (n : ℕ) → n < lengt
       let y = all-moved k f fr moves b bk cs (λ j q. h (suc j) (omega arith)) ((f c m) .1) (le-trans l (fr c m .long)) (agrees-on b m ((f c m) .1) (x .grows) a) e in
       record { are = ap₂ cons (x .is) (y .are); grows = λ r u q. ⊎-elim (x .grows r u) inr (y .grows r u q) }
 
-  -- A Param is what was given for it,
-  param-reads : (r : ℕ) (u : Ty) → r < length src → param-for (some ps) (state-at src r) ≡ some u → σ (u .1) ≡ τ r
-  unfolding param-for invert-if
-  param-reads r u h e = go (state-at src r) (reads r h) e
-    where
-      go : (st : TypeState) → Suits π τ r st → param-for (some ps) st ≡ some u → σ (u .1) ≡ τ r
-      go unknown s q = absurd (Option·none-ne-some u q)
-      go (known i k d cs) s q = at-kind (eqb k kind·param) refl
-        where
-          at-kind : (b : Bool) → eqb k kind·param ≡ b → σ (u .1) ≡ τ r
-          at-kind true z = ap (λ (t : Ty). σ (t .1)) (sym (Option·some-injective _ _ (rw (z, param-for) at q))) ∙ sym (given d) ∙ sym (rw (z, Suits) at s)
-          at-kind false z = absurd (Option·none-ne-some u (rw (z, param-for) at q))
-
-  -- and any other known type is over what its children are.
-  plain-reads : (r : ℕ) (i : Bool) (k d : ℕ) (cs : List Ty) → r < length src → param-for (some ps) (state-at src r) ≡ none → state-at src r ≡ known i k d cs → τ r ≡ con k d (terms τ cs)
-  unfolding param-for
-  plain-reads r i k d cs h e q = go (eqb k kind·param) refl (subst (Suits π τ r) q (reads r h)) (sym (ap (param-for (some ps)) q) ∙ e)
-    where
-      go : (b : Bool) → eqb k kind·param ≡ b → Suits π τ r (known i k d cs) → param-for (some ps) (known i k d cs) ≡ none → τ r ≡ con k d (terms τ cs)
-      go true z s w = absurd (Option·none-ne-some _ (sym (rw (z, param-for) at w)))
-      go false z s w = rw (z, Suits) at s
-
   -- A root was pushed: what is mapped now was before, or is that one.
   grows-push : (m : Transfer) (r : ℕ) → σ (length (m .1)) ≡ τ r → Grows m (pushed m r)
   grows-push m r s x u e = go (ℕ-discrete r x)
@@ -276,10 +298,10 @@ module _ (src : Types) (formed : WellFormed src) (flat : (n : ℕ) → n < lengt
   agrees-push m r b c l h a x u d e = a x u (omega arith) (sym (mapped-other (m .0) r (false, length (m .1)) x (λ q. lt-irrefl b (omega (arith, ap δ q)))) ∙ e)
 
   -- `transfer_type` with enough levels is right.
-  in-moves : (k : ℕ) → Moves k (transfer-in k src (some ps))
+  in-moves : (k : ℕ) → Moves k (transfer-in k src ps)
   unfolding transfer-in find invert-if rep
   in-moves zero b t ht hk hb m l a e = absurd (not-suc-le-zero hk)
-  in-moves (suc k) b t ht hk hb m l a en = go (mapped (m .0) (rep src (t .1))) refl (param-for (some ps) (state-at src (rep src (t .1)))) refl (state-at src (rep src (t .1))) refl en (in-moves k)
+  in-moves (suc k) b t ht hk hb m l a en = go (mapped (m .0) (rep src (t .1))) refl (param-for ps (state-at src (rep src (t .1)))) refl (state-at src (rep src (t .1))) refl en (in-moves k)
     where
       hr : rep src (t .1) < length src
       hr = formed (t .1) ht .0
@@ -297,19 +319,19 @@ module _ (src : Types) (formed : WellFormed src) (flat : (n : ℕ) → n < lengt
           at-new : σ (length (m .1)) ≡ τ (rep src (t .1))
           at-new = subst (Fits σ (length (m .1))) (set-state (res .1 .1) (length (m .1)) (known i kd d (res .0)) inside) (e .fits (length (m .1)) l (omega (arith, inside, length-set (res .1 .1) (length (m .1)) (new-node (length (m .1)) (known i kd d (res .0)))))) ∙ ap (con kd d) (w .are) ∙ sym q
 
-      go : (o : Option Ty) → mapped (m .0) (rep src (t .1)) ≡ o → (u : Option Ty) → param-for (some ps) (state-at src (rep src (t .1))) ≡ u → (st : TypeState) → state-at src (rep src (t .1)) ≡ st → Ends ((transfer-in (suc k) src (some ps) t m) .1) → Moves k (transfer-in k src (some ps)) → Moved t m (transfer-in (suc k) src (some ps) t m)
+      go : (o : Option Ty) → mapped (m .0) (rep src (t .1)) ≡ o → (u : Option Ty) → param-for ps (state-at src (rep src (t .1))) ≡ u → (st : TypeState) → state-at src (rep src (t .1)) ≡ st → Ends ((transfer-in (suc k) src ps t m) .1) → Moves k (transfer-in k src ps) → Moved t m (transfer-in (suc k) src ps t m)
       go (some u) e w f st q z ih = rw (e, transfer-in) (record { is = a (rep src (t .1)) u (subst (λ x. δ x < b) (sym own) hb) e ∙ ap τ own; grows = λ x v y. inl y })
-      go none e (some u) f st q z ih = rw (e, f, transfer-in) (record { is = param-reads (rep src (t .1)) u hr f ∙ ap τ own; grows = λ x v y. inl y })
+      go none e (some u) f st q z ih = rw (e, f, transfer-in) (record { is = follows .param (rep src (t .1)) u hr f ∙ ap τ own; grows = λ x v y. inl y })
       go none e none f unknown q z ih =
           let s : σ (length (m .1)) ≡ τ (rep src (t .1)) = left (rep src (t .1)) (false, length (m .1)) hr q ((rw (e, f, q, transfer-in) at z) .kept (rep src (t .1)) (false, length (m .1)) (mapped-here (m .0) (rep src (t .1)) (false, length (m .1)))) in
           rw (e, f, q, transfer-in) (record { is = s ∙ ap τ own; grows = grows-push m (rep src (t .1)) s })
-      go none e none f (known i kd d cs) q z ih = rw (e, f, q, transfer-in) (filled i kd d cs (plain-reads (rep src (t .1)) i kd d cs hr f q) w moved fr done)
+      go none e none f (known i kd d cs) q z ih = rw (e, f, q, transfer-in) (filled i kd d cs (follows .plain (rep src (t .1)) i kd d cs hr f q) w moved fr done)
         where
           w : List Ty × Transfer
-          w = transfer-each (λ c w. transfer-in k src (some ps) c w) cs (pushed m (rep src (t .1)))
+          w = transfer-each (λ c w. transfer-in k src ps c w) cs (pushed m (rep src (t .1)))
 
           fr : Frame (pushed m (rep src (t .1))) (w .1)
-          fr = each-frame (λ c w. transfer-in k src (some ps) c w) (in-frame src (some ps) k) cs (pushed m (rep src (t .1)))
+          fr = each-frame (λ c w. transfer-in k src ps c w) (in-frame src ps k) cs (pushed m (rep src (t .1)))
 
           done : Ends (w .1 .0, set (w .1 .1) (length (m .1)) (new-node (length (m .1)) (known i kd d (w .0))))
           done = rw (e, f, q, transfer-in) at z
@@ -318,119 +340,139 @@ module _ (src : Types) (formed : WellFormed src) (flat : (n : ℕ) → n < lengt
           still = frame-state (pushed m (rep src (t .1))) (w .1) (length (m .1)) (omega (arith, length-append (m .1) (new-node (length (m .1)) unknown ∷ []))) fr ∙ snoc-state (m .1) unknown
 
           moved : AllMoved cs (pushed m (rep src (t .1))) w
-          moved = all-moved k (λ c w. transfer-in k src (some ps) c w) (in-frame src (some ps) k) ih (δ (t .1)) (omega arith) cs
+          moved = all-moved k (λ c w. transfer-in k src ps c w) (in-frame src ps k) ih (δ (t .1)) (omega arith) cs
               (λ j y. (child-in (length src) cs j (subst (ChildrenIn (length src)) q (formed (t .1) ht .2)) y, ranked .falls (t .1) ht i kd d cs q j y))
               (pushed m (rep src (t .1))) (omega (arith, length-append (m .1) (new-node (length (m .1)) unknown ∷ [])))
               (agrees-push m (rep src (t .1)) (δ (t .1)) b (omega arith) (omega (arith, ap δ own)) a)
               (ends-unfilled (w .1) (length (m .1)) (known i kd d (w .0)) still done)
 
--- An import read as terms: where σ solves the table that it leaves, what came is what the source reads as by what σ says of its parameters and unknowns.
-module _ (src : Types) (formed : WellFormed src) (free : Readable src) (flat : (n : ℕ) → n < length src → rep src n ≡ n) (ps : List Ty) (dst : Types) (xs : List Ty) (inside : AllIn (length src) xs) (σ : Sol) where
+-- An import read as terms: where σ solves the table that it leaves, what came is what the source reads as, with π for its Params and what σ says of its unknowns.
+module _ (src : Types) (formed : WellFormed src) (free : Readable src) (flat : (n : ℕ) → n < length src → rep src n ≡ n) (ps : Option (List Ty)) (dst : Types) (xs : List Ty) (inside : AllIn (length src) xs) (σ π : Sol) where
   abbrev come : List Ty × Transfer
-  come = transfer-types src (some ps) xs ([], dst)
+  come = transfer-types src ps xs ([], dst)
 
-  -- A Param is what was given for it,
-  unfoldable given : Sol
-  given d = σ ((getD ps d (false, 0)) .1)
-
-  -- an unknown that came what it came to,
+  -- An unknown that came is what it came to,
   unfoldable arrived : Sol
   arrived r = elim (mapped (come .1 .0) r) [ some u ↦ σ (u .1) | none ↦ var r ]
 
   -- and all else follows.
   unfoldable source : Sol
-  source n = put-in given arrived ((free .0) n)
+  source n = put-in π arrived ((free .0) n)
 
-  source-reads : Reads src given source
+  source-reads : Reads src π source
   unfolding source
-  source-reads n h = put-in-suits given arrived (free .0) n (state-at src n) (subst (λ k. Fits (free .0) k (state-at src k)) (flat n h) (free .1 .solves n h .1))
+  source-reads n h = put-in-suits π arrived (free .0) n (state-at src n) (subst (λ k. Fits (free .0) k (state-at src k)) (flat n h) (free .1 .solves n h .1))
 
   source-left : (r : ℕ) (u : Ty) → r < length src → state-at src r ≡ unknown → mapped (come .1 .0) r ≡ some u → σ (u .1) ≡ source r
   unfolding source arrived put-in
-  source-left r u h q e = sym (ap (put-in given arrived) (free .1 .vars r h (flat r h) q) ∙ rw (e, arrived))
+  source-left r u h q e = sym (ap (put-in π arrived) (free .1 .vars r h (flat r h) q) ∙ rw (e, arrived))
 
   import-frame : Frame ([], dst) (come .1)
   unfolding transfer-types
-  import-frame = each-frame (transfer-in (suc (length src)) src (some ps)) (in-frame src (some ps) (suc (length src))) xs ([], dst)
+  import-frame = each-frame (transfer-in (suc (length src)) src ps) (in-frame src ps (suc (length src))) xs ([], dst)
 
   -- The nodes that were there stay,
-  import-first : (n : ℕ) → n < length dst → node-at ((import-types src (some ps) xs dst) .1) n ≡ node-at dst n
+  import-first : (n : ℕ) → n < length dst → node-at ((import-types src ps xs dst) .1) n ≡ node-at dst n
   unfolding import-types
   import-first n h = import-frame .nodes n h
 
   -- and what came reads as its source does.
-  import-reads : Solves ((import-types src (some ps) xs dst) .1) σ → terms σ ((import-types src (some ps) xs dst) .0) ≡ terms source xs
-  unfolding import-types transfer-types given mapped
-  import-reads sv =
-      (all-moved src formed flat (rank src) (readable-ranked src formed free) ps (length dst) (come .1 .0) σ given source source-reads (λ d. refl) source-left (suc (length src)) (transfer-in (suc (length src)) src (some ps)) (in-frame src (some ps) (suc (length src)))
-      (in-moves src formed flat (rank src) (readable-ranked src formed free) ps (length dst) (come .1 .0) σ given source source-reads (λ d. refl) source-left (suc (length src))) (suc (length src)) (le-refl _) xs
+  import-reads : Follows src ps σ source → Solves ((import-types src ps xs dst) .1) σ → terms σ ((import-types src ps xs dst) .0) ≡ terms source xs
+  unfolding import-types transfer-types mapped
+  import-reads follows sv =
+      (all-moved src formed flat (rank src) (readable-ranked src formed free) ps (length dst) (come .1 .0) σ source follows source-left (suc (length src)) (transfer-in (suc (length src)) src ps) (in-frame src ps (suc (length src)))
+      (in-moves src formed flat (rank src) (readable-ranked src formed free) ps (length dst) (come .1 .0) σ source follows source-left (suc (length src))) (suc (length src)) (le-refl _) xs
       (λ j l. (child-in (length src) xs j inside l, omega (arith, readable-most src formed free ((getD xs j (false, 0)) .1)))) ([], dst) (le-refl _) (λ r u h e. absurd (Option·none-ne-some u e))
       (record { fits = λ n l h. subst (λ k. Fits σ k (state-at (come .1 .1) k)) (import-frame .flat n l h) (sv n h .1); kept = λ r u e. e })) .are
 
+-- Where an import behind table ts unifies with a question of it, there are terms that both are.
+module _ (s : Words) (ts : Types) (q : ImplType) (neat : Neat ts) (inside : AllIn (length ts) (q .1)) (src : Types) (tidy : Neat src) (flat : (n : ℕ) → n < length src → rep src n ≡ n) (ps : Option (List Ty)) (dst : Types) (more : length ts ≤ length dst) (first : (n : ℕ) → n < length ts → node-at dst n ≡ node-at ts n) (p : ImplType) (into : AllIn (length src) (p .1)) where
+  abbrev come-in : ImplType × Types
+  come-in = import-impl-type src ps p dst
+
+  import-common : Brought dst (come-in .0 .1) (come-in .1) → (π : Sol → Sol) → ((σ τ : Sol) → Reads src (π σ) τ → Follows src ps σ τ) → (unify-impl-type s (come-in .1) (come-in .0) q) .0 ≡ success → Common ts src (p .1) (q .1)
+  unfolding import-impl-type
+  import-common b π follow won = record {
+    σ = σ;
+    solves = solves-first ts (w .1) σ (neat .proper .formed) long (λ k l. import-first src formed free flat ps dst (p .1) into σ (π σ) k (le-trans l more) ∙ first k l) (r .0 .out σ after);
+    π = π σ;
+    τ = τ;
+    reads = reads;
+    same = sym (import-reads src formed free flat ps dst (p .1) into σ (π σ) (follow σ τ reads) (r .0 .out σ after)) ∙ same-terms (m .1) σ after (w .0 .1) (q .1) (subst (λ N. AllIn N (w .0 .1)) (sym (r .0 .len)) (b .inside)) (subst (λ N. AllIn N (q .1)) (sym (r .0 .len)) asked) (r .0 .meet);
+  }
+    where
+      w : ImplType × Types
+      w = come-in
+
+      m : Unified
+      m = unify-impl-type s (come-in .1) (come-in .0) q
+
+      formed : WellFormed src
+      formed = tidy .proper .formed
+
+      free : Readable src
+      free = tidy .proper .kept
+
+      long : length ts ≤ length (w .1)
+      long = le-trans more (b .grown)
+
+      asked : AllIn (length (w .1)) (q .1)
+      asked = in-more (length ts) (length (w .1)) long (q .1) inside
+
+      r : AfterAll (w .1) (w .0 .1) (q .1) (m .1) × Readable (m .1)
+      r = impl-type-right s (w .1) (w .0) q (b .neat .proper .formed) (b .inside) asked (b .neat .proper .kept) won
+
+      σ : Sol
+      σ = r .1 .0
+
+      after : Solves (m .1) σ
+      after = r .1 .1 .solves
+
+      τ : Sol
+      τ = source src formed free flat ps dst (p .1) into σ (π σ)
+
+      reads : Reads src (π σ) τ
+      reads = source-reads src formed free flat ps dst (p .1) into σ (π σ)
+
 -- Nodes stay where fresh unknowns come behind them.
-fresh-first : (ts : Types) (n k : ℕ) → k < length ts → node-at (with-fresh ts n) k ≡ node-at ts k
+pub fresh-first : (ts : Types) (n k : ℕ) → k < length ts → node-at (with-fresh ts n) k ≡ node-at ts k
 unfolding with-fresh node-at
 fresh-first ts n k h = List·getD-append ts (new-nodes (length ts) (replicate n unknown)) (new-node 0 unknown) k h
 
 -- Where a candidate's signature unifies with the question, there are terms that both are: the question in a solution of its table, the signature by some choice for its parameters.
 pub candidate-common : (a : Finder) (w₀ : Words) → Ready a w₀ → (ts : Types) (q : ImplType) → Neat ts → AllIn (length ts) (q .1) → (i : ℕ) → i < many (a .sheet) header·impls → (met (a .sheet) ts q i) .0 ≡ success → Common ts ((impl-signature (a .sheet) i) .0) ((impl-signature (a .sheet) i) .1 .1) (q .1)
-unfolding import-impl-type impl-signature
-candidate-common a w₀ ready ts q neat inside i h won = record {
-  σ = σ;
-  solves = solves-first ts (w .1) σ (neat .proper .formed) long (λ k l. import-first src formed free flat ps dst xs into σ k (le-trans l (omega (arith, fresh-length ts n))) ∙ fresh-first ts n k l) (r .0 .out σ after);
-  π = given src formed free flat ps dst xs into σ;
-  τ = source src formed free flat ps dst xs into σ;
-  reads = source-reads src formed free flat ps dst xs into σ;
-  same = sym (import-reads src formed free flat ps dst xs into σ (r .0 .out σ after)) ∙ same-terms ((met (a .sheet) ts q i) .1) σ after (w .0 .1) (q .1) (subst (λ N. AllIn N (w .0 .1)) (sym (r .0 .len)) (b .inside)) (subst (λ N. AllIn N (q .1)) (sym (r .0 .len)) asked) (r .0 .meet);
-}
+unfolding impl-signature
+candidate-common a w₀ ready ts q neat inside i h won =
+    let n = fresh-count (a .sheet) i in
+    import-common (a .sheet) ts q neat inside ((impl-signature (a .sheet) i) .0) (signature-neat a w₀ ready i h) (table-flat (a .sheet) (impl-table (a .sheet) i)) (some (fresh-params ts n)) (with-fresh ts n) (omega (arith, fresh-length ts n)) (fresh-first ts n)
+    ((impl-signature (a .sheet) i) .1) (signature-in a w₀ ready i h) (signature-brought a w₀ ready ts q neat inside i h) (given (fresh-params ts n)) (given-follows ((impl-signature (a .sheet) i) .0) (fresh-params ts n)) won
+
+-- 8: a Param has no children,
+bare-node : (s w : Words) (params n p : ℕ) → T (node-ok s w params n p) → Bare (node-state w p)
+unfolding node-ok node-fits node-state kinds
+bare-node s w params n p t = go (eqb (at w (p + node·kind)) kind·unknown) refl
   where
-    n : ℕ
-    n = fresh-count (a .sheet) i
+    none-left : (cs : List Ty) → T (leb (length cs) 0) → cs ≡ []
+    none-left [] h = refl
+    none-left (c ∷ cs) h = absurd (not-suc-le-zero {n = length cs} (leb→le _ 0 h))
 
-    src : Types
-    src = (impl-signature (a .sheet) i) .0
+    go : (b : Bool) → eqb (at w (p + node·kind)) kind·unknown ≡ b → Bare (node-state w p)
+    go true e = rw (e, node-state) tt
+    go false e = rw (e, node-state) (λ k. none-left (cell-types w (at w (p + node·children))) (subst (λ x. T (leb (length (cell-types w (at w (p + node·children)))) (kind-row x row·most))) k (part _ t 5)))
 
-    xs : List Ty
-    xs = (impl-signature (a .sheet) i) .1 .1
+-- so none has in the table of the caller's impl parameters.
+pub params-bare : (a : Finder) (w₀ : Words) → Ready a w₀ → (n : ℕ) → Bare (state-at ((impl-params (a .sheet) (a .generics)) .0) n)
+unfolding impl-params generics-ok generics-table field state-at node-at new-node
+params-bare a w₀ ready n = every-at (λ (x : TypeNode). Bare (x .state)) ((impl-params (a .sheet) (a .generics)) .0) n (new-node 0 unknown) (every-table Bare (a .sheet) (a .sheet) _ (generics-table (a .sheet) (a .generics)) (bare-node (a .sheet) (a .sheet) _) (part _ (ready .values .generics (a .generics) (ready .generics)) 1)) tt
 
-    ps : List Ty
-    ps = fresh-params ts (fresh-count (a .sheet) i)
-
-    dst : Types
-    dst = with-fresh ts (fresh-count (a .sheet) i)
-
-    w : ImplType × Types
-    w = signed (a .sheet) ts i
-
-    formed : WellFormed src
-    formed = signature-neat a w₀ ready i h .proper .formed
-
-    free : Readable src
-    free = signature-neat a w₀ ready i h .proper .kept
-
-    flat : (n : ℕ) → n < length src → rep src n ≡ n
-    flat = table-flat (a .sheet) (impl-table (a .sheet) i)
-
-    into : AllIn (length src) xs
-    into = signature-in a w₀ ready i h
-
-    b : Brought (with-fresh ts (fresh-count (a .sheet) i)) (w .0 .1) (w .1)
-    b = signature-brought a w₀ ready ts q neat inside i h
-
-    long : length ts ≤ length (w .1)
-    long = omega (arith, fresh-length ts (fresh-count (a .sheet) i), b .grown)
-
-    asked : AllIn (length (w .1)) (q .1)
-    asked = in-more (length ts) (length (w .1)) long (q .1) inside
-
-    r : AfterAll (w .1) (w .0 .1) (q .1) ((met (a .sheet) ts q i) .1) × Readable ((met (a .sheet) ts q i) .1)
-    r = impl-type-right (a .sheet) (w .1) (w .0) q (b .neat .proper .formed) (b .inside) asked (b .neat .proper .kept) won
-
-    σ : Sol
-    σ = r .1 .0
-
-    after : Solves ((met (a .sheet) ts q i) .1) σ
-    after = r .1 .1 .solves
+-- So are there where an impl parameter of the caller's generics unifies with the question: its Params are types of their own.
+pub param-common : (a : Finder) (w₀ : Words) → Ready a w₀ → (ts : Types) (q : ImplType) → Neat ts → AllIn (length ts) (q .1) → (p : ImplType) → AllIn (length ((impl-params (a .sheet) (a .generics)) .0)) (p .1) → (unify-impl-type (a .sheet) ((import-impl-type ((impl-params (a .sheet) (a .generics)) .0) none p ts) .1) ((import-impl-type ((impl-params (a .sheet) (a .generics)) .0) none p ts) .0) q) .0 ≡ success → Common ts ((impl-params (a .sheet) (a .generics)) .0) (p .1) (q .1)
+unfolding impl-params
+param-common a w₀ ready ts q neat inside p into won =
+    let src = (impl-params (a .sheet) (a .generics)) .0 in
+    let tidy = impl-params-neat a w₀ ready (a .generics) (ready .generics) in
+    import-common (a .sheet) ts q neat inside src tidy (table-flat (a .sheet) (generics-table (a .sheet) (a .generics))) none ts (le-refl _) (λ k l. refl)
+    p into (query-brought src tidy none ts neat (low-none ts) p into) (λ σ. itself) (none-follows src (params-bare a w₀ ready)) won
 
 -- A candidate takes at most as many nodes as it has type parameters and its signature's table has nodes,
 pub signed-most : (a : Finder) (w₀ : Words) → Ready a w₀ → (ts : Types) (i : ℕ) → i < many (a .sheet) header·impls → length ((signed (a .sheet) ts i) .1) ≤ length ts + fresh-count (a .sheet) i + length ((impl-signature (a .sheet) i) .0)
@@ -441,3 +483,8 @@ signed-most a w₀ ready ts i h = omega (arith, import-most ((impl-signature (a 
 pub fresh-most : (a : Finder) (w₀ : Words) → Ready a w₀ → (i : ℕ) → i < many (a .sheet) header·impls → fresh-count (a .sheet) i ≤ limit·type-params
 unfolding generics-ok type-params field
 fresh-most a w₀ ready i h = leb→le _ limit·type-params (part _ (ready .values .generics (impl-generics (a .sheet) i) (impl-generics-in a w₀ ready i h)) 0)
+
+-- An impl parameter of the caller's generics takes at most as many nodes as their table has.
+pub param-most : (a : Finder) (w₀ : Words) → Ready a w₀ → (ts : Types) (p : ImplType) → AllIn (length ((impl-params (a .sheet) (a .generics)) .0)) (p .1) → length ((import-impl-type ((impl-params (a .sheet) (a .generics)) .0) none p ts) .1) ≤ length ts + length ((impl-params (a .sheet) (a .generics)) .0)
+unfolding import-impl-type
+param-most a w₀ ready ts p into = import-most ((impl-params (a .sheet) (a .generics)) .0) (impl-params-neat a w₀ ready (a .generics) (ready .generics) .proper .formed) none (p .1) ts into

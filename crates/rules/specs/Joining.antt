@@ -62,11 +62,11 @@ module _ (ts : Types) (lo hi : Ty) (hlo : lo .1 < length ts) (hhi : hi .1 < leng
           ∙ sym (ap (swap (lo .1) (hi .1)) rhi ∙ rw (eqb-false (hi .1) (lo .1) (λ q. ne (sym q)), swap)))
       go (no d) = ap (λ nd. nd .up .1) (getD-set-other (map moving ts) (hi .1) n _ _ d ∙ map-at _ ts n _ h) ∙ moved-up (node-at ts n)
 
-  hang-state : (n : ℕ) → n < length ts → n ≢ hi .1 → state-at (hang ts lo hi) n ≡ state-at ts n
+  pub hang-state : (n : ℕ) → n < length ts → n ≢ hi .1 → state-at (hang ts lo hi) n ≡ state-at ts n
   unfolding state-at node-at hang
   hang-state n h d = ap (λ nd. nd .state) (getD-set-other (map moving ts) (hi .1) n _ _ d ∙ map-at _ ts n _ h) ∙ moved-state (node-at ts n)
 
-  hang-top : state-at (hang ts lo hi) (hi .1) ≡ or-else (state-at ts (hi .1)) (invert-state (xor (hi .0) (lo .0)) (state-at ts (lo .1)))
+  pub hang-top : state-at (hang ts lo hi) (hi .1) ≡ or-else (state-at ts (hi .1)) (invert-state (xor (hi .0) (lo .0)) (state-at ts (lo .1)))
   unfolding state-at node-at hang
   hang-top = ap (λ nd. nd .state) (getD-set-same (map moving ts) (hi .1) _ _ (rw (map-length moving ts) hhi))
 

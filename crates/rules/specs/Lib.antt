@@ -66,10 +66,13 @@ pub mod Carried
 pub mod TransferCount
 pub mod Yields
 pub mod Slim
+pub mod UprightRoots
 pub mod Neat
 pub mod SearchKeeps
 pub mod SubQuestions
 pub mod CommonTerms
+pub mod CommonSides
+pub mod SignedTerms
 pub mod CallKeeps
 pub mod ResultLimits
 pub mod AnswerSize

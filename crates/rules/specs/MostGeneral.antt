@@ -21,7 +21,7 @@ Won success = Unit {0}
 Won failure = ⊥
 Won indeterminate = ⊥
 
-both-won : (v w : UnifyResult) → Won (and v w) → Won v × Won w
+pub both-won : (v w : UnifyResult) → Won (and v w) → Won v × Won w
 both-won success w h = (tt, h)
 both-won failure w h = absurd h
 both-won indeterminate success h = absurd h
@@ -190,7 +190,7 @@ module _ (inv : Bool) where
   flip-same ts (x ∷ xs) [] e = absurd e
   flip-same ts (x ∷ xs) (y ∷ ys) e = (e .0, flip-same ts xs ys (e .1))
 
-and-true : (a b : Bool) → T (a && b) → T a × T b
+pub and-true : (a b : Bool) → T (a && b) → T a × T b
 and-true true b h = (tt, h)
 and-true false b h = absurd h
 
@@ -213,7 +213,7 @@ known-right f right s ts inv k d xs k′ d′ ys formed ax ay fr w = go (eqb k k
           rw (e, e′, unify-known) (pk .1),
         )
 
-join-won : (m : Unified) (x y : Ty) → Won ((join-on-success m x y) .0) → Won (m .0) × ((join-on-success m x y) .1 ≡ join (m .1) x y)
+pub join-won : (m : Unified) (x y : Ty) → Won ((join-on-success m x y) .0) → Won (m .0) × ((join-on-success m x y) .1 ≡ join (m .1) x y)
 unfolding join-on-success
 join-won m x y w = go (m .0) refl w
   where

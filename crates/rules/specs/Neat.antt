@@ -1,4 +1,4 @@
--- A neat table: its classes have roots, its types are nodes, none reaches itself, and none has over 8 children. Imports, joins and fresh unknowns keep tables neat;
+-- A neat table: its classes have roots, each the upright type of its class, its types are nodes, none reaches itself, and none has over 8 children. Imports, joins and fresh unknowns keep tables neat;
 -- and the tables of a checked sheet and question are neat to start with.
 use Prim.Native.Nat.{ℕ, zero, suc, _+_, _≤_, _<_}
 use mathlib.Core.Path.{_≡_, refl, sym, _∙_, ap, subst, fun-ext}
@@ -31,11 +31,13 @@ use Rattle.rules.specs.Yields.{Every, every-map, every-all}
 use Rattle.rules.specs.Carried.{unify-carries, impl-type-carries, pushed}
 use Rattle.rules.specs.Slim.{Slim, slim-join, slim-import, slim-fresh, slim-table, no-params}
 use Rattle.rules.specs.TransferCount.{row, row-moves}
+use Rattle.rules.specs.UprightRoots.{RootsUpright, unify-upright, impl-type-upright, import-upright, fresh-upright, table-upright}
 
 -- Document 01 asks it of a sheet's and a question's tables (8, 9, 12, 13).
 pub record Neat (ts : Types) : Type 0 where
   pub proper : Proper ts
   pub slim : Slim ts
+  pub upright : RootsUpright ts
 
 -- Types stay in a table that grows.
 pub in-more : (n m : ℕ) → n ≤ m → (xs : List Ty) → AllIn n xs → AllIn m xs
@@ -105,7 +107,7 @@ module _ (src : Types) (ns : Neat src) (ps : Option (List Ty)) (dst : Types) (nd
   types-brought ts a =
       let i = imports src (ns .proper .formed) (ns .proper .kept) ps dst (nd .proper .formed) (nd .proper .kept) low ts (λ j l. child-in (length src) ts j a l) in
       record {
-        neat = record { proper = record { formed = i .formed; kept = i .kept }; slim = slim-import src (ns .proper .formed) (ns .slim) ps ts dst a (nd .slim) };
+        neat = record { proper = record { formed = i .formed; kept = i .kept }; slim = slim-import src (ns .proper .formed) (ns .slim) ps ts dst a (nd .slim); upright = import-upright src (ns .proper .formed) ps ts dst a (nd .upright) };
         grown = i .with-first;
         inside = in-from (length ((import-types src ps ts dst) .1)) ((import-types src ps ts dst) .0) (λ j l. i .inside j (subst (λ k. j < k) (i .len) l));
       }
@@ -122,7 +124,7 @@ module _ (src : Types) (ns : Neat src) (ps : Option (List Ty)) (dst : Types) (nd
 
 neat-empty : Neat []
 unfolding Slim
-neat-empty = record { proper = record { formed = λ n h. absurd (not-suc-le-zero h); kept = ranked-readable [] (λ n h. absurd (not-suc-le-zero h)) (λ n. 0) (record { falls = λ n h. absurd (not-suc-le-zero h) }) }; slim = tt }
+neat-empty = record { proper = record { formed = λ n h. absurd (not-suc-le-zero h); kept = ranked-readable [] (λ n h. absurd (not-suc-le-zero h)) (λ n. 0) (record { falls = λ n h. absurd (not-suc-le-zero h) }) }; slim = tt; upright = λ n h. absurd (not-suc-le-zero h) }
 
 -- `export` of types,
 pub types-exported : (src : Types) → Neat src → (ts : List Ty) → AllIn (length src) ts → Brought [] ((export-types src ts) .0) ((export-types src ts) .1)
@@ -143,18 +145,18 @@ pub record Joined (ts us : Types) : Type 0 where
 pub unify-neat : (s : Words) (ts : Types) (a b : Ty) → Neat ts → a .1 < length ts → b .1 < length ts → Joined ts ((unify s ts a b) .1)
 unify-neat s ts a b n ha hb =
     let k = unify-keeps s ts a b (n .proper .formed) ha hb (n .proper .kept) in
-    record { neat = record { proper = record { formed = k .formed; kept = k .kept }; slim = unify-carries Slim slim-join s ts a b (n .slim) }; len = k .len }
+    record { neat = record { proper = record { formed = k .formed; kept = k .kept }; slim = unify-carries Slim slim-join s ts a b (n .slim); upright = unify-upright s ts a b (n .upright) }; len = k .len }
 
 -- `unify_impl_type`.
 pub unify-query-neat : (s : Words) (ts : Types) (a b : ImplType) → Neat ts → AllIn (length ts) (a .1) → AllIn (length ts) (b .1) → Joined ts ((unify-impl-type s ts a b) .1)
 unify-query-neat s ts a b n ha hb =
     let k = impl-type-keeps s ts a b (n .proper .formed) ha hb (n .proper .kept) in
-    record { neat = record { proper = record { formed = k .formed; kept = k .kept }; slim = impl-type-carries Slim slim-join s ts a b (n .slim) }; len = k .len }
+    record { neat = record { proper = record { formed = k .formed; kept = k .kept }; slim = impl-type-carries Slim slim-join s ts a b (n .slim); upright = impl-type-upright s ts a b (n .upright) }; len = k .len }
 
 -- Fresh unknowns.
 pub fresh-neat : (ts : Types) (n : ℕ) → Neat ts → Neat (with-fresh ts n)
 unfolding with-fresh
-fresh-neat ts n t = record { proper = fresh-proper n ts (t .proper); slim = slim-fresh ts n (t .slim) }
+fresh-neat ts n t = record { proper = fresh-proper n ts (t .proper); slim = slim-fresh ts n (t .slim); upright = fresh-upright ts n (t .upright) }
 
 -- How many nodes there are then.
 pub fresh-length : (ts : Types) (n : ℕ) → length (with-fresh ts n) ≡ length ts + n
@@ -237,7 +239,7 @@ module _ (a : Finder) (q : Words) (r : Ready a q) where
 
   -- The question's.
   pub question-neat : Neat (table q (at q question·table))
-  question-neat = record { proper = record { formed = question-formed a q r; kept = question-free a q r }; slim = slim-table (a .sheet) q few (type-params (a .sheet) (a .generics)) (at q question·table) (r .typed) }
+  question-neat = record { proper = record { formed = question-formed a q r; kept = question-free a q r }; slim = slim-table (a .sheet) q few (type-params (a .sheet) (a .generics)) (at q question·table) (r .typed); upright = table-upright q (at q question·table) }
 
   -- An impl's signature, over its table.
   module _ (i : ℕ) (h : i < many (a .sheet) header·impls) where
@@ -253,7 +255,7 @@ module _ (a : Finder) (q : Words) (r : Ready a q) where
     -- Its table is neat,
     pub signature-neat : Neat ((impl-signature (a .sheet) i) .0)
     unfolding impl-signature impl-table
-    signature-neat = record { proper = record { formed = impl-formed a q r i h; kept = impl-free a q r i h }; slim = slim-table (a .sheet) (a .sheet) few _ (impl-table (a .sheet) i) signature-ok }
+    signature-neat = record { proper = record { formed = impl-formed a q r i h; kept = impl-free a q r i h }; slim = slim-table (a .sheet) (a .sheet) few _ (impl-table (a .sheet) i) signature-ok; upright = table-upright (a .sheet) (impl-table (a .sheet) i) }
 
     -- its arguments are nodes of it,
     pub signature-in : AllIn (length ((impl-signature (a .sheet) i) .0)) ((impl-signature (a .sheet) i) .1 .1)
@@ -274,7 +276,7 @@ module _ (a : Finder) (q : Words) (r : Ready a q) where
     -- It is neat,
     pub impl-params-neat : Neat ((impl-params (a .sheet) g) .0)
     unfolding impl-params generics-table
-    impl-params-neat = record { proper = record { formed = generics-formed a q r g h; kept = generics-free a q r g h }; slim = slim-table (a .sheet) (a .sheet) few _ (generics-table (a .sheet) g) impl-params-ok }
+    impl-params-neat = record { proper = record { formed = generics-formed a q r g h; kept = generics-free a q r g h }; slim = slim-table (a .sheet) (a .sheet) few _ (generics-table (a .sheet) g) impl-params-ok; upright = table-upright (a .sheet) (generics-table (a .sheet) g) }
 
     -- their arguments are nodes of it,
     pub impl-params-in : QueriesIn (length ((impl-params (a .sheet) g) .0)) ((impl-params (a .sheet) g) .1)

@@ -19,7 +19,7 @@ Own s (cons t u) = Own s t × Own s u
 
 module _ (s : Words) (ts : Types) (formed : WellFormed ts) where
   -- `self_inverse` by what a type's root is: b is its flag.
-  opened : (k : ℕ) (t : Ty) {i : Bool} {kd d : ℕ} {cs : List Ty} → state-at ts (rep ts (t .1)) ≡ known i kd d cs → (b : Bool) → kind-flag s row·own-inverse kd d ≡ b → self-inverse-in (suc k) s ts t ≡ elim b [ true ↦ all (λ c. self-inverse-in k s ts c) cs | false ↦ false ]
+  pub opened : (k : ℕ) (t : Ty) {i : Bool} {kd d : ℕ} {cs : List Ty} → state-at ts (rep ts (t .1)) ≡ known i kd d cs → (b : Bool) → kind-flag s row·own-inverse kd d ≡ b → self-inverse-in (suc k) s ts t ≡ elim b [ true ↦ all (λ c. self-inverse-in k s ts c) cs | false ↦ false ]
   unfolding self-inverse-in kind find invert-if rep invert-state
   opened k t q b e = rw (q, e, self-inverse-in, kind)
 

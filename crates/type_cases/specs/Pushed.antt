@@ -14,6 +14,7 @@ use Rattle.rules.specs.Types.{Ty, TypeState, unknown, known, TypeNode, Types, n
 use Rattle.rules.specs.Solutions.{rep, ChildrenIn, WellFormed, Readable}
 use Rattle.rules.specs.RootRank.{rank, child-in}
 use Rattle.rules.specs.Readings.{Ranked, readable-ranked, readable-most, ranked-readable}
+use Rattle.rules.specs.UprightRoots.{snoc-upright}
 use Rattle.rules.specs.Neat.{Neat, in-more}
 use Rattle.rules.specs.Slim.{Slim, SlimState}
 use Rattle.rules.specs.Yields.{every-append}
@@ -110,4 +111,5 @@ module _ (ts : Types) (st : TypeState) where
   pushed-neat g inside few = record {
     proper = record { formed = pushed-formed (g .proper .formed) inside; kept = pushed-readable (g .proper .formed) inside (g .proper .kept) };
     slim = every-append (λ (nd : TypeNode). SlimState (nd .state)) ts (new-node (length ts) st ∷ []) (g .slim) (few, tt);
+    upright = snoc-upright ts st (g .upright);
   }

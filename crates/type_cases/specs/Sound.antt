@@ -39,7 +39,7 @@ sound-good ws g = record { packed = g .packed; formed = g .neat .proper .formed;
 -- The table without nodes.
 neat-empty : Neat []
 unfolding Slim
-neat-empty = record { proper = record { formed = λ n h. absurd (not-suc-le-zero h); kept = ranked-readable [] (λ n h. absurd (not-suc-le-zero h)) (λ n. 0) (record { falls = λ n h. absurd (not-suc-le-zero h) }) }; slim = tt }
+neat-empty = record { proper = record { formed = λ n h. absurd (not-suc-le-zero h); kept = ranked-readable [] (λ n h. absurd (not-suc-le-zero h)) (λ n. 0) (record { falls = λ n h. absurd (not-suc-le-zero h) }) }; slim = tt; upright = λ n h. absurd (not-suc-le-zero h) }
 
 pub sound-empty : (us : Words) → Becomes us [] → Sound us
 sound-empty us b = record { packed = b .packed; neat = subst Neat (sym (b .is)) neat-empty }
