@@ -1,59 +1,165 @@
--- What refs mean. A ref is a number, read modulo 512: up to 255 a node of the question's table, from 256 on a node of the signature's table by its record, from 504 on a type parameter.
--- A meaning gives every ref a term, such that both tables are read alike.
-use Prim.Native.Nat.{ℕ, _+_, _%_, _≤_, _<_}
-use mathlib.Core.Path.{_≡_, ap}
+-- What types mean. A type is a number: twice a ref, and one more if it is inverted. Refs are read modulo 512: up to 255 a node of the question's table, from 256 on a node of the signature's table by its record,
+-- from 504 on a type parameter. A meaning gives every ref a term with sides, such that both tables are read alike.
+use Prim.Native.Nat.{ℕ, _+_, _*_, _/_, _%_, _≤_, _<_}
+use mathlib.Core.Path.{_≡_, refl, sym, _∙_, ap, ap₂}
+use mathlib.Core.Bool.{Bool, true, false}
 use mathlib.Core.List.{[], _∷_, map}
 use mathlib.Core.Logic.{_≢_}
 use native.Mathlib.Omega.{arith}
+use lib.Dec.{eqb}
 use lib.ListN.{length}
 use Rattle.rules.specs.Lists.{Words}
-use Rattle.rules.specs.Sheet.{at}
-use Rattle.rules.specs.Types.{Ty}
+use Rattle.rules.specs.Sheet.{at, kind-flag, row·own-inverse}
+use Rattle.rules.specs.Types.{Ty, xor}
 use Rattle.rules.specs.AcyclicLaws.{children-at}
 use Rattle.rules.specs.Transfer.{cell-types}
-use Rattle.rules.specs.Solutions.{Term, con, nil, cons, Sol, rep}
-use Rattle.table.specs.Packing.{types-of, kind-at, id-at}
-use Rattle.table.specs.ChildRoots.{root-in}
+use Rattle.rules.specs.Answer.{word-of-type}
+use Rattle.rules.specs.Solutions.{rep}
+use Rattle.rules.specs.CommonSides.{xor-assoc}
+use Rattle.rules.specs.SignedTerms.{Signed, scon, snil, scons, SignedSol, turned, inverse, made, made-own, made-other, turned-made, turned-back, turned-twice}
+use Rattle.table.specs.Packing.{types-of, kind-at, id-at, inverted-at}
+use Rattle.table.specs.ChildTypes.{type-in, odd-sum}
 
--- The term of a ref, and of some refs.
-unfoldable pub means : Sol → ℕ → Term
-means m r = m (r % 512)
+-- Whether a number is odd: a type that is inverted.
+unfoldable pub odd : ℕ → Bool
+odd t = eqb (t % 2) 1
 
-unfoldable pub row : Sol → Words → Term
-row m [] = nil
-row m (r ∷ rs) = cons (means m r) (row m rs)
+-- The term of a type, and of some types.
+unfoldable pub means : Words → SignedSol → ℕ → Signed
+means s m t = turned s (odd t) (m (t / 2 % 512))
 
-pub means-low : (m : Sol) (r : ℕ) → r < 512 → means m r ≡ m r
+unfoldable pub row : Words → SignedSol → Words → Signed
+row s m [] = snil
+row s m (t ∷ ts) = scons (means s m t) (row s m ts)
+
+-- A type, inverted if b is odd.
+abbrev pub turn : ℕ → ℕ → ℕ
+turn b t = t / 2 * 2 + (t + b) % 2
+
+low-part : (q r : ℕ) → r < 512 → (512 * q + r) % 512 ≡ r
+low-part q r h = omega arith
+
+pub means-mod : (s : Words) (m : SignedSol) (t : ℕ) → means s m (t % 1024) ≡ means s m t
+unfolding means odd
+means-mod s m t =
+    let a : t % 1024 % 2 ≡ t % 2 = omega arith in
+    let c : t / 2 ≡ 512 * (t / 1024) + t % 1024 / 2 = omega arith in
+    let l : t % 1024 / 2 < 512 = omega arith in
+    let d : t % 1024 / 2 % 512 ≡ t % 1024 / 2 = omega arith in
+    let b : t % 1024 / 2 % 512 ≡ t / 2 % 512 = d ∙ sym (low-part (t / 1024) (t % 1024 / 2) l) ∙ ap (λ k. k % 512) (sym c) in
+    ap₂ (λ (i j : ℕ). turned s (eqb i 1) (m j)) a b
+
+pub means-turn : (s : Words) (m : SignedSol) (b t : ℕ) → means s m (turn b t) ≡ turned s (odd b) (means s m t)
+unfolding means odd
+means-turn s m b t =
+    let a : turn b t % 2 ≡ (b + t) % 2 = omega arith in
+    let c : turn b t / 2 ≡ t / 2 = omega arith in
+    ap₂ (λ (i j : ℕ). turned s (eqb i 1) (m (j % 512))) a c
+    ∙ ap (λ i. turned s i (m (t / 2 % 512))) (sym (odd-sum b t))
+    ∙ sym (turned-twice s (odd b) (odd t) (m (t / 2 % 512)))
+
+-- The ref of a type has the term of the type, turned back.
+pub means-ref : (s : Words) (m : SignedSol) (t : ℕ) → m (t / 2 % 512) ≡ turned s (odd t) (means s m t)
 unfolding means
-means-low m r h = ap m (let z : r % 512 ≡ r = omega arith in z)
+means-ref s m t = sym (turned-back s (odd t) (m (t / 2 % 512)))
 
-pub means-mod : (m : Sol) (r : ℕ) → means m (r % 512) ≡ means m r
-unfolding means
-means-mod m r = ap m (let z : r % 512 % 512 ≡ r % 512 = omega arith in z)
+-- A term of a side, a kind and an id.
+pub record Sort (s : Words) (t : Signed) (i : Bool) (k d : ℕ) : Type 0 where
+  pub over : Signed
+  pub is : t ≡ made s i k d over
 
--- A term of a kind and an id.
-pub record Sort (t : Term) (k d : ℕ) : Type 0 where
-  pub over : Term
-  pub is : t ≡ con k d over
+-- Two such terms that are the same: of one kind and id, of one side if that is not its own inverse, and over the same, turned by the difference of their sides.
+pub record Parts (s : Words) (i j : Bool) (k l d c : ℕ) (t u : Signed) : Type 0 where
+  pub kinds : k ≡ l
+  pub ids : d ≡ c
+  pub sides : kind-flag s row·own-inverse k d ≡ false → i ≡ j
+  pub below : t ≡ turned s (xor i j) u
 
--- The refs of a node's children, and of the types in the cells of a record.
-abbrev pub node-refs : Words → ℕ → Words
-node-refs ws n = map (λ (c : Ty). root-in ws (c .1)) (children-at (types-of ws) n)
+module _ (s : Words) where
+  record Shape (t : Signed) (k d : ℕ) : Type 0 where
+    side : Bool
+    over : Signed
+    is : t ≡ scon side k d over
 
-abbrev pub cell-refs : Words → ℕ → Words
-cell-refs s h = map (λ (c : Ty). 256 + c .1) (cell-types s h)
+  shape : (i : Bool) (k d : ℕ) (t : Signed) → Shape (made s i k d t) k d
+  shape i k d t = go (kind-flag s row·own-inverse k d) refl
+    where
+      go : (o : Bool) → kind-flag s row·own-inverse k d ≡ o → Shape (made s i k d t) k d
+      go true e = record { side = false; over = turned s i t; is = made-own s i k d t e }
+      go false e = record { side = i; over = t; is = made-other s i k d t e }
 
--- Known nodes of the question's table are of their kind and id, and known roots over what their children mean.
-pub record Nodes (ws : Words) (m : Sol) : Type 0 where
-  pub known : (n : ℕ) → n < 256 → kind-at (types-of ws) n ≢ 0 → Sort (m n) (kind-at (types-of ws) n) (id-at (types-of ws) n)
-  pub root : (n : ℕ) → n < 256 → kind-at (types-of ws) n ≢ 0 → rep (types-of ws) n ≡ n → m n ≡ con (kind-at (types-of ws) n) (id-at (types-of ws) n) (row m (node-refs ws n))
+  made-kinds : (i j : Bool) (k l d c : ℕ) (t u : Signed) → made s i k d t ≡ made s j l c u → k ≡ l
+  made-kinds i j k l d c t u e =
+      let a = shape i k d t in
+      let b = shape j l c u in
+      let z : scon (a .side) k d (a .over) ≡ scon (b .side) l c (b .over) = sym (a .is) ∙ e ∙ b .is in
+      cc
 
--- A Param of the signature's table, whose records stand at places ps, means its type parameter, and any other known node is over what its children mean.
-pub record Records (s ps : Words) (m : Sol) : Type 0 where
+  made-ids : (i j : Bool) (k l d c : ℕ) (t u : Signed) → made s i k d t ≡ made s j l c u → d ≡ c
+  made-ids i j k l d c t u e =
+      let a = shape i k d t in
+      let b = shape j l c u in
+      let z : scon (a .side) k d (a .over) ≡ scon (b .side) l c (b .over) = sym (a .is) ∙ e ∙ b .is in
+      cc
+
+  made-sides : (i j : Bool) (k d : ℕ) (t u : Signed) → made s i k d t ≡ made s j k d u → kind-flag s row·own-inverse k d ≡ false → i ≡ j
+  made-sides i j k d t u e o =
+      let z : scon i k d t ≡ scon j k d u = sym (made-other s i k d t o) ∙ e ∙ made-other s j k d u o in
+      cc
+
+  xor-same : (i : Bool) → xor i i ≡ false
+  xor-same true = refl
+  xor-same false = refl
+
+  made-below : (i j : Bool) (k d : ℕ) (t u : Signed) → made s i k d t ≡ made s j k d u → t ≡ turned s (xor i j) u
+  unfolding turned
+  made-below i j k d t u e = go (kind-flag s row·own-inverse k d) refl
+    where
+      go : (o : Bool) → kind-flag s row·own-inverse k d ≡ o → t ≡ turned s (xor i j) u
+      go true o =
+          let z : scon false k d (turned s i t) ≡ scon false k d (turned s j u) = sym (made-own s i k d t o) ∙ e ∙ made-own s j k d u o in
+          let y : turned s i t ≡ turned s j u = cc in
+          sym (turned-back s i t) ∙ ap (turned s i) y ∙ turned-twice s i j u
+      go false o =
+          let z : scon i k d t ≡ scon j k d u = sym (made-other s i k d t o) ∙ e ∙ made-other s j k d u o in
+          let y : t ≡ u = cc in
+          let x : i ≡ j = cc in
+          y ∙ ap (λ b. turned s b u) (sym (ap (λ b. xor b j) x ∙ xor-same j))
+
+  pub made-parts : (i j : Bool) (k l d c : ℕ) (t u : Signed) → made s i k d t ≡ made s j l c u → Parts s i j k l d c t u
+  made-parts i j k l d c t u e =
+      let a = made-kinds i j k l d c t u e in
+      let b = made-ids i j k l d c t u e in
+      let z : made s i k d t ≡ made s j k d u = e ∙ ap₂ (λ (x y : ℕ). made s j x y u) (sym a) (sym b) in
+      record { kinds = a; ids = b; sides = made-sides i j k d t u z; below = made-below i j k d t u z }
+
+  -- A type is of a sort as its ref is, turned.
+  pub type-sort : (m : SignedSol) (t : ℕ) (i : Bool) (k d : ℕ) (u : Signed) → m (t / 2 % 512) ≡ made s i k d u → means s m t ≡ made s (xor (odd t) i) k d u
+  unfolding means
+  type-sort m t i k d u e = ap (turned s (odd t)) e ∙ turned-made s (odd t) i k d u
+
+-- The types of a node's children, and in the cells of a record.
+abbrev pub node-types : Words → ℕ → Words
+node-types ws n = map (λ (c : Ty). word-of-type (type-in ws c)) (children-at (types-of ws) n)
+
+abbrev pub record-types : Words → ℕ → Words
+record-types s h = map (λ (c : Ty). 512 + word-of-type c % 512) (cell-types s h)
+
+-- Known nodes of the question's table are of their side, kind and id, and known roots over what their children mean.
+pub record Nodes (s ws : Words) (m : SignedSol) : Type 0 where
+  pub known : (n : ℕ) → n < 256 → kind-at (types-of ws) n ≢ 0 → Sort s (m n) (inverted-at (types-of ws) n) (kind-at (types-of ws) n) (id-at (types-of ws) n)
+  pub root : (n : ℕ) → n < 256 → kind-at (types-of ws) n ≢ 0 → rep (types-of ws) n ≡ n → m n ≡ made s (inverted-at (types-of ws) n) (kind-at (types-of ws) n) (id-at (types-of ws) n) (row s m (node-types ws n))
+
+-- Whether the node of the record at p is inverted.
+abbrev pub record-side : Words → ℕ → Bool
+record-side s p = eqb (at s (p + 2)) 1
+
+-- A Param of the signature's table, whose records stand at places ps, means its type parameter, inverted as it is, and any other known node is over what its children mean.
+pub record Records (s ps : Words) (m : SignedSol) : Type 0 where
   pub few : length ps ≤ 248
-  pub param : (k : ℕ) → k < length ps → at s (at ps k + 1) ≡ 1 → at s (at ps k + 3) < 8 → m (256 + k) ≡ m (504 + at s (at ps k + 3))
-  pub plain : (k : ℕ) → k < length ps → at s (at ps k + 1) ≢ 0 → at s (at ps k + 1) ≢ 1 → m (256 + k) ≡ con (at s (at ps k + 1)) (at s (at ps k + 3)) (row m (cell-refs s (at s (at ps k + 4))))
+  pub param : (k : ℕ) → k < length ps → at s (at ps k + 1) ≡ 1 → at s (at ps k + 3) < 8 → m (256 + k) ≡ turned s (record-side s (at ps k)) (m (504 + at s (at ps k + 3)))
+  pub plain : (k : ℕ) → k < length ps → at s (at ps k + 1) ≢ 0 → at s (at ps k + 1) ≢ 1 → m (256 + k) ≡ made s (record-side s (at ps k)) (at s (at ps k + 1)) (at s (at ps k + 3)) (row s m (record-types s (at s (at ps k + 4))))
 
-pub record Meaning (s ps ws : Words) (m : Sol) : Type 0 where
-  pub nodes : Nodes ws m
+pub record Meaning (s ps ws : Words) (m : SignedSol) : Type 0 where
+  pub nodes : Nodes s ws m
   pub records : Records s ps m

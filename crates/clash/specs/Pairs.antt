@@ -1,6 +1,6 @@
--- Pairs of refs met in turn: the children of two refs, the queue, and the arguments of two questions.
+-- Pairs of types met in turn: the children of two types, the queue, and the arguments of two questions.
 use Prim.Native.Nat.{ℕ, zero, suc, _+_, _/_, _%_, _≤_, _<_}
-use mathlib.Core.Path.{_≡_, refl, sym, _∙_, ap}
+use mathlib.Core.Path.{_≡_, refl, sym, _∙_, ap, subst}
 use mathlib.Core.Bool.{Bool, true, false}
 use mathlib.Core.List.{[], _∷_}
 use mathlib.Core.Logic.{_≢_}
@@ -10,111 +10,143 @@ use lib.ListN.{length, take, replicate}
 use lib.Seq.{getD-take, length-take-le}
 use Rattle.rules.specs.Lists.{Words}
 use Rattle.rules.specs.Sheet.{at}
-use Rattle.rules.specs.Solutions.{con, Sol, rep}
+use Rattle.rules.specs.SignedTerms.{Signed, SignedSol, snil, scons, turned, inverse}
+use Rattle.rules.specs.Types.{xor, find}
+use Rattle.rules.specs.Transfer.{type-of-word}
+use Rattle.rules.specs.Answer.{word-of-type}
 use Rattle.table.specs.declared.Row.{Row}
 use Rattle.table.specs.Packing.{types-of}
 use Rattle.queries.specs.declared.Query.{Query}
-use Rattle.clash.specs.Meaning.{means, means-mod, row, Meaning}
+use Rattle.clash.specs.Meaning.{odd, means, means-mod, means-turn, turn, row, Meaning, Parts, made-parts, type-sort}
+use Rattle.clash.specs.Refs.{KindOf, IdOf, Bit, type-side, side-of}
 use Rattle.clash.specs.Children.{Gathers}
 use Rattle.clash.specs.Links.{linked-none}
-use Rattle.clash.specs.Meeting.{Holds, Meets}
+use Rattle.clash.specs.Meeting.{Holds, Meets, apart, known-parts, kinds-same}
 
--- The first n of xs and ys mean the same one by one.
-pub record Pairs (m : Sol) (n : ℕ) (xs ys : Words) : Type 0 where
-  pub same : (j : ℕ) → j < n → means m (at xs j) ≡ means m (at ys j)
+-- The first n of xs and ys, turned by b, mean the same one by one.
+pub record Pairs (s : Words) (m : SignedSol) (n b : ℕ) (xs ys : Words) : Type 0 where
+  pub same : (j : ℕ) → j < n → means s m (at xs j) ≡ means s m (turn b (at ys j))
 
--- Rows that mean the same are of one length, and so in each place.
-row-length : (m : Sol) (xs ys : Words) → row m xs ≡ row m ys → length xs ≡ length ys
-unfolding row
-row-length m [] [] e = refl
-row-length m [] (y ∷ ys) e = let z : _≡_ {A = ℕ} 0 1 = cc in absurd (omega arith)
-row-length m (x ∷ xs) [] e = let z : _≡_ {A = ℕ} 0 1 = cc in absurd (omega arith)
-row-length m (x ∷ xs) (y ∷ ys) e = let z : row m xs ≡ row m ys = cc in ap suc (row-length m xs ys z)
+-- Rows of which one means what the other does, turned, are of one length, and so in each place.
+turned-nil : (s : Words) (b : Bool) → turned s b snil ≡ snil
+unfolding turned inverse
+turned-nil s true = refl
+turned-nil s false = refl
 
-row-same : (m : Sol) (xs ys : Words) → row m xs ≡ row m ys → (j : ℕ) → j < length xs → means m (at xs j) ≡ means m (at ys j)
-unfolding row
-row-same m [] ys e j h = absurd (not-suc-le-zero h)
-row-same m (x ∷ xs) [] e j h = let z : _≡_ {A = ℕ} 0 1 = cc in absurd (omega arith)
-row-same m (x ∷ xs) (y ∷ ys) e zero h = cc
-row-same m (x ∷ xs) (y ∷ ys) e (suc j) h = let z : row m xs ≡ row m ys = cc in row-same m xs ys z j (le-of-suc-le-suc h)
+turned-cons : (s : Words) (b : Bool) (t u : Signed) → turned s b (scons t u) ≡ scons (turned s b t) (turned s b u)
+unfolding turned inverse
+turned-cons s true t u = refl
+turned-cons s false t u = refl
+
+module _ (s : Words) (m : SignedSol) (b : Bool) where
+  row-length : (xs ys : Words) → row s m xs ≡ turned s b (row s m ys) → length xs ≡ length ys
+  unfolding row
+  row-length [] [] e = refl
+  row-length [] (y ∷ ys) e = let z : snil ≡ scons (turned s b (means s m y)) (turned s b (row s m ys)) = e ∙ turned-cons s b (means s m y) (row s m ys) in let z : _≡_ {A = ℕ} 0 1 = cc in absurd (omega arith)
+  row-length (x ∷ xs) [] e = let z : scons (means s m x) (row s m xs) ≡ snil = e ∙ turned-nil s b in let z : _≡_ {A = ℕ} 0 1 = cc in absurd (omega arith)
+  row-length (x ∷ xs) (y ∷ ys) e =
+      let q : scons (means s m x) (row s m xs) ≡ scons (turned s b (means s m y)) (turned s b (row s m ys)) = e ∙ turned-cons s b (means s m y) (row s m ys) in
+      let z : row s m xs ≡ turned s b (row s m ys) = cc in
+      ap suc (row-length xs ys z)
+
+  row-same : (xs ys : Words) → row s m xs ≡ turned s b (row s m ys) → (j : ℕ) → j < length xs → means s m (at xs j) ≡ turned s b (means s m (at ys j))
+  unfolding row
+  row-same [] ys e j h = absurd (not-suc-le-zero h)
+  row-same (x ∷ xs) [] e j h = let z : scons (means s m x) (row s m xs) ≡ snil = e ∙ turned-nil s b in let z : _≡_ {A = ℕ} 0 1 = cc in absurd (omega arith)
+  row-same (x ∷ xs) (y ∷ ys) e zero h =
+      let q : scons (means s m x) (row s m xs) ≡ scons (turned s b (means s m y)) (turned s b (row s m ys)) = e ∙ turned-cons s b (means s m y) (row s m ys) in
+      cc
+  row-same (x ∷ xs) (y ∷ ys) e (suc j) h =
+      let q : scons (means s m x) (row s m xs) ≡ scons (turned s b (means s m y)) (turned s b (row s m ys)) = e ∙ turned-cons s b (means s m y) (row s m ys) in
+      let z : row s m xs ≡ turned s b (row s m ys) = cc in
+      row-same xs ys z j (le-of-suc-le-suc h)
 
 -- The first n of xs and ys are met.
-pub record Goes (s ps ws ls qs : Words) (e n : ℕ) (xs ys ks rs : Words) (r : ℕ) : Type 0 where
-  pub at : (m : Sol) → Meaning s ps ws m → Holds m ls qs e → Pairs m n xs ys → Holds m ks rs r
+pub record Goes (s ps ws ls qs : Words) (e n b : ℕ) (xs ys ks rs : Words) (r : ℕ) : Type 0 where
+  pub at : (m : SignedSol) → Meaning s ps ws m → Holds s m ls qs e → Pairs s m n b xs ys → Holds s m ks rs r
 
-pub goes-start : (s ps ws ls qs : Words) (e n : ℕ) (xs ys : Words) → Goes s ps ws ls qs e n xs ys ls qs e
-goes-start s ps ws ls qs e n xs ys = record { at = λ m w h p. h }
+pub goes-start : (s ps ws ls qs : Words) (e n b : ℕ) (xs ys : Words) → Goes s ps ws ls qs e n b xs ys ls qs e
+goes-start s ps ws ls qs e n b xs ys = record { at = λ m w h p. h }
 
-pub goes-on : (s ps ws ls qs : Words) (e n : ℕ) (xs ys ks rs : Words) (r j : ℕ) (is ts : Words) (u : ℕ) → Goes s ps ws ls qs e n xs ys ks rs r → j < n → Meets s ps ws ks rs r (at xs j) (at ys j) is ts u → Goes s ps ws ls qs e n xs ys is ts u
-goes-on s ps ws ls qs e n xs ys ks rs r j is ts u g h t = record { at = λ m w l p. t .at m w (g .at m w l p) (p .same j h) }
+pub goes-on : (s ps ws ls qs : Words) (e n b : ℕ) (xs ys ks rs : Words) (r j x y : ℕ) (is ts : Words) (u : ℕ) → Goes s ps ws ls qs e n b xs ys ks rs r → j < n → x ≡ at xs j → y ≡ turn b (at ys j) → Meets s ps ws ks rs r x y is ts u → Goes s ps ws ls qs e n b xs ys is ts u
+goes-on s ps ws ls qs e n b xs ys ks rs r j x y is ts u g h ex ey t = record { at = λ m w l p. t .at m w (g .at m w l p) (ap (means s m) ex ∙ p .same j h ∙ ap (means s m) (sym ey)) }
 
 pub children-few : (s ps ws : Words) (x : ℕ) (o : Row) → Gathers s ps ws x o → o .n ≢ 9 → o .n ≤ 8
 children-few s ps ws x o a z = a .few z
 
--- The children of refs x and y that mean the same.
-module _ (s ps ws ls qs : Words) (e x y : ℕ) (o u : Row) (a : Gathers s ps ws x o) (b : Gathers s ps ws y u) (zo : o .n ≢ 9) (zu : u .n ≢ 9) where
-  rows : (m : Sol) → Meaning s ps ws m → means m x ≡ means m y → row m (take (o .n) (o .nodes)) ≡ row m (take (u .n) (u .nodes))
+-- The children of types x and y that mean the same.
+module _ (s ps ws ls qs : Words) (e x y : ℕ) (o u : Row) (a : Gathers s ps ws (x / 2) o) (b : Gathers s ps ws (y / 2) u) (zo : o .n ≢ 9) (zu : u .n ≢ 9) where
+  rows : (m : SignedSol) → Meaning s ps ws m → means s m x ≡ means s m y → row s m (take (o .n) (o .types)) ≡ turned s (apart s ps ws x y) (row s m (take (u .n) (u .types)))
   rows m w q =
       let c = a .are zo m w in
       let d = b .are zu m w in
-      let z : con (c .kind) (c .id) (row m (take (o .n) (o .nodes))) ≡ con (d .kind) (d .id) (row m (take (u .n) (u .nodes))) = sym (c .is) ∙ q ∙ d .is in
-      cc
+      (made-parts s (type-side s ps ws x) (type-side s ps ws y) (c .kind) (d .kind) (c .id) (d .id) (row s m (take (o .n) (o .types))) (row s m (take (u .n) (u .types)))
+      (sym (type-sort s m x (side-of s ps ws (x / 2)) (c .kind) (c .id) (row s m (take (o .n) (o .types))) (c .is)) ∙ q ∙ type-sort s m y (side-of s ps ws (y / 2)) (d .kind) (d .id) (row s m (take (u .n) (u .types))) (d .is))) .below
 
-  same-count : (m : Sol) → Meaning s ps ws m → means m x ≡ means m y → o .n ≡ u .n
-  same-count m w q = sym (length-take-le (o .n) (o .nodes) (a .long zo)) ∙ row-length m _ _ (rows m w q) ∙ length-take-le (u .n) (u .nodes) (b .long zu)
+  same-count : (m : SignedSol) → Meaning s ps ws m → means s m x ≡ means s m y → o .n ≡ u .n
+  same-count m w q = sym (length-take-le (o .n) (o .types) (a .long zo)) ∙ row-length s m (apart s ps ws x y) _ _ (rows m w q) ∙ length-take-le (u .n) (u .types) (b .long zu)
 
   pub children-clash : o .n ≢ u .n → Meets s ps ws ls qs e x y ls qs 1000
   children-clash n = record { at = λ m w h q. absurd (n (same-count m w q)) }
 
-  pub children-meet : (ks rs : Words) (r : ℕ) → Goes s ps ws ls qs e (o .n) (o .nodes) (u .nodes) ks rs r → Meets s ps ws ls qs e x y ks rs r
-  children-meet ks rs r g = record {
+  pub children-meet : (i : ℕ) (ks rs : Words) (r : ℕ) → Bit (apart s ps ws x y) i → Goes s ps ws ls qs e (o .n) i (o .types) (u .types) ks rs r → Meets s ps ws ls qs e x y ks rs r
+  children-meet i ks rs r t g = record {
     at = λ m w h q. g .at m w h (record {
       same = λ j l.
-          sym (ap (means m) (getD-take (o .n) (o .nodes) j 0 l))
-          ∙ row-same m _ _ (rows m w q) j (omega (arith, length-take-le (o .n) (o .nodes) (a .long zo)))
-          ∙ ap (means m) (getD-take (u .n) (u .nodes) j 0 (omega (arith, same-count m w q)));
+          sym (ap (means s m) (getD-take (o .n) (o .types) j 0 l))
+          ∙ row-same s m (apart s ps ws x y) _ _ (rows m w q) j (omega (arith, length-take-le (o .n) (o .types) (a .long zo)))
+          ∙ ap (λ v. turned s (apart s ps ws x y) (means s m v)) (getD-take (u .n) (u .types) j 0 (omega (arith, same-count m w q)))
+          ∙ ap (λ v. turned s v (means s m (at (u .types) j))) (sym (t .is))
+          ∙ sym (means-turn s m i (at (u .types) j));
     });
   }
 
 -- The queue is worked off.
 pub record Ran (s ps ws ls qs : Words) (e : ℕ) (ks rs : Words) (r : ℕ) : Type 0 where
-  pub at : (m : Sol) → Meaning s ps ws m → Holds m ls qs e → Holds m ks rs r
+  pub at : (m : SignedSol) → Meaning s ps ws m → Holds s m ls qs e → Holds s m ks rs r
 
 pub ran-start : (s ps ws ls qs : Words) (e : ℕ) → Ran s ps ws ls qs e ls qs e
 ran-start s ps ws ls qs e = record { at = λ m w h. h }
 
-pub ran-on : (s ps ws ls qs : Words) (e : ℕ) (ks rs : Words) (r k : ℕ) (is ts : Words) (u : ℕ) → Ran s ps ws ls qs e ks rs r → k < r → Meets s ps ws ks rs r (at rs k % 512) (at rs k / 512) is ts u → Ran s ps ws ls qs e is ts u
-ran-on s ps ws ls qs e ks rs r k is ts u g h t = record { at = λ m w l. t .at m w (g .at m w l) (means-mod m (at rs k) ∙ (g .at m w l) .queued k h) }
+pub ran-on : (s ps ws ls qs : Words) (e : ℕ) (ks rs : Words) (r k : ℕ) (is ts : Words) (u : ℕ) → Ran s ps ws ls qs e ks rs r → k < r → Meets s ps ws ks rs r (at rs k % 1024) (at rs k / 1024) is ts u → Ran s ps ws ls qs e is ts u
+ran-on s ps ws ls qs e ks rs r k is ts u g h t = record { at = λ m w l. t .at m w (g .at m w l) (means-mod s m (at rs k) ∙ (g .at m w l) .queued k h) }
 
 -- true: nothing gives such meanings.
 pub record Ends (s ps ws ls qs : Words) (e : ℕ) (b : Bool) : Type 0 where
-  pub clash : b ≡ true → (m : Sol) → Meaning s ps ws m → Holds m ls qs e → ⊥
+  pub clash : b ≡ true → (m : SignedSol) → Meaning s ps ws m → Holds s m ls qs e → ⊥
 
-pub ends-clash : (s ps ws ls qs : Words) (e : ℕ) (ks rs : Words) (r k : ℕ) (is ts : Words) (u : ℕ) → Ran s ps ws ls qs e ks rs r → k < r → Meets s ps ws ks rs r (at rs k % 512) (at rs k / 512) is ts u → u ≡ 1000 → Ends s ps ws ls qs e true
+pub ends-clash : (s ps ws ls qs : Words) (e : ℕ) (ks rs : Words) (r k : ℕ) (is ts : Words) (u : ℕ) → Ran s ps ws ls qs e ks rs r → k < r → Meets s ps ws ks rs r (at rs k % 1024) (at rs k / 1024) is ts u → u ≡ 1000 → Ends s ps ws ls qs e true
 ends-clash s ps ws ls qs e ks rs r k is ts u g h t q = record { clash = λ b m w l. ((ran-on s ps ws ls qs e ks rs r k is ts u g h t) .at m w l) .free q }
 
 pub ends-not : (s ps ws ls qs : Words) (e : ℕ) → Ends s ps ws ls qs e false
 ends-not s ps ws ls qs e = record { clash = λ b. let z : _≡_ {A = ℕ} 0 1 = cc in absurd (omega arith) }
 
--- The arguments of a signature, in its own table, and of the question mean the same.
-pub record Agree (m : Sol) (ws : Words) (p q : Query) : Type 0 where
-  pub same : (k : ℕ) → k < q .n → means m (256 + at (p .args) k / 2) ≡ means m (rep (types-of ws) (at (q .args) k / 2))
+-- The type of argument k of a signature, in its own table, and of the question.
+abbrev pub own-type : Query → ℕ → ℕ
+own-type p k = 512 + at (p .args) k % 512
+
+abbrev pub asked-type : Words → Query → ℕ → ℕ
+asked-type ws q k = word-of-type (find (types-of ws) (type-of-word (at (q .args) k)))
+
+-- The arguments of a signature and of the question mean the same.
+pub record Agree (s : Words) (m : SignedSol) (ws : Words) (p q : Query) : Type 0 where
+  pub same : (k : ℕ) → k < q .n → means s m (own-type p k) ≡ means s m (asked-type ws q k)
 
 pub record ArgsMet (s ps ws ls qs : Words) (p q : Query) (ks rs : Words) (r : ℕ) : Type 0 where
-  pub at : (m : Sol) → Meaning s ps ws m → Holds m ls qs 0 → Agree m ws p q → Holds m ks rs r
+  pub at : (m : SignedSol) → Meaning s ps ws m → Holds s m ls qs 0 → Agree s m ws p q → Holds s m ks rs r
 
 pub args-start : (s ps ws ls qs : Words) (p q : Query) → ArgsMet s ps ws ls qs p q ls qs 0
 args-start s ps ws ls qs p q = record { at = λ m w h a. h }
 
-pub args-on : (s ps ws ls qs : Words) (p q : Query) (ks rs : Words) (r k a b : ℕ) (is ts : Words) (u : ℕ) → ArgsMet s ps ws ls qs p q ks rs r → k < q .n → a ≡ 256 + at (p .args) k / 2 → b ≡ rep (types-of ws) (at (q .args) k / 2) → Meets s ps ws ks rs r a b is ts u → ArgsMet s ps ws ls qs p q is ts u
-args-on s ps ws ls qs p q ks rs r k a b is ts u g h ea eb t = record { at = λ m w l x. t .at m w (g .at m w l x) (ap (means m) ea ∙ x .same k h ∙ ap (means m) (sym eb)) }
+pub args-on : (s ps ws ls qs : Words) (p q : Query) (ks rs : Words) (r k a b : ℕ) (is ts : Words) (u : ℕ) → ArgsMet s ps ws ls qs p q ks rs r → k < q .n → a ≡ 512 + at (p .args) k % 512 → b ≡ asked-type ws q k → Meets s ps ws ks rs r a b is ts u → ArgsMet s ps ws ls qs p q is ts u
+args-on s ps ws ls qs p q ks rs r k a b is ts u g h ea eb t = record { at = λ m w l x. t .at m w (g .at m w l x) (ap (means s m) ea ∙ x .same k h ∙ ap (means s m) (sym eb)) }
 
 -- At the start there are no links and no pairs.
 pub record Clashing (s ps ws : Words) (p q : Query) (b : Bool) : Type 0 where
-  pub clash : b ≡ true → (m : Sol) → Meaning s ps ws m → Agree m ws p q → ⊥
+  pub clash : b ≡ true → (m : SignedSol) → Meaning s ps ws m → Agree s m ws p q → ⊥
 
-holds-none : (m : Sol) (ls qs : Words) → ((k : ℕ) → at ls k ≡ 0) → Holds m ls qs 0
-holds-none m ls qs z = record { linked = linked-none m ls z; queued = λ k h. absurd (not-suc-le-zero h); free = omega arith }
+holds-none : (s : Words) (m : SignedSol) (ls qs : Words) → ((k : ℕ) → at ls k ≡ 0) → Holds s m ls qs 0
+holds-none s m ls qs z = record { linked = linked-none s m ls z; queued = λ k h. absurd (not-suc-le-zero h); free = omega arith }
 
 blank : (n k : ℕ) → at (replicate n 0) k ≡ 0
 blank zero k = refl
@@ -122,7 +154,29 @@ blank (suc n) zero = refl
 blank (suc n) (suc k) = blank n k
 
 pub clashing-args : (s ps ws qs : Words) (n : ℕ) (p q : Query) (ks rs : Words) (r : ℕ) → ArgsMet s ps ws (replicate n 0) qs p q ks rs r → r ≡ 1000 → Clashing s ps ws p q true
-clashing-args s ps ws qs n p q ks rs r g e = record { clash = λ b m w a. (g .at m w (holds-none m (replicate n 0) qs (blank n)) a) .free e }
+clashing-args s ps ws qs n p q ks rs r g e = record { clash = λ b m w a. (g .at m w (holds-none s m (replicate n 0) qs (blank n)) a) .free e }
 
 pub clashing-run : (s ps ws qs : Words) (n : ℕ) (p q : Query) (ks rs : Words) (r : ℕ) (b : Bool) → ArgsMet s ps ws (replicate n 0) qs p q ks rs r → Ends s ps ws ks rs r b → Clashing s ps ws p q b
-clashing-run s ps ws qs n p q ks rs r b g e = record { clash = λ y m w a. e .clash y m w (g .at m w (holds-none m (replicate n 0) qs (blank n)) a) }
+clashing-run s ps ws qs n p q ks rs r b g e = record { clash = λ y m w a. e .clash y m w (g .at m w (holds-none s m (replicate n 0) qs (blank n)) a) }
+
+-- The roots of two arguments clash.
+pub record RootClash (s ps ws : Words) (a b : ℕ) (r : Bool) : Type 0 where
+  pub clash : r ≡ true → (m : SignedSol) → Meaning s ps ws m → means s m a ≡ means s m b → ⊥
+
+pub root-clash-not : (s ps ws : Words) (a b : ℕ) → RootClash s ps ws a b false
+root-clash-not s ps ws a b = record { clash = λ e. let z : _≡_ {A = ℕ} 0 1 = cc in absurd (omega arith) }
+
+pub root-kinds : (s ps ws : Words) (a b k j : ℕ) → KindOf s ps ws (a / 2) k → KindOf s ps ws (b / 2) j → k ≢ 0 → j ≢ 0 → k ≢ j → RootClash s ps ws a b true
+root-kinds s ps ws a b k j ek ej zk zj n = record { clash = λ e m w q. n (kinds-same s ps ws a b k j ek ej zk zj m w q) }
+
+pub root-ids : (s ps ws : Words) (a b k j c d : ℕ) → KindOf s ps ws (a / 2) k → KindOf s ps ws (b / 2) j → k ≢ 0 → j ≢ 0 → IdOf s ps ws (a / 2) c → IdOf s ps ws (b / 2) d → c ≢ d → RootClash s ps ws a b true
+root-ids s ps ws a b k j c d ek ej zk zj ec ed n = record { clash = λ e m w q. n ((known-parts s ps ws a b k j c d ek ej zk zj ec ed m w q) .ids) }
+
+pub clashing-root : (s ps ws : Words) (p q : Query) (k a b : ℕ) (r : Bool) → k < q .n → a ≡ 512 + at (p .args) k % 512 → b ≡ asked-type ws q k → RootClash s ps ws a b r → r ≡ true → Clashing s ps ws p q true
+clashing-root s ps ws p q k a b r h ea eb o e = record { clash = λ y m w x. o .clash e m w (ap (means s m) ea ∙ x .same k h ∙ ap (means s m) (sym eb)) }
+
+pub clashing-not : (s ps ws : Words) (p q : Query) → Clashing s ps ws p q false
+clashing-not s ps ws p q = record { clash = λ e. let z : _≡_ {A = ℕ} 0 1 = cc in absurd (omega arith) }
+
+pub clashing-found : (s ps ws : Words) (p q : Query) (r : Bool) → Clashing s ps ws p q r → r ≡ true → Clashing s ps ws p q true
+clashing-found s ps ws p q r o e = subst (Clashing s ps ws p q) e o

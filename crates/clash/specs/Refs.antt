@@ -1,16 +1,21 @@
--- What is read of a ref: the place of its record, its kind and its id, and the type parameter that it is.
-use Prim.Native.Nat.{ℕ, _+_, _-_, _≤_, _<_}
-use mathlib.Core.Path.{_≡_, refl, sym, _∙_, ap}
+-- What is read of a ref: the place of its record, its kind, its id and its side, and the type parameter that it is.
+use Prim.Native.Nat.{ℕ, _+_, _-_, _*_, _/_, _%_, _≤_, _<_}
+use mathlib.Core.Path.{_≡_, refl, sym, _∙_, ap, ap₂}
+use mathlib.Core.Bool.{Bool, true, false}
 use mathlib.Core.Logic.{_≢_, ⊎-elim}
 use native.Mathlib.Omega.{arith}
+use lib.Dec.{eqb, ltb}
 use lib.ListN.{length}
+use borrow.Author.Tests.{eq-eqb, ne-eqb, eqb-true, lt-ltb, le-ltb}
 use Rattle.rules.specs.Lists.{Words}
-use Rattle.rules.specs.Sheet.{at}
+use Rattle.rules.specs.Sheet.{at, kind-flag, row·own-inverse}
+use Rattle.rules.specs.Types.{xor}
 use Rattle.rules.specs.WordLaws.{word-past}
 use Rattle.rules.specs.Pigeonholes.{lt-or}
-use Rattle.rules.specs.Solutions.{con, Sol}
-use Rattle.table.specs.Packing.{types-of, kind-at, id-at}
-use Rattle.clash.specs.Meaning.{means, means-low, Sort, Records, Meaning, row, cell-refs}
+use Rattle.rules.specs.SignedTerms.{SignedSol, made, turned, turned-twice}
+use Rattle.table.specs.Packing.{types-of, kind-at, id-at, inverted-at}
+use Rattle.table.specs.ChildTypes.{odd-sum}
+use Rattle.clash.specs.Meaning.{odd, means, means-turn, turn, Sort, type-sort, Records, Meaning, row, record-side, record-types}
 
 -- A place that is not 0 is that of a record.
 pub place-in : (ps : Words) (k p : ℕ) → p ≡ at ps k → p ≢ 0 → k < length ps
@@ -51,28 +56,6 @@ id-node s ps ws r d h e = record { node = λ l. e; is = λ l. absurd (omega arit
 pub id-record : (s ps ws : Words) (r p d : ℕ) → 256 ≤ r → p ≡ at ps (r - 256) → d ≡ at s (p + 3) → IdOf s ps ws r d
 id-record s ps ws r p d h e q = record { node = λ l. absurd (omega arith); is = λ l. q ∙ ap (λ j. at s (j + 3)) e }
 
--- A record's ref means what its node does.
-pub record-means : (ps : Words) (m : Sol) (r : ℕ) → length ps ≤ 248 → 256 ≤ r → r - 256 < length ps → means m r ≡ m (256 + (r - 256))
-record-means ps m r l h i = means-low m r (omega arith) ∙ ap m (let z : r ≡ 256 + (r - 256) = omega arith in z)
-
--- What has a kind is of that kind, and of its id.
-pub sort-of : (s ps ws : Words) (m : Sol) (r k d : ℕ) → Meaning s ps ws m → KindOf s ps ws r k → IdOf s ps ws r d → k ≢ 0 → Sort (means m r) k d
-sort-of s ps ws m r k d w e q z = ⊎-elim low high (lt-or r 256)
-  where
-    low : r < 256 → Sort (means m r) k d
-    low h =
-        let o = w .nodes .known r h (λ y. z (e .node h ∙ y)) in
-        record { over = o .over; is = means-low m r (omega arith) ∙ o .is ∙ (λ t. con (sym (e .node h) t) (sym (q .node h) t) (o .over)) }
-
-    high : 256 ≤ r → Sort (means m r) k d
-    high h = record {
-      over = row m (cell-refs s (at s (at ps (r - 256) + 4)));
-      is =
-          record-means ps m r (w .records .few) h (e .inside h z)
-          ∙ w .records .plain (r - 256) (e .inside h z) (λ y. z (sym (e .is h z) ∙ y)) (λ y. e .plain h (sym (e .is h z) ∙ y))
-          ∙ (λ t. con (e .is h z t) (sym (q .is h) t) (row m (cell-refs s (at s (at ps (r - 256) + 4)))));
-    }
-
 -- Its kind alone.
 pub id-any : (s ps ws : Words) (r : ℕ) → (d : ℕ) × IdOf s ps ws r d
 id-any s ps ws r = ⊎-elim
@@ -80,22 +63,142 @@ id-any s ps ws r = ⊎-elim
     (λ h. (at s (at ps (r - 256) + 3), record { node = λ l. absurd (omega arith); is = λ l. refl }))
     (lt-or r 256)
 
--- Two refs of which a Param of the signature is one, and its type parameter the other; or the same.
+-- The side of what a ref is.
+unfoldable pub side-of : Words → Words → Words → ℕ → Bool
+side-of s ps ws r = elim (ltb r 256) [ true ↦ inverted-at (types-of ws) r | false ↦ record-side s (at ps (r - 256)) ]
+
+pub side-node : (s ps ws : Words) (r : ℕ) → r < 256 → side-of s ps ws r ≡ inverted-at (types-of ws) r
+unfolding side-of
+side-node s ps ws r h = rw (lt-ltb r 256 h, side-of)
+
+pub side-record : (s ps ws : Words) (r : ℕ) → 256 ≤ r → side-of s ps ws r ≡ record-side s (at ps (r - 256))
+unfolding side-of
+side-record s ps ws r h = rw (le-ltb r 256 h, side-of)
+
+-- 1 for true and 0 for false.
+pub record Bit (b : Bool) (r : ℕ) : Type 0 where
+  pub small : r < 2
+  pub is : odd r ≡ b
+
+pub bit-yes : (b : Bool) → b ≡ true → Bit b 1
+unfolding odd
+bit-yes b e = record { small = omega arith; is = sym e }
+
+pub bit-no : (b : Bool) → b ≡ false → Bit b 0
+unfolding odd
+bit-no b e = record { small = omega arith; is = sym e }
+
+pub record-inverted : (s : Words) (p w : ℕ) → w ≡ at s (p + 2) → w ≡ 1 → Bit (record-side s p) 1
+record-inverted s p w e q = bit-yes (record-side s p) (eq-eqb (at s (p + 2)) 1 (sym e ∙ q))
+
+pub record-upright : (s : Words) (p w : ℕ) → w ≡ at s (p + 2) → w ≢ 1 → Bit (record-side s p) 0
+record-upright s p w e q = bit-no (record-side s p) (ne-eqb (at s (p + 2)) 1 (λ z. q (e ∙ z)))
+
+pub node-inverted : (s ps ws : Words) (r : ℕ) (b : Bool) → r < 256 → b ≡ inverted-at (types-of ws) r → b ≡ true → Bit (side-of s ps ws r) 1
+node-inverted s ps ws r b h e q = bit-yes (side-of s ps ws r) (side-node s ps ws r h ∙ sym e ∙ q)
+
+pub node-upright : (s ps ws : Words) (r : ℕ) (b : Bool) → r < 256 → b ≡ inverted-at (types-of ws) r → b ≡ false → Bit (side-of s ps ws r) 0
+node-upright s ps ws r b h e q = bit-no (side-of s ps ws r) (side-node s ps ws r h ∙ sym e ∙ q)
+
+pub side-place : (s ps ws : Words) (r p b : ℕ) → 256 ≤ r → p ≡ at ps (r - 256) → Bit (record-side s p) b → Bit (side-of s ps ws r) b
+side-place s ps ws r p b h e o = record { small = o .small; is = o .is ∙ ap (record-side s) e ∙ sym (side-record s ps ws r h) }
+
+-- The side of what a type is.
+abbrev pub type-side : Words → Words → Words → ℕ → Bool
+type-side s ps ws t = xor (odd t) (side-of s ps ws (t / 2))
+
+odd-rest : (t : ℕ) → odd (t % 2) ≡ odd t
+unfolding odd
+odd-rest t = ap (λ k. eqb k 1) (let z : t % 2 % 2 ≡ t % 2 = omega arith in z)
+
+pub bit-sum : (a b : Bool) (x y : ℕ) → Bit a x → Bit b y → Bit (xor a b) ((x + y) % 2)
+unfolding odd
+bit-sum a b x y p q = record { small = omega arith; is = ap (λ k. eqb k 1) (let z : (x + y) % 2 % 2 ≡ (x + y) % 2 = omega arith in z) ∙ sym (odd-sum x y) ∙ ap₂ xor (p .is) (q .is) }
+
+pub bit-type : (s ps ws : Words) (t b : ℕ) → Bit (side-of s ps ws (t / 2)) b → Bit (type-side s ps ws t) ((t % 2 + b) % 2)
+bit-type s ps ws t b o = bit-sum (odd t) (side-of s ps ws (t / 2)) (t % 2) b (record { small = omega arith; is = odd-rest t }) o
+
+pub bits-apart : (a b : Bool) (r : ℕ) → Bit (xor a b) r → r ≡ 1 → a ≡ b → ⊥
+unfolding odd
+bits-apart a b r o e q = never (sym (xor-same b) ∙ ap (λ x. xor x b) (sym q) ∙ sym (o .is) ∙ ap odd e)
+  where
+    xor-same : (i : Bool) → xor i i ≡ false
+    xor-same true = refl
+    xor-same false = refl
+
+    never : false ≡ true → ⊥
+    never z = let y : _≡_ {A = ℕ} 0 1 = cc in omega arith
+
+-- true: a kind and id that is not its own inverse.
+pub record Sided (s : Words) (k d : ℕ) (r : Bool) : Type 0 where
+  pub is : r ≡ true → kind-flag s row·own-inverse k d ≡ false
+
+pub sided-not : (s : Words) (k d : ℕ) → Sided s k d false
+sided-not s k d = record { is = λ e. let z : _≡_ {A = ℕ} 0 1 = cc in absurd (omega arith) }
+
+pub sided-flag : (s : Words) (k d i j : ℕ) (b : Bool) → i ≡ k → j ≡ d → b ≡ kind-flag s 2 i j → b ≡ false → Sided s k d true
+sided-flag s k d i j b ei ej e q = record { is = λ z. sym (sym q ∙ e ∙ ap₂ (kind-flag s 2) ei ej) }
+
+-- What has a kind is of that kind, and of its id and side.
+pub ref-low : (m : SignedSol) (r : ℕ) → r < 512 → m (r % 512) ≡ m r
+ref-low m r h = ap m (let z : r % 512 ≡ r = omega arith in z)
+
+pub ref-record : (ps : Words) (m : SignedSol) (r : ℕ) → length ps ≤ 248 → 256 ≤ r → r - 256 < length ps → m (r % 512) ≡ m (256 + (r - 256))
+ref-record ps m r l h i = ap m (let z : r % 512 ≡ 256 + (r - 256) = omega arith in z)
+
+sort-of : (s ps ws : Words) (m : SignedSol) (r k d : ℕ) → Meaning s ps ws m → KindOf s ps ws r k → IdOf s ps ws r d → k ≢ 0 → Sort s (m (r % 512)) (side-of s ps ws r) k d
+sort-of s ps ws m r k d w e q z = ⊎-elim low high (lt-or r 256)
+  where
+    low : r < 256 → Sort s (m (r % 512)) (side-of s ps ws r) k d
+    low h =
+        let o = w .nodes .known r h (λ y. z (e .node h ∙ y)) in
+        record { over = o .over; is = ref-low m r (omega arith) ∙ o .is ∙ (λ t. made s (sym (side-node s ps ws r h) t) (sym (e .node h) t) (sym (q .node h) t) (o .over)) }
+
+    high : 256 ≤ r → Sort s (m (r % 512)) (side-of s ps ws r) k d
+    high h = record {
+      over = row s m (record-types s (at s (at ps (r - 256) + 4)));
+      is =
+          ref-record ps m r (w .records .few) h (e .inside h z)
+          ∙ w .records .plain (r - 256) (e .inside h z) (λ y. z (sym (e .is h z) ∙ y)) (λ y. e .plain h (sym (e .is h z) ∙ y))
+          ∙ (λ t. made s (sym (side-record s ps ws r h) t) (e .is h z t) (sym (q .is h) t) (row s m (record-types s (at s (at ps (r - 256) + 4)))));
+    }
+
+pub sort-type : (s ps ws : Words) (m : SignedSol) (t k d : ℕ) → Meaning s ps ws m → KindOf s ps ws (t / 2) k → IdOf s ps ws (t / 2) d → k ≢ 0 → Sort s (means s m t) (type-side s ps ws t) k d
+sort-type s ps ws m t k d w e q z = let o = sort-of s ps ws m (t / 2) k d w e q z in record { over = o .over; is = type-sort s m t (side-of s ps ws (t / 2)) k d (o .over) (o .is) }
+
+-- Two types of which a Param of the signature is one, and its type parameter the other; or the same.
 pub record Alike (s ps : Words) (x r : ℕ) : Type 0 where
-  pub at : (m : Sol) → Records s ps m → means m x ≡ means m r
+  pub at : (m : SignedSol) → Records s ps m → means s m x ≡ means s m r
 
 pub alike-same : (s ps : Words) (x : ℕ) → Alike s ps x x
 alike-same s ps x = record { at = λ m w. refl }
 
-pub alike-param : (s ps : Words) (x p k d : ℕ) → 256 ≤ x → p ≡ at ps (x - 256) → p ≢ 0 → k ≡ at s (p + 1) → k ≡ 1 → d ≡ at s (p + 3) → d < 8 → Alike s ps x (504 + d)
-alike-param s ps x p k d h e z ek q ed l = record { at = λ m w. one m w }
+odd-low : (n b : ℕ) → odd b ≡ odd (2 * n + b)
+unfolding odd
+odd-low n b = ap (λ k. eqb k 1) (let z : b % 2 ≡ (2 * n + b) % 2 = omega arith in z)
+
+pub alike-param : (s ps : Words) (x p k d b r : ℕ) → 256 ≤ x / 2 → p ≡ at ps (x / 2 - 256) → p ≢ 0 → k ≡ at s (p + 1) → k ≡ 1 → d ≡ at s (p + 3) → d < 8 → Bit (record-side s p) b → r ≡ turn x (2 * (504 + d) + b) → Alike s ps x r
+unfolding means
+alike-param s ps x p k d b r h e z ek q ed l o er = record { at = λ m w. one m w }
   where
-    id : at s (at ps (x - 256) + 3) ≡ d
+    id : at s (at ps (x / 2 - 256) + 3) ≡ d
     id = sym (ed ∙ ap (λ j. at s (j + 3)) e)
 
-    one : (m : Sol) → Records s ps m → means m x ≡ means m (504 + d)
+    inside : x / 2 - 256 < length ps
+    inside = place-in ps (x / 2 - 256) p e z
+
+    param : (m : SignedSol) → turned s (record-side s p) (m (504 + d)) ≡ means s m (2 * (504 + d) + b)
+    param m =
+        let c : (2 * (504 + d) + b) / 2 ≡ 504 + d = omega (arith, o .small) in
+        let a : 504 + d ≡ (2 * (504 + d) + b) / 2 % 512 = omega (arith, c) in
+        (λ t. turned s (sym (o .is) t) (m (a t))) ∙ ap (λ i. turned s i (m ((2 * (504 + d) + b) / 2 % 512))) (odd-low (504 + d) b)
+
+    one : (m : SignedSol) → Records s ps m → means s m x ≡ means s m r
     one m w =
-        record-means ps m x (w .few) h (place-in ps (x - 256) p e z)
-        ∙ w .param (x - 256) (place-in ps (x - 256) p e z) (sym (ek ∙ ap (λ j. at s (j + 1)) e) ∙ q) (omega (arith, id))
-        ∙ ap (λ j. m (504 + j)) id
-        ∙ sym (means-low m (504 + d) (omega arith))
+        ap (turned s (odd x))
+        (ref-record ps m (x / 2) (w .few) h inside
+        ∙ w .param (x / 2 - 256) inside (sym (ek ∙ ap (λ j. at s (j + 1)) e) ∙ q) (omega (arith, id))
+        ∙ (λ t. turned s (record-side s (sym e t)) (m (504 + id t)))
+        ∙ param m)
+        ∙ sym (means-turn s m x (2 * (504 + d) + b))
+        ∙ ap (means s m) (sym er)

@@ -19,7 +19,8 @@ use Rattle.rules.specs.Solutions.{AllIn, WellFormed}
 use Rattle.rules.specs.CheckedTables.{table-length}
 use Rattle.rules.specs.Neat.{Neat}
 use Rattle.rules.specs.SearchKeeps.{signed, met}
-use Rattle.rules.specs.CommonTerms.{Common, candidate-common, signed-most, fresh-most}
+use Rattle.rules.specs.CommonTerms.{signed-most, fresh-most}
+use Rattle.rules.specs.SignedTerms.{SignedCommon, candidate-signed}
 use Rattle.table.specs.Packing.{types-of}
 use Rattle.chart.specs.Fields.{field-found}
 use Rattle.chart.specs.Index.{Indexed}
@@ -109,17 +110,17 @@ module _ (s : Words) (sound : Sound s) (i : ℕ) (h : i < many s header·impls) 
           unfolding impl-signature impl-table
           room = omega (arith, signed-most (finder s sound) (sound .question) (sound .ready) (types-of ts) i h, fresh-most (finder s sound) (sound .question) (sound .ready) i h, table-length s head, x .count, ap (λ j. length (table s j)) found)
 
-          common : (a : Query) → query-of a ≡ (at s (p + 3), cell-types s (at s (p + 5))) → (met s (types-of ts) (query-of q) i) .0 ≡ success → Common (types-of ts) (table s head) ((query-of a) .1) ((query-of q) .1)
+          common : (a : Query) → query-of a ≡ (at s (p + 3), cell-types s (at s (p + 5))) → (met s (types-of ts) (query-of q) i) .0 ≡ success → SignedCommon s (types-of ts) (table s head) ((query-of a) .1) ((query-of q) .1)
           unfolding impl-signature impl-table impl-args
           common a ea won =
-              subst (λ (src : Types). Common (types-of ts) src ((query-of a) .1) ((query-of q) .1)) (ap (table s) (sym found))
-              (subst (λ (xs : List Ty). Common (types-of ts) (table s (field s header·impls i impl·table)) xs ((query-of q) .1)) (ap (cell-types s) (sym (o .word 5)) ∙ sym (ap (λ (y : ImplType). y .1) ea))
-              (candidate-common (finder s sound) (sound .question) (sound .ready) (types-of ts) (query-of q) neat inside i h won))
+              subst (λ (src : Types). SignedCommon s (types-of ts) src ((query-of a) .1) ((query-of q) .1)) (ap (table s) (sym found))
+              (subst (λ (xs : List Ty). SignedCommon s (types-of ts) (table s (field s header·impls i impl·table)) xs ((query-of q) .1)) (ap (cell-types s) (sym (o .word 5)) ∙ sym (ap (λ (y : ImplType). y .1) ea))
+              (candidate-signed (finder s sound) (sound .question) (sound .ready) (types-of ts) (query-of q) neat inside i h won))
 
           never-met : (a : Query) → query-of a ≡ (at s (p + 3), cell-types s (at s (p + 5))) → a .n ≡ q .n → Clashing s (take n us) ts a q true → (met s (types-of ts) (query-of q) i) .0 ≢ success
           never-met a ea en k = λ won.
               let c = common a ea won in
-              (subst (λ (ps : Words). Clashing s ps ts a q true) places k) .clash refl (reading ts (c .σ) (c .π) (c .τ))
+              (subst (λ (ps : Words). Clashing s ps ts a q true) places k) .clash refl (reading s ts (c .σ) (c .π) (c .τ))
               (meaning s ts head short formed (neat .proper .formed) (c .σ) (c .π) (c .τ) (c .solves) (c .reads))
               (agree s ts head short formed (neat .proper .formed) (c .σ) (c .π) (c .τ) (c .solves) (c .reads) a q en most
               (signature-inside s sound i h head found (at s (p + 3)) (at s (p + 5)) a (o .word 3) (o .word 5) ea) inside (c .same))

@@ -1,9 +1,10 @@
 // Whether a candidate's signature and the question cannot unify: a test made before the candidate is opened. It goes by classes of types that have to be the same, joined without an occurs check,
-// and finds a clash: two types of one class that differ in kind, id or number of children. Where it finds none nothing is said.
-// Types are refs, numbers read modulo 512: up to 255 roots of the question's table, from 256 on nodes of the signature's table by their records, from 504 on type parameters.
-// `links` has for each ref 0, or 1 and a ref of the same class; `queue` has pairs of one class whose children are to be met.
+// and finds a clash: two types of one class that differ in kind, id or number of children, or in side where the kind is not its own inverse, so that a type is met inverted that may not be. Where it finds none nothing is said.
+// A type is twice a ref, and one more if it is inverted. Refs are read modulo 512: up to 255 roots of the question's table, from 256 on nodes of the signature's table by their records, from 504 on type parameters.
+// `links` has for each ref 0, or 1 and the type that the ref is, of the same class; `queue` has pairs of types that are the same and whose children are to be met.
 ghost use mathlib.Core.Path.{_≡_};
-ghost use Prim.Native.Nat.{_+_, _-_, _*_, _/_, _<_, _≤_};
+ghost use Prim.Native.Nat.{_+_, _-_, _*_, _/_, _%_, _<_, _≤_};
+ghost use mathlib.Core.Logic.{_≢_};
 ghost use lib.ListN.{length};
 ghost use Rattle.rules.specs.Sheet.{at, many};
 ghost use Rattle.rules.specs.Layout.{header·impls};
@@ -13,12 +14,14 @@ ghost use Rattle.rules.specs.Neat.{Neat};
 ghost use Rattle.table.specs.Packing.{types-of, Packed};
 ghost use Rattle.queries.specs.Queries.{query-of};
 ghost use Rattle.opening.specs.Sound.{Sound};
-ghost use Rattle.clash.specs.Refs.{KindOf, IdOf, Alike};
+ghost use Rattle.clash.specs.Refs.{KindOf, IdOf, side-of, type-side, Bit, Sided, Alike};
+ghost use Rattle.clash.specs.Meaning.{turn as turn-of, record-side};
 ghost use Rattle.clash.specs.Links.{Finds, Links, Settles};
-ghost use Rattle.clash.specs.Meeting.{Puts, Meets};
+ghost use Rattle.clash.specs.Meeting.{Puts, Meets, apart as apart-of};
 ghost use Rattle.clash.specs.Children.{Cells, Gathers};
-ghost use Rattle.clash.specs.Pairs.{Goes, Ends, ArgsMet, Clashing};
+ghost use Rattle.clash.specs.Pairs.{Goes, Ends, ArgsMet, RootClash, Clashing};
 ghost use Rattle.clash.specs.Signatures.{Against, Room, ImplAt, Clashes};
+use chart::kinds;
 use chart::layout;
 use queries::Query;
 use table::Row;
@@ -33,6 +36,15 @@ const REFS: usize = 512;
 const CLASH: usize = 1000;
 
 const PARAM: u32 = 1;
+
+const STRUCT: u32 = 4;
+
+const UNION: u32 = 6;
+
+// Up to as many words of a sheet and nodes of the question's table nothing more is tested than the roots of the arguments.
+const SMALL_SHEET: usize = 320;
+
+const SMALL_TABLE: u32 = 64;
 
 // A row that is not told.
 const UNTOLD: usize = 9;
@@ -77,14 +89,63 @@ fn id(sheet: &[u32], places: &[u32], ws: &[u32], r: u32) -> u32
     words::offset(sheet, p, layout::NODE_ID)
 }
 
-// The type parameter of a Param of the signature; any other ref itself.
+// Whether the node of the record at p is inverted: 1 or 0.
+fn record_inverted(sheet: &[u32], p: usize) -> u32
+    ensures { λ r. ⌜ Bit (record-side (now (sheet .entry)) p) r ⌝ }
+{
+    let w = words::offset(sheet, p, layout::NODE_INVERTED);
+    if w == 1 {
+        return 1;
+    }
+    0
+}
+
+// The side of a ref: 1 or 0.
+fn inverted(sheet: &[u32], places: &[u32], ws: &[u32], r: u32) -> u32
+    ensures { λ b. ⌜ Bit (side-of (now (sheet .entry)) (now (places .entry)) (now (ws .entry)) r) b ⌝ }
+{
+    if r < RECORDS {
+        if table::inverted_of(ws, r) {
+            return 1;
+        }
+        return 0;
+    }
+    let p = place_of(places, r);
+    record_inverted(sheet, p)
+}
+
+// The side of a type: 1 or 0.
+fn side(sheet: &[u32], places: &[u32], ws: &[u32], t: u32) -> u32
+    ensures { λ b. ⌜ Bit (type-side (now (sheet .entry)) (now (places .entry)) (now (ws .entry)) t) b ⌝ }
+{
+    let b = inverted(sheet, places, ws, t / 2);
+    (t % 2 + b) % 2
+}
+
+// Whether two types differ in side: 1 or 0.
+fn apart(sheet: &[u32], places: &[u32], ws: &[u32], x: u32, y: u32) -> u32
+    ensures { λ b. ⌜ Bit (apart-of (now (sheet .entry)) (now (places .entry)) (now (ws .entry)) x y) b ⌝ }
+{
+    let a = side(sheet, places, ws, x);
+    let b = side(sheet, places, ws, y);
+    (a + b) % 2
+}
+
+// A type, inverted if b is odd.
+fn turn(b: u32, t: u32) -> u32
+    ensures { λ r. ⌜ r ≡ turn-of b t ⌝ }
+{
+    t / 2 * 2 + (t % 2 + b % 2) % 2
+}
+
+// The type parameter that a Param of the signature is; any other type itself.
 fn parameter(sheet: &[u32], places: &[u32], x: u32) -> u32
     ensures { λ r. ⌜ Alike (now (sheet .entry)) (now (places .entry)) x r ⌝ }
 {
-    if x < RECORDS {
+    if x / 2 < RECORDS {
         return x;
     }
-    let p = place_of(places, x);
+    let p = place_of(places, x / 2);
     if p == 0 {
         return x;
     }
@@ -94,16 +155,17 @@ fn parameter(sheet: &[u32], places: &[u32], x: u32) -> u32
     }
     let d = words::offset(sheet, p, layout::NODE_ID);
     if d < 8 {
-        return PARAMS + d;
+        let b = record_inverted(sheet, p);
+        return turn(x, 2 * (PARAMS + d) + b);
     }
     x
 }
 
-// The ref of a type of the signature.
-fn record_ref(t: u32) -> u32
-    ensures { λ r. ⌜ r ≡ 256 + t / 2 ⌝ }
+// A type of the signature.
+fn own_type(t: u32) -> u32
+    ensures { λ r. ⌜ r ≡ 512 + t % 512 ⌝ }
 {
-    RECORDS + t / 2
+    2 * RECORDS + t % 512
 }
 
 // A row that is not told.
@@ -112,18 +174,18 @@ fn untold() -> Row
 {
     Row {
         n: UNTOLD,
-        nodes: [0u32; 8],
+        types: [0u32; 8],
     }
 }
 
-// The types in the cells of the chain from a head, as refs; not told where there are more than eight.
+// The types in the cells of the chain from a head; not told where there are more than eight.
 fn cells(sheet: &[u32], head: usize) -> Row
     ensures { λ o. ⌜ Cells (now (sheet .entry)) head o ⌝ }
 {
     if sheet.len() < 8 {
         return untold();
     }
-    let mut nodes = [0u32; 8];
+    let mut types = [0u32; 8];
     let mut c = head;
     let mut j: usize = 0;
     while c != 0 {
@@ -131,11 +193,11 @@ fn cells(sheet: &[u32], head: usize) -> Row
             return untold();
         }
         let t = words::offset(sheet, c, layout::CELL_TYPE);
-        nodes[j] = record_ref(t);
+        types[j] = own_type(t);
         c = words::next(sheet, c);
         j += 1;
     }
-    Row { n: j, nodes }
+    Row { n: j, types }
 }
 
 // The children of a ref.
@@ -147,46 +209,56 @@ fn children(sheet: &[u32], places: &[u32], ws: &[u32], r: u32) -> Row
         return untold();
     }
     if r < RECORDS {
-        return table::child_roots(ws, r);
+        return table::child_types(ws, r);
     }
     let p = place_of(places, r);
     let head = words::offset(sheet, p, layout::NODE_CHILDREN);
     cells(sheet, words::wide(head))
 }
 
-// The last of at most 16 links from a ref.
-fn find_far(links: &[u32; 512], r: u32) -> u32
-    ensures { λ x. ⌜ Finds (now (links .entry)) r x ⌝ }
+// The last of at most 16 links from a type.
+fn find_far(links: &[u32; 512], t: u32) -> u32
+    ensures { λ x. ⌜ Finds (now (links .entry)) t x ⌝ }
 {
-    let mut x = r;
+    let mut x = t;
     let mut left: usize = 16;
     while left > 0 {
-        let up = links[words::wide(x % 512)];
+        let up = links[words::wide(x / 2 % 512)];
         if up == 0 {
             return x;
         }
-        x = up - 1;
+        x = turn(x % 2, up - 1);
         left -= 1;
     }
     x
 }
 
-// The root of a ref, or a ref near it.
-fn find(links: &[u32; 512], r: u32) -> u32
-    ensures { λ x. ⌜ Finds (now (links .entry)) r x ⌝ }
+// The type of a root that a type is, or of a ref near it.
+fn find(links: &[u32; 512], t: u32) -> u32
+    ensures { λ x. ⌜ Finds (now (links .entry)) t x ⌝ }
 {
-    let up = links[words::wide(r % 512)];
+    let up = links[words::wide(t / 2 % 512)];
     if up == 0 {
-        return r;
+        return t;
     }
-    find_far(links, up - 1)
+    find_far(links, turn(t % 2, up - 1))
 }
 
-// Links x to y.
+// Links the ref of x, so that x is y.
 fn link(links: &mut [u32; 512], x: u32, y: u32)
     ensures { λ _. ⌜ Links (now (links .entry)) x y (now (links .exit)) ⌝ }
 {
-    links[words::wide(x % 512)] = y % 512 + 1;
+    let v = turn(x % 2, y);
+    links[words::wide(x / 2 % 512)] = v % 1024 + 1;
+}
+
+// The same, unless it is the ref of y.
+fn link_apart(links: &mut [u32; 512], x: u32, y: u32)
+    ensures { λ _. ⌜ Links (now (links .entry)) x y (now (links .exit)) ⌝ }
+{
+    if x / 2 != y / 2 {
+        link(links, x, y);
+    }
 }
 
 // A root: a Param of the signature is linked to its type parameter, and the root of that is found.
@@ -209,11 +281,64 @@ fn put(links: &mut [u32; 512], queue: &mut [u32; 512], end: usize, x: u32, y: u3
         return end;
     }
     link(links, x, y);
-    queue[end] = x % 512 + 512 * (y % 512);
+    queue[end] = x % 1024 + 1024 * (y % 1024);
     end + 1
 }
 
-// Meets two roots: an unknown is linked to the other, and two that have a kind clash or are queued.
+// Whether a kind and id is surely not its own inverse; of Structs and Unions, where the self-dual mark would have to be looked for, nothing is said.
+fn sided(sheet: &[u32], k: u32, d: u32) -> bool
+    ensures { λ r. ⌜ Sided (now (sheet .entry)) k d r ⌝ }
+{
+    if k == STRUCT {
+        return false;
+    }
+    if k == UNION {
+        return false;
+    }
+    if kinds::kind_flag(
+        sheet,
+        layout::ROW_OWN_INVERSE,
+        words::wide(k),
+        words::wide(d),
+    ) {
+        return false;
+    }
+    true
+}
+
+// Meets two types of kind k.
+fn meet_known(
+    sheet: &[u32],
+    places: &[u32],
+    ws: &[u32],
+    links: &mut [u32; 512],
+    queue: &mut [u32; 512],
+    end: usize,
+    x: u32,
+    y: u32,
+    k: u32,
+) -> usize
+    requires { ⌜ KindOf (now sheet) (now places) (now ws) (x / 2) k ⌝ }
+    requires { ⌜ KindOf (now sheet) (now places) (now ws) (y / 2) k ⌝ }
+    requires { ⌜ k ≢ 0 ⌝ }
+    ensures { λ r. ⌜ Meets (now (sheet .entry)) (now (places .entry)) (now (ws .entry)) (now (links .entry)) (now (queue .entry)) end x y (now (links .exit)) (now (queue .exit)) r ⌝ }
+{
+    let d = id(sheet, places, ws, x / 2);
+    if d != id(sheet, places, ws, y / 2) {
+        return CLASH;
+    }
+    if apart(sheet, places, ws, x, y) == 1 {
+        if sided(sheet, k, d) {
+            return CLASH;
+        }
+    }
+    if x / 2 == y / 2 {
+        return end;
+    }
+    put(links, queue, end, x, y)
+}
+
+// Meets types of two roots: an unknown is linked to the other, and two that have a kind clash or are queued.
 fn meet_roots(
     sheet: &[u32],
     places: &[u32],
@@ -226,12 +351,12 @@ fn meet_roots(
 ) -> usize
     ensures { λ r. ⌜ Meets (now (sheet .entry)) (now (places .entry)) (now (ws .entry)) (now (links .entry)) (now (queue .entry)) end x y (now (links .exit)) (now (queue .exit)) r ⌝ }
 {
-    let k = kind(sheet, places, ws, x);
+    let k = kind(sheet, places, ws, x / 2);
     if k == 0 {
-        link(links, x, y);
+        link_apart(links, x, y);
         return end;
     }
-    let j = kind(sheet, places, ws, y);
+    let j = kind(sheet, places, ws, y / 2);
     if j == 0 {
         link(links, y, x);
         return end;
@@ -239,13 +364,10 @@ fn meet_roots(
     if k != j {
         return CLASH;
     }
-    if id(sheet, places, ws, x) != id(sheet, places, ws, y) {
-        return CLASH;
-    }
-    put(links, queue, end, x, y)
+    meet_known(sheet, places, ws, links, queue, end, x, y, k)
 }
 
-// Meets what two roots settle to.
+// Meets what two types of roots settle to.
 fn meet_found(
     sheet: &[u32],
     places: &[u32],
@@ -266,7 +388,7 @@ fn meet_found(
     meet_roots(sheet, places, ws, links, queue, end, x, y)
 }
 
-// Meets two refs, unless one is linked to the other.
+// Meets two types.
 fn meet(
     sheet: &[u32],
     places: &[u32],
@@ -279,9 +401,6 @@ fn meet(
 ) -> usize
     ensures { λ r. ⌜ Meets (now (sheet .entry)) (now (places .entry)) (now (ws .entry)) (now (links .entry)) (now (queue .entry)) end a b (now (links .exit)) (now (queue .exit)) r ⌝ }
 {
-    if links[words::wide(a % 512)] == b % 512 + 1 {
-        return end;
-    }
     let x = find(links, a);
     let y = find(links, b);
     if x == y {
@@ -290,7 +409,7 @@ fn meet(
     meet_found(sheet, places, ws, links, queue, end, x, y)
 }
 
-// Meets the refs of two rows of one length.
+// Meets the types of two rows of one length, the second turned by b. Most of them are linked to each other already, and need no call.
 fn meet_all(
     sheet: &[u32],
     places: &[u32],
@@ -300,23 +419,28 @@ fn meet_all(
     end: usize,
     xs: Row,
     ys: Row,
+    b: u32,
 ) -> usize
     requires { ⌜ xs .n ≤ 8 ⌝ }
-    ensures { λ r. ⌜ Goes (now (sheet .entry)) (now (places .entry)) (now (ws .entry)) (now (links .entry)) (now (queue .entry)) end (xs .n) (xs .nodes) (ys .nodes) (now (links .exit)) (now (queue .exit)) r ⌝ }
+    ensures { λ r. ⌜ Goes (now (sheet .entry)) (now (places .entry)) (now (ws .entry)) (now (links .entry)) (now (queue .entry)) end (xs .n) b (xs .types) (ys .types) (now (links .exit)) (now (queue .exit)) r ⌝ }
 {
     let mut e = end;
     let mut j: usize = 0;
     while j < xs.n {
-        e = meet(sheet, places, ws, links, queue, e, xs.nodes[j], ys.nodes[j]);
-        if e == CLASH {
-            return e;
-        }
+        let x = xs.types[j];
+        let y = turn(b, ys.types[j]);
         j += 1;
+        if links[words::wide(x / 2 % 512)] != turn(x % 2, y) % 1024 + 1 {
+            e = meet(sheet, places, ws, links, queue, e, x, y);
+            if e == CLASH {
+                return e;
+            }
+        }
     }
     e
 }
 
-// Meets the children of two refs.
+// Meets the children of two types.
 fn meet_children(
     sheet: &[u32],
     places: &[u32],
@@ -330,18 +454,19 @@ fn meet_children(
     requires { ⌜ Packed (now ws) ⌝ }
     ensures { λ r. ⌜ Meets (now (sheet .entry)) (now (places .entry)) (now (ws .entry)) (now (links .entry)) (now (queue .entry)) end x y (now (links .exit)) (now (queue .exit)) r ⌝ }
 {
-    let xs = children(sheet, places, ws, x);
+    let xs = children(sheet, places, ws, x / 2);
     if xs.n == UNTOLD {
         return end;
     }
-    let ys = children(sheet, places, ws, y);
+    let ys = children(sheet, places, ws, y / 2);
     if ys.n == UNTOLD {
         return end;
     }
     if xs.n != ys.n {
         return CLASH;
     }
-    meet_all(sheet, places, ws, links, queue, end, xs, ys)
+    let b = apart(sheet, places, ws, x, y);
+    meet_all(sheet, places, ws, links, queue, end, xs, ys, b)
 }
 
 // Works off the queue, whose end is n: whether there is a clash.
@@ -364,7 +489,16 @@ fn run(
         }
         let pair = queue[k];
         k += 1;
-        end = meet_children(sheet, places, ws, links, queue, end, pair % 512, pair / 512);
+        end = meet_children(
+            sheet,
+            places,
+            ws,
+            links,
+            queue,
+            end,
+            pair % 1024,
+            pair / 1024,
+        );
         if end == CLASH {
             return true;
         }
@@ -388,8 +522,8 @@ fn meet_args(
     let mut e: usize = 0;
     let mut k: usize = 0;
     while k < q.n {
-        let a = record_ref(p.args[k]);
-        let b = table::root_of(ws, q.args[k] / 2);
+        let a = own_type(p.args[k]);
+        let b = table::find(ws, q.args[k]);
         e = meet(sheet, places, ws, links, queue, e, a, b);
         if e == CLASH {
             return e;
@@ -414,6 +548,67 @@ fn clash_args(sheet: &[u32], places: &[u32], ws: &[u32], p: Query, q: Query) -> 
     run(sheet, places, ws, &mut links, &mut queue, n)
 }
 
+// Whether the roots of two arguments clash.
+fn root_clash(sheet: &[u32], places: &[u32], ws: &[u32], a: u32, b: u32) -> bool
+    ensures { λ r. ⌜ RootClash (now (sheet .entry)) (now (places .entry)) (now (ws .entry)) a b r ⌝ }
+{
+    let k = kind(sheet, places, ws, a / 2);
+    if k == 0 {
+        return false;
+    }
+    let j = kind(sheet, places, ws, b / 2);
+    if j == 0 {
+        return false;
+    }
+    if k != j {
+        return true;
+    }
+    if id(sheet, places, ws, a / 2) != id(sheet, places, ws, b / 2) {
+        return true;
+    }
+    false
+}
+
+// Whether the arguments of a signature clash with those of the question by their roots alone.
+fn roots_clash(sheet: &[u32], places: &[u32], ws: &[u32], p: Query, q: Query) -> bool
+    requires { ⌜ q .n ≤ 4 ⌝ }
+    ensures { λ r. ⌜ Clashing (now (sheet .entry)) (now (places .entry)) (now (ws .entry)) p q r ⌝ }
+{
+    let mut k: usize = 0;
+    while k < q.n {
+        let a = own_type(p.args[k]);
+        let b = table::find(ws, q.args[k]);
+        if root_clash(sheet, places, ws, a, b) {
+            return true;
+        }
+        k += 1;
+    }
+    false
+}
+
+// Whether sheet and table are so small that opening a candidate costs no more than the test.
+fn are_small(sheet: &[u32], ws: &[u32]) -> bool {
+    if sheet.len() > SMALL_SHEET {
+        return false;
+    }
+    table::count(ws) <= SMALL_TABLE
+}
+
+// Whether the arguments of a signature are found to clash with those of the question: by their roots, and then, unless all is small, by all that is below them.
+fn args_clash(sheet: &[u32], places: &[u32], ws: &[u32], p: Query, q: Query) -> bool
+    requires { ⌜ Packed (now ws) ⌝ }
+    requires { ⌜ q .n ≤ 4 ⌝ }
+    ensures { λ r. ⌜ Clashing (now (sheet .entry)) (now (places .entry)) (now (ws .entry)) p q r ⌝ }
+{
+    if roots_clash(sheet, places, ws, p, q) {
+        return true;
+    }
+    if are_small(sheet, ws) {
+        return false;
+    }
+    clash_args(sheet, places, ws, p, q)
+}
+
 // Whether the signature of the impl whose record is at p clashes with question q.
 fn clash_at(sheet: &[u32], places: &[u32], ws: &[u32], q: Query, p: usize) -> bool
     requires { ⌜ Packed (now ws) ⌝ }
@@ -427,7 +622,7 @@ fn clash_at(sheet: &[u32], places: &[u32], ws: &[u32], q: Query, p: usize) -> bo
     if a.n != q.n {
         return false;
     }
-    clash_args(sheet, places, ws, a, q)
+    args_clash(sheet, places, ws, a, q)
 }
 
 // Whether a table has room for eight unknowns and n nodes besides.

@@ -114,11 +114,11 @@ module _ (s : Words) where
   unfolding inverse
   inverse-other b k d t e = rw (e, inverse)
 
-  made-own : (i : Bool) (k d : ℕ) (t : Signed) → kind-flag s row·own-inverse k d ≡ true → made s i k d t ≡ scon false k d (turned s i t)
+  pub made-own : (i : Bool) (k d : ℕ) (t : Signed) → kind-flag s row·own-inverse k d ≡ true → made s i k d t ≡ scon false k d (turned s i t)
   unfolding made
   made-own i k d t e = rw (e, made)
 
-  made-other : (i : Bool) (k d : ℕ) (t : Signed) → kind-flag s row·own-inverse k d ≡ false → made s i k d t ≡ scon i k d t
+  pub made-other : (i : Bool) (k d : ℕ) (t : Signed) → kind-flag s row·own-inverse k d ≡ false → made s i k d t ≡ scon i k d t
   unfolding made
   made-other i k d t e = rw (e, made)
 
@@ -140,7 +140,7 @@ module _ (s : Words) where
   turned-twice true false t = refl
   turned-twice false b t = refl
 
-  turned-back : (b : Bool) (t : Signed) → turned s b (turned s b t) ≡ t
+  pub turned-back : (b : Bool) (t : Signed) → turned s b (turned s b t) ≡ t
   unfolding turned
   turned-back true t = inverse-twice t
   turned-back false t = refl
@@ -156,7 +156,7 @@ module _ (s : Words) where
   turned-own true t e = e
   turned-own false t e = refl
 
-  turned-made : (b i : Bool) (k d : ℕ) (t : Signed) → turned s b (made s i k d t) ≡ made s (xor b i) k d t
+  pub turned-made : (b i : Bool) (k d : ℕ) (t : Signed) → turned s b (made s i k d t) ≡ made s (xor b i) k d t
   unfolding turned
   turned-made false i k d t = refl
   turned-made true i k d t = go (kind-flag s row·own-inverse k d) refl
@@ -182,7 +182,7 @@ module _ (s : Words) where
   values-same θ σ (c ∷ cs) h = ap₂ scons (ap (turned s (c .0)) (h 0 (omega arith))) (values-same θ σ cs (λ j l. h (suc j) (omega arith)))
 
   -- A type has the term of the type of its root that it is.
-  value-find : (ts : Types) (θ : SignedSol) (t : Ty) → θ (t .1) ≡ value s θ ((node-at ts (t .1)) .up) → value s θ t ≡ value s θ (find ts t)
+  pub value-find : (ts : Types) (θ : SignedSol) (t : Ty) → θ (t .1) ≡ value s θ ((node-at ts (t .1)) .up) → value s θ t ≡ value s θ (find ts t)
   unfolding value find invert-if
   value-find ts θ t e = ap (turned s (t .0)) e ∙ turned-twice (t .0) ((node-at ts (t .1)) .up .0) (θ ((node-at ts (t .1)) .up .1))
 

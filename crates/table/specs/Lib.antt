@@ -5,4 +5,4 @@ pub mod Classes
 pub mod Writes
 pub mod Copies
 pub mod Joins
-pub mod ChildRoots
+pub mod ChildTypes

@@ -19,7 +19,7 @@ ghost use Rattle.rules.specs.Limits.{limit·nodes};
 ghost use Rattle.table.specs.Packing.{table·length, types-of, node-from, with-head, Packed, Put, Rewritten, Pushes, Becomes, Roots, Head, Above, TypeWords, up-at, kind-at, inverted-at, id-at};
 ghost use Rattle.table.specs.Writes.{triple, last};
 ghost use Rattle.table.specs.Joins.{moved, root-node};
-ghost use Rattle.table.specs.ChildRoots.{root-in, roots-row, OwnArity, ChildRoots};
+ghost use Rattle.table.specs.ChildTypes.{type-in, types-row, OwnArity, ChildTypes};
 
 // The words of a table of the most nodes, and its most nodes.
 pub const TABLE: usize = 1025;
@@ -167,37 +167,38 @@ pub fn child(ws: &[u32], n: u32, j: usize) -> u32
     }
 }
 
-// The first n of eight nodes; n is 9 where they are not told.
+// The first n of eight types; n is 9 where they are not told.
 pub struct Row {
     pub n: usize,
-    pub nodes: [u32; 8],
+    pub types: [u32; 8],
 }
 
-// The root of the node of a type word below 512, read without tests.
-fn root_read(ws: &[u32], t: u32) -> u32
+// The type of a root that the type of a word below 512 is, read without tests.
+fn type_read(ws: &[u32], t: u32) -> u32
     requires { ⌜ Packed (now ws) ⌝ }
     requires { ⌜ t < 512 ⌝ }
-    ensures { λ r. ⌜ r ≡ root-in (now (ws .entry)) (t / 2) ⌝ }
+    ensures { λ r. ⌜ r ≡ word-of-type (type-in (now (ws .entry)) (type-of-word t)) ⌝ }
 {
-    ws[NODE * wide(t / 2) + HEAD] / 1024 % 256
+    let u = ws[NODE * wide(t / 2) + HEAD] / 512 % 512;
+    u / 2 * 2 + (u + t) % 2
 }
 
-// The first n of the roots of the types in three words of children.
-fn roots_read(ws: &[u32], n: usize, x: u32, y: u32, z: u32) -> Row
+// The first n of the types of roots that the types in three words of children are.
+fn types_read(ws: &[u32], n: usize, x: u32, y: u32, z: u32) -> Row
     requires { ⌜ Packed (now ws) ⌝ }
-    ensures { λ r. ⌜ r ≡ roots-row (now (ws .entry)) n x y z ⌝ }
+    ensures { λ r. ⌜ r ≡ types-row (now (ws .entry)) n x y z ⌝ }
 {
-    let nodes = [
-        root_read(ws, x % 512),
-        root_read(ws, x / 512 % 512),
-        root_read(ws, x / 262144 % 512),
-        root_read(ws, y % 512),
-        root_read(ws, y / 512 % 512),
-        root_read(ws, y / 262144 % 512),
-        root_read(ws, z % 512),
-        root_read(ws, z / 512 % 512),
+    let types = [
+        type_read(ws, x % 512),
+        type_read(ws, x / 512 % 512),
+        type_read(ws, x / 262144 % 512),
+        type_read(ws, y % 512),
+        type_read(ws, y / 512 % 512),
+        type_read(ws, y / 262144 % 512),
+        type_read(ws, z % 512),
+        type_read(ws, z / 512 % 512),
     ];
-    Row { n, nodes }
+    Row { n, types }
 }
 
 // How many children node n with head h has; 9 where it is not its own root.
@@ -211,15 +212,15 @@ fn own_arity(h: u32, n: u32) -> usize
     if m <= MOST { m } else { 9 }
 }
 
-// The roots of the children of known node n, read without tests; not told where the node is not its own root.
-pub fn child_roots(ws: &[u32], n: u32) -> Row
+// The types of roots that the children of known node n are, read without tests; not told where the node is not its own root.
+pub fn child_types(ws: &[u32], n: u32) -> Row
     requires { ⌜ Packed (now ws) ⌝ }
     requires { ⌜ kind-at (types-of (now ws)) n ≢ 0 ⌝ }
-    ensures { λ r. ⌜ ChildRoots (now (ws .entry)) n r ⌝ }
+    ensures { λ r. ⌜ ChildTypes (now (ws .entry)) n r ⌝ }
 {
     let w = NODE * wide(n);
     let m = own_arity(ws[w + HEAD], n);
-    roots_read(
+    types_read(
         ws,
         m,
         ws[w + CHILDREN],

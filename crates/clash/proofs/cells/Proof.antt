@@ -1,4 +1,4 @@
--- `cells`: the refs written are those of the cells passed.
+-- `cells`: the types written are those of the cells passed.
 use Rattle.clash.specs.Children.{Walks, cells-untold, walks-start, walks-on, walks-end}
 use borrow.Author.Needs.{needs}
 use Prim.Native.Nat.{_-_}
@@ -6,10 +6,10 @@ use Rattle.clash.proofs.cells.Statement.{statement}
 use Rattle.clash.proofs.cells.Tie as tie
 
 abbrev Inv-loop : tie.InvT-loop
-Inv-loop sheet head nodes₀ c₀ j₀ nodes c j = Walks sheet head nodes c j
+Inv-loop sheet head types₀ c₀ j₀ types c j = Walks sheet head types c j
 
 abbrev μ-loop : tie.MeasureT-loop
-μ-loop sheet head nodes₀ c₀ j₀ nodes c j = 8 - j
+μ-loop sheet head types₀ c₀ j₀ types c j = 8 - j
 
 untold-requires : tie.Need-untold-requires Inv-loop μ-loop
 untold-requires c κs = search needs
@@ -29,14 +29,14 @@ returns-2 c = search (needs, cells-untold)
 offset-requires : tie.Need-offset-requires Inv-loop μ-loop
 offset-requires c κs = search needs
 
-record-ref-requires : tie.Need-record-ref-requires Inv-loop μ-loop
-record-ref-requires c κs = search needs
+own-type-requires : tie.Need-own-type-requires Inv-loop μ-loop
+own-type-requires c κs = search needs
 
-mul-nodes : tie.Need-mul-nodes Inv-loop μ-loop
-mul-nodes c = search needs
+mul-types : tie.Need-mul-types Inv-loop μ-loop
+mul-types c = search needs
 
-array-write-nodes : tie.Need-array-write-nodes Inv-loop μ-loop
-array-write-nodes c = search needs
+array-write-types : tie.Need-array-write-types Inv-loop μ-loop
+array-write-types c = search needs
 
 next-requires : tie.Need-next-requires Inv-loop μ-loop
 next-requires c κs = search needs
@@ -65,9 +65,9 @@ cells-spec =
     untold-requires-2
     returns-2
     offset-requires
-    record-ref-requires
-    mul-nodes
-    array-write-nodes
+    own-type-requires
+    mul-types
+    array-write-types
     next-requires
     add-j
     loop-less

@@ -13,8 +13,8 @@ untold-requires c κs = search needs
 returns : tie.Need-returns
 returns c = search (needs, gathers-untold)
 
-child-roots-requires : tie.Need-child-roots-requires
-child-roots-requires c κs = (search needs, search (needs, known-node))
+child-types-requires : tie.Need-child-types-requires
+child-types-requires c κs = (search needs, search (needs, known-node))
 
 returns-2 : tie.Need-returns-2
 returns-2 c = search (needs, gathers-node)
@@ -41,7 +41,7 @@ children-spec =
     kind-requires
     untold-requires
     returns
-    child-roots-requires
+    child-types-requires
     returns-2
     place-of-requires
     offset-requires

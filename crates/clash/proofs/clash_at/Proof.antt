@@ -19,8 +19,8 @@ read-query-requires c κs = search (needs, args-read)
 returns : tie.Need-returns
 returns c = search (needs, against-not)
 
-clash-args-requires : tie.Need-clash-args-requires
-clash-args-requires c κs = search needs
+args-clash-requires : tie.Need-args-clash-requires
+args-clash-requires c κs = search needs
 
 returns-2 : tie.Need-returns-2
 returns-2 c = search (needs, against-args)
@@ -34,5 +34,5 @@ clash-at-spec =
     wide-requires
     read-query-requires
     returns
-    clash-args-requires
+    args-clash-requires
     returns-2)

@@ -14,10 +14,13 @@ element-copy-out-up : tie.Need-element-copy-out-up
 element-copy-out-up c = search needs
 
 returns : tie.Need-returns
-returns c = search (needs, finds-same)
+returns c = search needs
 
-sub-find-far : tie.Need-sub-find-far
-sub-find-far c = search needs
+sub-turn : tie.Need-sub-turn
+sub-turn c = search needs
+
+turn-requires : tie.Need-turn-requires
+turn-requires c κs = search needs
 
 find-far-requires : tie.Need-find-far-requires
 find-far-requires c κs = search needs
@@ -33,6 +36,7 @@ find-spec =
     mul-up
     element-copy-out-up
     returns
-    sub-find-far
+    sub-turn
+    turn-requires
     find-far-requires
     returns-2)

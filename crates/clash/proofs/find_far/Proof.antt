@@ -5,10 +5,10 @@ use Rattle.clash.proofs.find_far.Statement.{statement}
 use Rattle.clash.proofs.find_far.Tie as tie
 
 abbrev Inv-loop : tie.InvT-loop
-Inv-loop links r x₀ left₀ x left = Finds links r x
+Inv-loop links t x₀ left₀ x left = Finds links t x
 
 abbrev μ-loop : tie.MeasureT-loop
-μ-loop links r x₀ left₀ x left = left
+μ-loop links t x₀ left₀ x left = left
 
 loop-holds : tie.Need-loop-holds Inv-loop μ-loop
 loop-holds c = search (needs, finds-same)
@@ -25,8 +25,11 @@ element-copy-out-up c = search needs
 returns : tie.Need-returns Inv-loop μ-loop
 returns c = search needs
 
-sub-x : tie.Need-sub-x Inv-loop μ-loop
-sub-x c = search needs
+sub-turn : tie.Need-sub-turn Inv-loop μ-loop
+sub-turn c = search needs
+
+turn-requires : tie.Need-turn-requires Inv-loop μ-loop
+turn-requires c κs = search needs
 
 sub-left : tie.Need-sub-left Inv-loop μ-loop
 sub-left c = search needs
@@ -51,7 +54,8 @@ find-far-spec =
     mul-up
     element-copy-out-up
     returns
-    sub-x
+    sub-turn
+    turn-requires
     sub-left
     loop-less
     loop-again

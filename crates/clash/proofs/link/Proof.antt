@@ -4,6 +4,9 @@ use borrow.Author.Needs.{needs}
 use Rattle.clash.proofs.link.Statement.{statement}
 use Rattle.clash.proofs.link.Tie as tie
 
+turn-requires : tie.Need-turn-requires
+turn-requires c κs = search needs
+
 add-links : tie.Need-add-links
 add-links c = search needs
 
@@ -20,4 +23,6 @@ returns : tie.Need-returns
 returns c = search (needs, links-set)
 
 pub link-spec : {M : Type 1} → statement M
-link-spec = tie.close (tie.spec add-links wide-requires mul-links element-write-links returns)
+link-spec =
+    tie.close
+    (tie.spec turn-requires add-links wide-requires mul-links element-write-links returns)

@@ -14,23 +14,23 @@ abbrev μ-loop : tie.MeasureT-loop
 loop-holds : tie.Need-loop-holds Inv-loop μ-loop
 loop-holds c = search (needs, args-start)
 
-mul-record-ref : tie.Need-mul-record-ref Inv-loop μ-loop
-mul-record-ref c = search needs
+mul-own-type : tie.Need-mul-own-type Inv-loop μ-loop
+mul-own-type c = search needs
 
-element-copy-out-record-ref : tie.Need-element-copy-out-record-ref Inv-loop μ-loop
-element-copy-out-record-ref c = search needs
+element-copy-out-own-type : tie.Need-element-copy-out-own-type Inv-loop μ-loop
+element-copy-out-own-type c = search needs
 
-record-ref-requires : tie.Need-record-ref-requires Inv-loop μ-loop
-record-ref-requires c κs = search needs
+own-type-requires : tie.Need-own-type-requires Inv-loop μ-loop
+own-type-requires c κs = search needs
 
-mul-root-of : tie.Need-mul-root-of Inv-loop μ-loop
-mul-root-of c = search needs
+mul-find : tie.Need-mul-find Inv-loop μ-loop
+mul-find c = search needs
 
-element-copy-out-root-of : tie.Need-element-copy-out-root-of Inv-loop μ-loop
-element-copy-out-root-of c = search needs
+element-copy-out-find : tie.Need-element-copy-out-find Inv-loop μ-loop
+element-copy-out-find c = search needs
 
-root-of-requires : tie.Need-root-of-requires Inv-loop μ-loop
-root-of-requires c κs = search needs
+find-requires : tie.Need-find-requires Inv-loop μ-loop
+find-requires c κs = search needs
 
 meet-requires : tie.Need-meet-requires Inv-loop μ-loop
 meet-requires c κs = search needs
@@ -57,12 +57,12 @@ meet-args-spec =
     Inv-loop
     μ-loop
     loop-holds
-    mul-record-ref
-    element-copy-out-record-ref
-    record-ref-requires
-    mul-root-of
-    element-copy-out-root-of
-    root-of-requires
+    mul-own-type
+    element-copy-out-own-type
+    own-type-requires
+    mul-find
+    element-copy-out-find
+    find-requires
     meet-requires
     returns
     add-k

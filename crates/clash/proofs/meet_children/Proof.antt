@@ -1,4 +1,4 @@
--- `meet_children`: one by one, where there are as many.
+-- `meet_children`: the rows of both, of one length.
 use Rattle.clash.specs.Meeting.{meets-none}
 use Rattle.clash.specs.Pairs.{children-few, children-clash, children-meet}
 use borrow.Author.Needs.{needs}
@@ -9,16 +9,19 @@ children-requires : tie.Need-children-requires
 children-requires c κs = search needs
 
 returns : tie.Need-returns
-returns c = search (needs, meets-none)
+returns c = search needs
 
 children-requires-2 : tie.Need-children-requires-2
 children-requires-2 c κs = search needs
 
 returns-2 : tie.Need-returns-2
-returns-2 c = search (needs, meets-none)
+returns-2 c = search needs
 
 returns-3 : tie.Need-returns-3
 returns-3 c = search (needs, children-clash)
+
+apart-requires : tie.Need-apart-requires
+apart-requires c κs = search needs
 
 meet-all-requires : tie.Need-meet-all-requires
 meet-all-requires c κs = search (needs, children-few)
@@ -35,5 +38,6 @@ meet-children-spec =
     children-requires-2
     returns-2
     returns-3
+    apart-requires
     meet-all-requires
     returns-4)

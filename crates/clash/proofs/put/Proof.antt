@@ -5,7 +5,7 @@ use Rattle.clash.proofs.put.Statement.{statement}
 use Rattle.clash.proofs.put.Tie as tie
 
 returns : tie.Need-returns
-returns c = search (needs, puts-none)
+returns c = search needs
 
 link-requires : tie.Need-link-requires
 link-requires c κs = search needs

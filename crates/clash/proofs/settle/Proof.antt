@@ -8,7 +8,7 @@ parameter-requires : tie.Need-parameter-requires
 parameter-requires c κs = search needs
 
 returns : tie.Need-returns
-returns c = search (needs, settles-same)
+returns c = search needs
 
 link-requires : tie.Need-link-requires
 link-requires c κs = search needs
