@@ -5,4 +5,6 @@ pub mod Meeting
 pub mod Children
 pub mod Pairs
 pub mod Readings
+pub mod Places
 pub mod Signatures
+pub mod Params

@@ -21,7 +21,7 @@ use Rattle.rules.specs.Answer.{word-of-type}
 use Rattle.rules.specs.RootRank.{child-in}
 use Rattle.rules.specs.Solutions.{rep, AllIn, ChildrenIn, WellFormed}
 use Rattle.rules.specs.CheckedTables.{table-length, table-state, table-flat}
-use Rattle.rules.specs.SignedTerms.{Signed, SignedSol, scons, turned, value, values, made, value-find, SignedFits, SignedSolves, SignedSuits, SignedReads}
+use Rattle.rules.specs.SignedTerms.{Signed, SignedSol, scons, turned, value, values, made, value-find, SignedFits, SignedSolves, SignedSuits, SignedReads, SignedCommon}
 use Rattle.table.specs.Packing.{types-of, kind-in, id-in, inverted-in, kind-at, id-at, inverted-at}
 use Rattle.table.specs.Nodes.{types-few, type-word, word-type}
 use Rattle.table.specs.ChildTypes.{type-in, type-there, known-in}
@@ -29,7 +29,7 @@ use Rattle.queries.specs.declared.Query.{Query}
 use Rattle.queries.specs.Queries.{four, query-of}
 use Rattle.queries.specs.Few.{map-at}
 use Rattle.clash.specs.Meaning.{odd, means, row, Sort, Meaning}
-use Rattle.clash.specs.Pairs.{Agree}
+use Rattle.clash.specs.Pairs.{Agree, Clashing}
 
 -- The term of a node by its state.
 unfoldable pub node-term : Words → SignedSol → ℕ → TypeState → Signed
@@ -202,3 +202,11 @@ module _ (s ws : Words) (h : ℕ) (short : length (chain s h) ≤ 248) (formed :
         ∙ ap (value s σ) (query-type q few k l)
         ∙ root-value y v;
   }
+
+-- Where the arguments clash there are no terms that they have in common.
+pub never-common : (s ws : Words) (h : ℕ) → length (chain s h) ≤ 248 → WellFormed (table s h) → WellFormed (types-of ws) → (p q : Query) → p .n ≡ q .n → q .n ≤ 4 → AllIn (length (table s h)) ((query-of p) .1) → AllIn (length (types-of ws)) ((query-of q) .1) →
+    Clashing s (chain s h) ws p q true → SignedCommon s (types-of ws) (table s h) ((query-of p) .1) ((query-of q) .1) → ⊥
+never-common s ws h short formed whole p q en few a b k c =
+    k .clash refl (reading s ws (c .σ) (c .π) (c .τ))
+    (meaning s ws h short formed whole (c .σ) (c .π) (c .τ) (c .solves) (c .reads))
+    (agree s ws h short formed whole (c .σ) (c .π) (c .τ) (c .solves) (c .reads) p q en few a b (c .same))

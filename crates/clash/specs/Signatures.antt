@@ -7,7 +7,6 @@ use mathlib.Core.Logic.{_≢_}
 use native.Mathlib.Omega.{arith}
 use lib.Dec.{T, leb, leb→le}
 use lib.ListN.{length, take}
-use lib.Seq.{length-take-le}
 use Rattle.rules.specs.Lists.{Words}
 use Rattle.rules.specs.Limits.{limit·nodes}
 use Rattle.rules.specs.Layout.{header·impls, impl·table}
@@ -24,21 +23,21 @@ use Rattle.rules.specs.SignedTerms.{SignedCommon, candidate-signed}
 use Rattle.table.specs.Packing.{types-of}
 use Rattle.chart.specs.Fields.{field-found}
 use Rattle.chart.specs.Index.{Indexed}
-use Rattle.transfer.specs.Callers.{places-chain}
 use Rattle.queries.specs.declared.Query.{Query}
 use Rattle.queries.specs.Queries.{query-of}
 use Rattle.queries.specs.Sizes.{impl-few}
 use Rattle.opening.specs.Sound.{Sound, finder}
 use Rattle.opening.specs.Signing.{signature-few, table-neat, signature-inside}
 use Rattle.clash.specs.Pairs.{Clashing}
-use Rattle.clash.specs.Readings.{reading, meaning, agree}
+use Rattle.clash.specs.Readings.{never-common}
+use Rattle.clash.specs.Places.{places-room, places-few, places-length, places-are}
 
 -- true: there is room for the signature, and it does not unify with the question.
 pub record Clashes (s : Words) (ts : Types) (q : ImplType) (i : ℕ) (r : Bool) : Type 0 where
   pub room : r ≡ true → length ((signed s ts i) .1) ≤ limit·nodes
   pub unfit : r ≡ true → (met s ts q i) .0 ≢ success
 
-never : false ≡ true → ⊥
+pub never : false ≡ true → ⊥
 never e = let z : _≡_ {A = ℕ} 0 1 = cc in omega arith
 
 pub clashes-not : (s : Words) (ts : Types) (q : ImplType) (i : ℕ) → Clashes s ts q i false
@@ -87,17 +86,17 @@ module _ (s : Words) (sound : Sound s) (i : ℕ) (h : i < many s header·impls) 
 
     module _ (ws : Words) (l : length s ≤ 5 * length ws) where
       pub index-room : 0 + length (chain s head) ≤ length ws
-      index-room = omega (arith, few)
+      index-room = places-room s head few ws l
 
       module _ (us : Words) (n : ℕ) (x : Indexed s head ws us 0 n) (long : length us ≡ length ws) where
         pub index-few : n ≤ length us
-        index-few = omega (arith, x .count, few)
+        index-few = places-few s head few ws l us n x long
 
         pub index-length : n ≡ length (take n us)
-        index-length = sym (length-take-le n us index-few)
+        index-length = places-length s head few ws l us n x long
 
         places : take n us ≡ chain s head
-        places = places-chain s head us 0 n (x .count) (x .place) (omega (arith, index-few))
+        places = places-are s head few ws l us n x long
 
         module _ (ts : Words) (q : Query) (neat : Neat (types-of ts)) (inside : AllIn (length (types-of ts)) ((query-of q) .1)) (most : q .n ≤ 4) (small : length (types-of ts) + n ≤ 248) where
           short : length (chain s head) ≤ 248
@@ -119,11 +118,9 @@ module _ (s : Words) (sound : Sound s) (i : ℕ) (h : i < many s header·impls) 
 
           never-met : (a : Query) → query-of a ≡ (at s (p + 3), cell-types s (at s (p + 5))) → a .n ≡ q .n → Clashing s (take n us) ts a q true → (met s (types-of ts) (query-of q) i) .0 ≢ success
           never-met a ea en k = λ won.
-              let c = common a ea won in
-              (subst (λ (ps : Words). Clashing s ps ts a q true) places k) .clash refl (reading s ts (c .σ) (c .π) (c .τ))
-              (meaning s ts head short formed (neat .proper .formed) (c .σ) (c .π) (c .τ) (c .solves) (c .reads))
-              (agree s ts head short formed (neat .proper .formed) (c .σ) (c .π) (c .τ) (c .solves) (c .reads) a q en most
-              (signature-inside s sound i h head found (at s (p + 3)) (at s (p + 5)) a (o .word 3) (o .word 5) ea) inside (c .same))
+              never-common s ts head short formed (neat .proper .formed) a q en most
+              (signature-inside s sound i h head found (at s (p + 3)) (at s (p + 5)) a (o .word 3) (o .word 5) ea) inside
+              (subst (λ (ps : Words). Clashing s ps ts a q true) places k) (common a ea won)
 
           pub clash-found : (r : Bool) → Against s (take n us) ts q p r → Clashes s (types-of ts) (query-of q) i r
           clash-found r k = record {

@@ -1,4 +1,4 @@
-// Whether a candidate's signature and the question cannot unify: a test made before the candidate is opened. It goes by classes of types that have to be the same, joined without an occurs check,
+// Whether a candidate's signature, or an impl parameter of the caller's generics, and the question cannot unify: a test made before it is opened. It goes by classes of types that have to be the same, joined without an occurs check,
 // and finds a clash: two types of one class that differ in kind, id or number of children, or in side where the kind is not its own inverse, so that a type is met inverted that may not be. Where it finds none nothing is said.
 // A type is twice a ref, and one more if it is inverted. Refs are read modulo 512: up to 255 roots of the question's table, from 256 on nodes of the signature's table by their records, from 504 on type parameters.
 // `links` has for each ref 0, or 1 and the type that the ref is, of the same class; `queue` has pairs of types that are the same and whose children are to be met.
@@ -6,8 +6,9 @@ ghost use mathlib.Core.Path.{_≡_};
 ghost use Prim.Native.Nat.{_+_, _-_, _*_, _/_, _%_, _<_, _≤_};
 ghost use mathlib.Core.Logic.{_≢_};
 ghost use lib.ListN.{length};
-ghost use Rattle.rules.specs.Sheet.{at, many};
-ghost use Rattle.rules.specs.Layout.{header·impls};
+ghost use Rattle.rules.specs.Sheet.{at, field, many};
+ghost use Rattle.rules.specs.Layout.{header·generics, header·impls, generics·table};
+ghost use Rattle.rules.specs.Search.{impl-params};
 ghost use Rattle.rules.specs.Transfer.{cell-types};
 ghost use Rattle.rules.specs.Solutions.{AllIn};
 ghost use Rattle.rules.specs.Neat.{Neat};
@@ -21,6 +22,7 @@ ghost use Rattle.clash.specs.Meeting.{Puts, Meets, apart as apart-of};
 ghost use Rattle.clash.specs.Children.{Cells, Gathers};
 ghost use Rattle.clash.specs.Pairs.{Goes, Ends, ArgsMet, RootClash, Clashing};
 ghost use Rattle.clash.specs.Signatures.{Against, Room, ImplAt, Clashes};
+ghost use Rattle.clash.specs.Params.{Calling, ParamClashes};
 use chart::kinds;
 use chart::layout;
 use queries::Query;
@@ -556,11 +558,11 @@ fn root_clash(sheet: &[u32], places: &[u32], ws: &[u32], a: u32, b: u32) -> bool
     if k == 0 {
         return false;
     }
-    let j = kind(sheet, places, ws, b / 2);
-    if j == 0 {
+    let l = kind(sheet, places, ws, b / 2);
+    if l == 0 {
         return false;
     }
-    if k != j {
+    if k != l {
         return true;
     }
     if id(sheet, places, ws, a / 2) != id(sheet, places, ws, b / 2) {
@@ -659,6 +661,44 @@ pub fn clashes(sheet: &[u32], ws: &[u32], places: &mut [u32], q: Query, i: usize
     let n = chart::index_chain(sheet, head, places, 0);
     if has_room(ws, n) {
         return clash_at(sheet, &places[..n], ws, q, p);
+    }
+    false
+}
+
+// The head of the table of generics g.
+fn generics_head(sheet: &[u32], g: usize) -> u32
+    ensures { λ r. ⌜ r ≡ field (now (sheet .entry)) header·generics g generics·table ⌝ }
+{
+    let head = words::next(sheet, layout::GENERICS);
+    let p = words::place(sheet, head, g);
+    words::offset(sheet, p, layout::GENERICS_TABLE)
+}
+
+// Whether impl parameter p of the caller's generics g and question q clash. The places of the nodes of the generics' table are written to `places`.
+pub fn param_clashes(
+    sheet: &[u32],
+    ws: &[u32],
+    places: &mut [u32],
+    g: usize,
+    p: Query,
+    q: Query,
+) -> bool
+    requires { ⌜ Calling (now sheet) g ⌝ }
+    requires { ⌜ length (now sheet) ≤ 5 * length (now places) ⌝ }
+    requires { ⌜ Packed (now ws) ⌝ }
+    requires { ⌜ Neat (types-of (now ws)) ⌝ }
+    requires { ⌜ AllIn (length (types-of (now ws))) ((query-of q) .1) ⌝ }
+    requires { ⌜ q .n ≤ 4 ⌝ }
+    requires { ⌜ AllIn (length ((impl-params (now sheet) g) .0)) ((query-of p) .1) ⌝ }
+    ensures { λ r. ⌜ ParamClashes (now (sheet .entry)) g (types-of (now (ws .entry))) (query-of p) (query-of q) r ⌝ }
+{
+    if p.n != q.n {
+        return false;
+    }
+    let head = generics_head(sheet, g);
+    let n = chart::index_chain(sheet, head, places, 0);
+    if has_room(ws, n) {
+        return args_clash(sheet, &places[..n], ws, p, q);
     }
     false
 }

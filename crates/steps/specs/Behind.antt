@@ -23,12 +23,17 @@ use Rattle.queries.specs.Queries.{query-of}
 use Rattle.opening.specs.declared.Signed.{Signed}
 use Rattle.opening.specs.Sound as opening
 use Rattle.opening.specs.Meeting.{Meets}
+use Rattle.clash.specs.Params.{Calling}
 use Rattle.steps.specs.declared.Finder.{Finder}
 use Rattle.steps.specs.Asking.{finder-of, Sound, Asking, Opened}
 
 -- The sheet's own promise.
 pub sound-sheet : (s : Words) (f : Finder) → Sound (finder-of s f) → opening.Sound s
 sound-sheet s f h = opening.sound-of (finder-of s f) (h .question) (h .ready) (h .ready .short)
+
+-- A call with these generics.
+pub calling-of : (s : Words) (f : Finder) → Sound (finder-of s f) → Calling s (f .generics)
+calling-of s f h = record { source = f .source; question = h .question; ready = h .ready }
 
 pub beside-behind : Beside 0 6410
 beside-behind = record { either = inl (omega arith) }

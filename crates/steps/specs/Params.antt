@@ -34,6 +34,7 @@ use Rattle.queries.specs.Few.{Few, few-params}
 use Rattle.queries.specs.Gathering.{WithinFour}
 use Rattle.opening.specs.declared.Signed.{Signed}
 use Rattle.opening.specs.declared.Signed.the-variants.{Full, Unfit, Fits}
+use Rattle.clash.specs.Params.{ParamClashes}
 use Rattle.steps.specs.declared.Finder.{Finder}
 use Rattle.steps.specs.Asking.{finder-of, Sound, Asking, Front, front-table, asking-table}
 use Rattle.steps.specs.Loops.{Stepping, stepping-start, stepping-few, stepping-low, stepping-same, stepping-end, stepping-on, stepping-refused}
@@ -114,6 +115,14 @@ module _ (s ws : Words) (f : Finder) (q p : Query) (k n count : ℕ) where
       front = record { len = refl; at = λ i l. refl };
       at = λ L. record { at = λ fs z t. answers-found _ count n fs ws (ap (λ (r : Run (List Result)). within (ltb L) r count) (one-other (finder-of s f) (types-of ws) (query-of q) k (query-of p) fs (sym here ∙ e))) low z few t };
     }
+
+  -- One that clashes with the question is not opened: nothing changes.
+  pub met-clash : (r : Bool) → approx-eq (query-of q) (query-of p) ≡ true → ParamClashes s (f .generics) (types-of ws) (query-of p) (query-of q) r → r ≡ true → n ≤ 4 → count ≤ 4000000000 → ParamStep (finder-of s f) ws (query-of q) (query-of p) k n count (Found count n) ws
+  unfolding within
+  met-clash r e c x few low = record {
+    front = record { len = refl; at = λ i l. refl };
+    at = λ L. record { at = λ fs z t. answers-found _ count n fs ws (ap (λ (y : Run (List Result)). within (ltb L) y count) (one-failed (finder-of s f) (types-of ws) (query-of q) k (query-of p) fs e (c .room x) (c .unfit x))) low z few t };
+  }
 
   -- By what they come to.
   module _ (us : Words) (m : Signed) (e : approx-eq (query-of q) (query-of p) ≡ true) (b : Behind s ws (brought (finder-of s f) (types-of ws) (query-of p)) (query-of q) m us) where

@@ -122,8 +122,8 @@ fn meet_behind(
     opening::meet_param(sheet, f.generics, &mut ws[SUB..], places, map, q, p)
 }
 
-// Impl parameter k of the generics, of the question's trait: added behind n where it unifies with the question.
-fn param_met(
+// Impl parameter k of the generics, of the question's trait, is met with the question: added behind n where they unify.
+fn param_opened(
     sheet: &[u32],
     ws: &mut [u32],
     places: &mut [u32],
@@ -152,6 +152,36 @@ fn param_met(
         Signed::Unfit => Asked::Found { count, n },
         Signed::Fits => leaf_step(ws, n, SUB, PARAM, k as u32, count),
     }
+}
+
+// Impl parameter k of the generics, of the question's trait: added behind n where it unifies with the question. One that clashes with the question is passed over before that.
+fn param_met(
+    sheet: &[u32],
+    ws: &mut [u32],
+    places: &mut [u32],
+    map: &mut [u32],
+    f: Finder,
+    q: Query,
+    p: Query,
+    k: usize,
+    n: usize,
+    count: u32,
+) -> Asked
+    requires { ⌜ Sound (finder-of (now sheet) f) ⌝ }
+    requires { ⌜ Scratch (now sheet) (now places) (now map) ⌝ }
+    requires { ⌜ Asking (now ws) q ⌝ }
+    requires { ⌜ 7692 ≤ length (now ws) ⌝ }
+    requires { ⌜ ParamIn (finder-of (now sheet) f) p ⌝ }
+    requires { ⌜ approx-eq (query-of q) (query-of p) ≡ true ⌝ }
+    requires { ⌜ k < 4 ⌝ }
+    requires { ⌜ n ≤ 4 ⌝ }
+    requires { ⌜ count ≤ 4000000000 ⌝ }
+    ensures { λ r. ⌜ ParamStep (finder-of (now (sheet .entry)) f) (now (ws .entry)) (query-of q) (query-of p) k n count r (now (ws .exit)) ⌝ }
+{
+    if clash::param_clashes(sheet, ws, places, f.generics, p, q) {
+        return Asked::Found { count, n };
+    }
+    param_opened(sheet, ws, places, map, f, q, p, k, n, count)
 }
 
 // Impl parameter k of the generics, whatever its trait.
