@@ -3,6 +3,8 @@ pub mod Refs
 pub mod Links
 pub mod Meeting
 pub mod Children
+pub mod Sizes
+pub mod Cycles
 pub mod Pairs
 pub mod Readings
 pub mod Places

@@ -20,7 +20,8 @@ use Rattle.queries.specs.declared.Query.{Query}
 use Rattle.clash.specs.Meaning.{odd, means, means-mod, means-turn, turn, row, Meaning, Parts, made-parts, type-sort}
 use Rattle.clash.specs.Refs.{KindOf, IdOf, Bit, type-side, side-of}
 use Rattle.clash.specs.Children.{Gathers}
-use Rattle.clash.specs.Links.{linked-none}
+use Rattle.clash.specs.Links.{Linked, linked-none}
+use Rattle.clash.specs.Cycles.{Cyclic}
 use Rattle.clash.specs.Meeting.{Holds, Meets, apart, known-parts, kinds-same}
 
 -- The first n of xs and ys, turned by b, mean the same one by one.
@@ -111,15 +112,22 @@ ran-start s ps ws ls qs e = record { at = λ m w h. h }
 pub ran-on : (s ps ws ls qs : Words) (e : ℕ) (ks rs : Words) (r k : ℕ) (is ts : Words) (u : ℕ) → Ran s ps ws ls qs e ks rs r → k < r → Meets s ps ws ks rs r (at rs k % 1024) (at rs k / 1024) is ts u → Ran s ps ws ls qs e is ts u
 ran-on s ps ws ls qs e ks rs r k is ts u g h t = record { at = λ m w l. t .at m w (g .at m w l) (means-mod s m (at rs k) ∙ (g .at m w l) .queued k h) }
 
--- true: nothing gives such meanings.
-pub record Ends (s ps ws ls qs : Words) (e : ℕ) (b : Bool) : Type 0 where
+-- true: nothing gives such meanings. false: the links after it are of types that mean the same.
+pub record Ends (s ps ws ls qs : Words) (e : ℕ) (ks : Words) (b : Bool) : Type 0 where
   pub clash : b ≡ true → (m : SignedSol) → Meaning s ps ws m → Holds s m ls qs e → ⊥
+  pub links : b ≡ false → (m : SignedSol) → Meaning s ps ws m → Holds s m ls qs e → Linked s m ks
 
-pub ends-clash : (s ps ws ls qs : Words) (e : ℕ) (ks rs : Words) (r k : ℕ) (is ts : Words) (u : ℕ) → Ran s ps ws ls qs e ks rs r → k < r → Meets s ps ws ks rs r (at rs k % 1024) (at rs k / 1024) is ts u → u ≡ 1000 → Ends s ps ws ls qs e true
-ends-clash s ps ws ls qs e ks rs r k is ts u g h t q = record { clash = λ b m w l. ((ran-on s ps ws ls qs e ks rs r k is ts u g h t) .at m w l) .free q }
+pub ends-clash : (s ps ws ls qs : Words) (e : ℕ) (ks rs : Words) (r k : ℕ) (is ts : Words) (u : ℕ) → Ran s ps ws ls qs e ks rs r → k < r → Meets s ps ws ks rs r (at rs k % 1024) (at rs k / 1024) is ts u → u ≡ 1000 → Ends s ps ws ls qs e is true
+ends-clash s ps ws ls qs e ks rs r k is ts u g h t q = record {
+  clash = λ b m w l. ((ran-on s ps ws ls qs e ks rs r k is ts u g h t) .at m w l) .free q;
+  links = λ b. let z : _≡_ {A = ℕ} 0 1 = cc in absurd (omega arith);
+}
 
-pub ends-not : (s ps ws ls qs : Words) (e : ℕ) → Ends s ps ws ls qs e false
-ends-not s ps ws ls qs e = record { clash = λ b. let z : _≡_ {A = ℕ} 0 1 = cc in absurd (omega arith) }
+pub ends-not : (s ps ws ls qs : Words) (e : ℕ) (ks rs : Words) (r : ℕ) → Ran s ps ws ls qs e ks rs r → Ends s ps ws ls qs e ks false
+ends-not s ps ws ls qs e ks rs r g = record {
+  clash = λ b. let z : _≡_ {A = ℕ} 0 1 = cc in absurd (omega arith);
+  links = λ b m w l. (g .at m w l) .linked;
+}
 
 -- The type of argument k of a signature, in its own table, and of the question.
 abbrev pub own-type : Query → ℕ → ℕ
@@ -156,8 +164,11 @@ blank (suc n) (suc k) = blank n k
 pub clashing-args : (s ps ws qs : Words) (n : ℕ) (p q : Query) (ks rs : Words) (r : ℕ) → ArgsMet s ps ws (replicate n 0) qs p q ks rs r → r ≡ 1000 → Clashing s ps ws p q true
 clashing-args s ps ws qs n p q ks rs r g e = record { clash = λ b m w a. (g .at m w (holds-none s m (replicate n 0) qs (blank n)) a) .free e }
 
-pub clashing-run : (s ps ws qs : Words) (n : ℕ) (p q : Query) (ks rs : Words) (r : ℕ) (b : Bool) → ArgsMet s ps ws (replicate n 0) qs p q ks rs r → Ends s ps ws ks rs r b → Clashing s ps ws p q b
-clashing-run s ps ws qs n p q ks rs r b g e = record { clash = λ y m w a. e .clash y m w (g .at m w (holds-none s m (replicate n 0) qs (blank n)) a) }
+pub clashing-run : (s ps ws qs : Words) (n : ℕ) (p q : Query) (ks rs : Words) (r : ℕ) (is : Words) (b : Bool) → ArgsMet s ps ws (replicate n 0) qs p q ks rs r → Ends s ps ws ks rs r is b → b ≡ true → Clashing s ps ws p q true
+clashing-run s ps ws qs n p q ks rs r is b g e y = record { clash = λ z m w a. e .clash y m w (g .at m w (holds-none s m (replicate n 0) qs (blank n)) a) }
+
+pub clashing-cyclic : (s ps ws qs : Words) (n : ℕ) (p q : Query) (ks rs : Words) (r : ℕ) (is : Words) (b c : Bool) → ArgsMet s ps ws (replicate n 0) qs p q ks rs r → Ends s ps ws ks rs r is b → b ≡ false → Cyclic s ps ws is c → Clashing s ps ws p q c
+clashing-cyclic s ps ws qs n p q ks rs r is b c g e y d = record { clash = λ z m w a. d .cycle z m w (e .links y m w (g .at m w (holds-none s m (replicate n 0) qs (blank n)) a)) }
 
 -- The roots of two arguments clash.
 pub record RootClash (s ps ws : Words) (a b : ℕ) (r : Bool) : Type 0 where

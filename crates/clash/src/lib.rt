@@ -1,5 +1,6 @@
-// Whether a candidate's signature, or an impl parameter of the caller's generics, and the question cannot unify: a test made before it is opened. It goes by classes of types that have to be the same, joined without an occurs check,
-// and finds a clash: two types of one class that differ in kind, id or number of children, or in side where the kind is not its own inverse, so that a type is met inverted that may not be. Where it finds none nothing is said.
+// Whether a candidate's signature, or an impl parameter of the caller's generics, and the question cannot unify: a test made before it is opened.
+// It goes by classes of types that have to be the same, and finds a clash: two types of one class that differ in kind, id or number of children, or in side where the kind is not its own inverse,
+// so that a type is met inverted that may not be; or a class that would contain itself, which is the occurs check (`cycles`). Where it finds none nothing is said.
 // A type is twice a ref, and one more if it is inverted. Refs are read modulo 512: up to 255 roots of the question's table, from 256 on nodes of the signature's table by their records, from 504 on type parameters.
 // `links` has for each ref 0, or 1 and the type that the ref is, of the same class; `queue` has pairs of types that are the same and whose children are to be met.
 ghost use mathlib.Core.Path.{_≡_};
@@ -27,6 +28,8 @@ use chart::kinds;
 use chart::layout;
 use queries::Query;
 use table::Row;
+
+mod cycles;
 
 const RECORDS: u32 = 256;
 
@@ -481,7 +484,7 @@ fn run(
     n: usize,
 ) -> bool
     requires { ⌜ Packed (now ws) ⌝ }
-    ensures { λ r. ⌜ Ends (now (sheet .entry)) (now (places .entry)) (now (ws .entry)) (now (links .entry)) (now (queue .entry)) n r ⌝ }
+    ensures { λ r. ⌜ Ends (now (sheet .entry)) (now (places .entry)) (now (ws .entry)) (now (links .entry)) (now (queue .entry)) n (now (links .exit)) r ⌝ }
 {
     let mut k: usize = 0;
     let mut end = n;
@@ -547,7 +550,10 @@ fn clash_args(sheet: &[u32], places: &[u32], ws: &[u32], p: Query, q: Query) -> 
     if n == CLASH {
         return true;
     }
-    run(sheet, places, ws, &mut links, &mut queue, n)
+    if run(sheet, places, ws, &mut links, &mut queue, n) {
+        return true;
+    }
+    cycles::cyclic(sheet, places, ws, &links)
 }
 
 // Whether the roots of two arguments clash.

@@ -1,0 +1,152 @@
+-- Classes of types that would contain themselves: there are none, for a type is larger than its children.
+use Prim.Native.Nat.{ℕ, zero, suc, _/_, _%_, _<_}
+use mathlib.Core.Path.{_≡_, sym, _∙_, ap}
+use mathlib.Core.Bool.{Bool, true, false}
+use mathlib.Core.Logic.{_≢_, _⊎_, inl, inr, ⊎-elim}
+use native.Mathlib.Decide.{ℕ-discrete}
+use native.Mathlib.Omega.{arith}
+use lib.ListN.{length, set, replicate, length-set}
+use lib.Seq.{getD-set-same, getD-set-other}
+use Rattle.rules.specs.Lists.{Words}
+use Rattle.rules.specs.Sheet.{at}
+use Rattle.rules.specs.WordLaws.{word-past}
+use Rattle.rules.specs.Pigeonholes.{lt-or}
+use Rattle.rules.specs.SignedTerms.{SignedSol}
+use Rattle.table.specs.declared.Row.{Row}
+use Rattle.clash.specs.Meaning.{means, Records, Meaning}
+use Rattle.clash.specs.Refs.{Alike}
+use Rattle.clash.specs.Links.{Linked, Finds}
+use Rattle.clash.specs.Children.{Gathers}
+use Rattle.clash.specs.Sizes.{size, size-same, child-smaller, size-mod}
+
+-- x is the root of t, along links and by its type parameter.
+pub record Roots (s ps ls : Words) (t x : ℕ) : Type 0 where
+  pub same : (m : SignedSol) → Records s ps m → Linked s m ls → means s m t ≡ means s m x
+
+pub roots-found : (s ps ls : Words) (t y : ℕ) → Finds ls t y → Roots s ps ls t y
+roots-found s ps ls t y f = record { same = λ m w l. f .at s m l }
+
+pub roots-param : (s ps ls : Words) (t y p x : ℕ) → Finds ls t y → Alike s ps y p → Finds ls p x → Roots s ps ls t x
+roots-param s ps ls t y p x f a g = record { same = λ m w l. f .at s m l ∙ a .at m w ∙ g .at s m l }
+
+-- Type t is smaller than every open ref, one that is marked 1.
+pub record Below (m : SignedSol) (ms : Words) (t : ℕ) : Type 0 where
+  pub less : (y : ℕ) → at ms (y % 512) ≡ 1 → size m (t / 2) < size m y
+
+-- What is open in us was open in ms.
+pub record Kept (ms us : Words) : Type 0 where
+  pub was : (y : ℕ) → at us y ≡ 1 → at ms y ≡ 1
+
+pub kept-same : (ms : Words) → Kept ms ms
+kept-same ms = record { was = λ y e. e }
+
+kept-below : (m : SignedSol) (ms us : Words) (t : ℕ) → Kept ms us → Below m ms t → Below m us t
+kept-below m ms us t k b = record { less = λ y e. b .less y (k .was (y % 512) e) }
+
+-- A walk down from t. true: nothing gives meanings in which t is smaller than every open ref.
+pub record Within (s ps ws ls ms : Words) (t : ℕ) (us : Words) (b : Bool) : Type 0 where
+  pub cycle : b ≡ true → (m : SignedSol) → Meaning s ps ws m → Linked s m ls → Below m ms t → ⊥
+  pub kept : b ≡ false → Kept ms us
+
+-- A walk down from the first n of ns.
+pub record Among (s ps ws ls ms : Words) (n : ℕ) (ns us : Words) (b : Bool) : Type 0 where
+  pub cycle : b ≡ true → (m : SignedSol) → Meaning s ps ws m → Linked s m ls → ((j : ℕ) → j < n → Below m ms (at ns j)) → ⊥
+  pub kept : b ≡ false → Kept ms us
+
+not-false : true ≡ false → ⊥
+not-false e = let z : _≡_ {A = ℕ} 0 1 = cc in omega arith
+
+not-true : false ≡ true → ⊥
+not-true e = let z : _≡_ {A = ℕ} 0 1 = cc in omega arith
+
+-- Marks are read and written modulo 512.
+pub mark-read : (ms : Words) (x w k : ℕ) → w ≡ x % 512 → k ≡ at ms w → k ≡ at ms (x % 512)
+mark-read ms x w k e q = q ∙ ap (at ms) e
+
+pub mark-set : (ms : Words) (x w k : ℕ) → w ≡ x % 512 → set ms w k ≡ set ms (x % 512) k
+mark-set ms x w k e = ap (λ v. set ms v k) e
+
+-- What is open after place x is marked k.
+newly : (ms : Words) (x k y : ℕ) → at (set ms x k) y ≡ 1 → ((y ≡ x) × (k ≡ 1)) ⊎ ((y ≢ x) × (at ms y ≡ 1))
+newly ms x k y e = elim (ℕ-discrete y x) [
+  | no d ↦ inr (d, sym (getD-set-other ms x y k 0 d) ∙ e)
+  | yes d ↦ ⊎-elim
+      (λ h. inl (d, sym (getD-set-same ms x k 0 h) ∙ ap (at (set ms x k)) (sym d) ∙ e))
+      (λ h. absurd (zero-not (word-past (set ms x k) x (omega (arith, length-set ms x k)) ∙ ap (at (set ms x k)) (sym d) ∙ e)))
+      (lt-or x (length ms))
+]
+  where
+    zero-not : _≡_ {A = ℕ} 0 1 → ⊥
+    zero-not q = omega arith
+
+pub within-not : (s ps ws ls ms : Words) (t : ℕ) → Within s ps ws ls ms t ms false
+within-not s ps ws ls ms t = record { cycle = λ e. absurd (not-true e); kept = λ e. kept-same ms }
+
+-- Its root is open.
+pub within-open : (s ps ws ls ms : Words) (t x k : ℕ) → Roots s ps ls t x → k ≡ at ms (x / 2 % 512) → k ≡ 1 → Within s ps ws ls ms t ms true
+within-open s ps ws ls ms t x k r e q = record {
+  cycle = λ y m w l b. omega (arith, b .less (x / 2) (sym e ∙ q), size-same s m t x (r .same m (w .records) l));
+  kept = λ y. absurd (not-false y);
+}
+
+-- Its root x is opened.
+module _ (s ps ws ls ms : Words) (t x : ℕ) (o : Row) (r : Roots s ps ls t x) (g : Gathers s ps ws (x / 2) o) (z : o .n ≢ 9) (ns : Words) (en : ns ≡ set ms (x / 2 % 512) 1) (us : Words) (b : Bool) (a : Among s ps ws ls ns (o .n) (o .types) us b) where
+  children-below : (m : SignedSol) → Meaning s ps ws m → Linked s m ls → Below m ms t → (j : ℕ) → j < o .n → Below m ns (at (o .types) j)
+  children-below m w l c j h = record { less = λ y e. one y (newly ms (x / 2 % 512) 1 (y % 512) (sym (ap (λ (us′ : Words). at us′ (y % 512)) en) ∙ e)) }
+    where
+      small : size m (at (o .types) j / 2) < size m (x / 2)
+      small = child-smaller s ps ws m (x / 2) o g z w j h
+
+      one : (y : ℕ) → ((y % 512 ≡ x / 2 % 512) × (_≡_ {A = ℕ} 1 1)) ⊎ ((y % 512 ≢ x / 2 % 512) × (at ms (y % 512) ≡ 1)) → size m (at (o .types) j / 2) < size m y
+      one y (inl p) = omega (arith, small, size-mod m y (x / 2) (p .0))
+      one y (inr p) = omega (arith, small, c .less y (p .1), size-same s m t x (r .same m (w .records) l))
+
+  pub within-found : b ≡ true → Within s ps ws ls ms t us true
+  within-found e = record {
+    cycle = λ y m w l c. a .cycle e m w l (children-below m w l c);
+    kept = λ y. absurd (not-false y);
+  }
+
+  pub within-done : b ≡ false → (vs : Words) → vs ≡ set us (x / 2 % 512) 2 → Within s ps ws ls ms t vs false
+  within-done e vs ev = record {
+    cycle = λ y. absurd (not-true y);
+    kept = λ y. record { was = λ v q. late v (newly us (x / 2 % 512) 2 v (sym (ap (λ (us′ : Words). at us′ v) ev) ∙ q)) };
+  }
+    where
+      early : (v : ℕ) → v ≢ x / 2 % 512 → ((v ≡ x / 2 % 512) × (_≡_ {A = ℕ} 1 1)) ⊎ ((v ≢ x / 2 % 512) × (at ms v ≡ 1)) → at ms v ≡ 1
+      early v d (inl p) = absurd (d (p .0))
+      early v d (inr p) = p .1
+
+      late : (v : ℕ) → ((v ≡ x / 2 % 512) × (_≡_ {A = ℕ} 2 1)) ⊎ ((v ≢ x / 2 % 512) × (at us v ≡ 1)) → at ms v ≡ 1
+      late v (inl p) = absurd (let q = p .1 in omega arith)
+      late v (inr p) = early v (p .0) (newly ms (x / 2 % 512) 1 v (sym (ap (λ (us′ : Words). at us′ v) en) ∙ a .kept e .was v (p .1)))
+
+-- Those of a row in turn.
+module _ (s ps ws ls ms : Words) (n : ℕ) (xs ns : Words) (k : Kept ms ns) where
+  pub among-end : Among s ps ws ls ms n xs ns false
+  among-end = record { cycle = λ e. absurd (not-true e); kept = λ e. k }
+
+  pub among-found : (j : ℕ) (us : Words) (b : Bool) → j < n → Within s ps ws ls ns (at xs j) us b → b ≡ true → Among s ps ws ls ms n xs us true
+  among-found j us b h w e = record {
+    cycle = λ y m v l c. w .cycle e m v l (kept-below m ms ns (at xs j) k (c j h));
+    kept = λ y. absurd (not-false y);
+  }
+
+pub kept-on : (s ps ws ls ms ns : Words) (t : ℕ) (us : Words) (b : Bool) → Kept ms ns → Within s ps ws ls ns t us b → b ≡ false → Kept ms us
+kept-on s ps ws ls ms ns t us b k w e = record { was = λ y q. k .was y (w .kept e .was y q) }
+
+-- true: nothing gives meanings in which links are true.
+pub record Cyclic (s ps ws ls : Words) (b : Bool) : Type 0 where
+  pub cycle : b ≡ true → (m : SignedSol) → Meaning s ps ws m → Linked s m ls → ⊥
+
+pub cyclic-not : (s ps ws ls : Words) → Cyclic s ps ws ls false
+cyclic-not s ps ws ls = record { cycle = λ e. absurd (not-true e) }
+
+blank : (n y : ℕ) → at (replicate n 0) y ≡ 1 → ⊥
+blank zero y e = omega arith
+blank (suc n) zero e = omega arith
+blank (suc n) (suc y) e = blank n y e
+
+-- At the start no ref is open.
+pub cyclic-found : (s ps ws ls : Words) (n : ℕ) (ms : Words) (t : ℕ) (us : Words) (b : Bool) → Kept (replicate n 0) ms → Within s ps ws ls ms t us b → b ≡ true → Cyclic s ps ws ls true
+cyclic-found s ps ws ls n ms t us b k w e = record { cycle = λ y m v l. w .cycle e m v l (record { less = λ x q. absurd (blank n (x % 512) (k .was (x % 512) q)) }) }

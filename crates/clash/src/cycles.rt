@@ -1,0 +1,142 @@
+// Whether a class of types would contain itself, by its links: a type is larger than its children, so that nothing is such a type. Where none is found nothing is said.
+// A walk from each unknown and type parameter that is linked goes down by classes; `marks` has for each ref 0, 1 on the way down to where the walk is, and 2 once it is done.
+ghost use mathlib.Core.Path.{_≡_};
+ghost use Prim.Native.Nat.{_*_, _%_, _<_, _≤_};
+ghost use lib.ListN.{set};
+ghost use Rattle.rules.specs.Sheet.{at};
+ghost use Rattle.table.specs.Packing.{Packed};
+ghost use Rattle.clash.specs.Cycles.{Roots, Within, Among, Cyclic};
+use crate::UNTOLD;
+use crate::children;
+use crate::find;
+use crate::kind;
+use crate::parameter;
+use table::Row;
+
+const OPEN: u32 = 1;
+
+const DONE: u32 = 2;
+
+// The mark of a ref.
+fn mark_of(marks: &[u32; 512], r: u32) -> u32
+    ensures { λ k. ⌜ k ≡ at (now (marks .entry)) (r % 512) ⌝ }
+{
+    marks[words::wide(r % 512)]
+}
+
+// Marks a ref.
+fn mark(marks: &mut [u32; 512], r: u32, k: u32)
+    ensures { λ _. ⌜ now (marks .exit) ≡ set (now (marks .entry)) (r % 512) k ⌝ }
+{
+    marks[words::wide(r % 512)] = k;
+}
+
+// The type of a root that a type is; of a Param of the signature, that its type parameter is.
+fn root(sheet: &[u32], places: &[u32], links: &[u32; 512], t: u32) -> u32
+    ensures { λ x. ⌜ Roots (now (sheet .entry)) (now (places .entry)) (now (links .entry)) t x ⌝ }
+{
+    let y = find(links, t);
+    let p = parameter(sheet, places, y);
+    if p == y {
+        return y;
+    }
+    find(links, p)
+}
+
+// Whether the class of a type is open, or one within it is, at most `left` deep.
+fn within(
+    sheet: &[u32],
+    places: &[u32],
+    ws: &[u32],
+    links: &[u32; 512],
+    marks: &mut [u32; 512],
+    t: u32,
+    left: usize,
+) -> bool
+    requires { ⌜ Packed (now ws) ⌝ }
+    ensures { λ r. ⌜ Within (now (sheet .entry)) (now (places .entry)) (now (ws .entry)) (now (links .entry)) (now (marks .entry)) t (now (marks .exit)) r ⌝ }
+{
+    let x = root(sheet, places, links, t);
+    let k = mark_of(marks, x / 2);
+    if k == OPEN {
+        return true;
+    }
+    if k == DONE {
+        return false;
+    }
+    if left == 0 {
+        return false;
+    }
+    let row = children(sheet, places, ws, x / 2);
+    if row.n == UNTOLD {
+        return false;
+    }
+    mark(marks, x / 2, OPEN);
+    if among(sheet, places, ws, links, marks, row, left - 1) {
+        return true;
+    }
+    mark(marks, x / 2, DONE);
+    false
+}
+
+// Whether one of a row is.
+fn among(
+    sheet: &[u32],
+    places: &[u32],
+    ws: &[u32],
+    links: &[u32; 512],
+    marks: &mut [u32; 512],
+    row: Row,
+    left: usize,
+) -> bool
+    requires { ⌜ Packed (now ws) ⌝ }
+    requires { ⌜ row .n ≤ 8 ⌝ }
+    ensures { λ r. ⌜ Among (now (sheet .entry)) (now (places .entry)) (now (ws .entry)) (now (links .entry)) (now (marks .entry)) (row .n) (row .types) (now (marks .exit)) r ⌝ }
+{
+    let mut j: usize = 0;
+    while j < row.n {
+        if within(sheet, places, ws, links, marks, row.types[j], left) {
+            return true;
+        }
+        j += 1;
+    }
+    false
+}
+
+// `within`, from a ref that is linked, if it is an unknown or a type parameter: every cycle goes through one.
+fn within_linked(
+    sheet: &[u32],
+    places: &[u32],
+    ws: &[u32],
+    links: &[u32; 512],
+    marks: &mut [u32; 512],
+    r: u32,
+) -> bool
+    requires { ⌜ Packed (now ws) ⌝ }
+    requires { ⌜ r < 512 ⌝ }
+    ensures { λ b. ⌜ Within (now (sheet .entry)) (now (places .entry)) (now (ws .entry)) (now (links .entry)) (now (marks .entry)) (2 * r) (now (marks .exit)) b ⌝ }
+{
+    if kind(sheet, places, ws, r) != 0 {
+        return false;
+    }
+    within(sheet, places, ws, links, marks, 2 * r, 512)
+}
+
+// Whether a class contains itself.
+pub fn cyclic(sheet: &[u32], places: &[u32], ws: &[u32], links: &[u32; 512]) -> bool
+    requires { ⌜ Packed (now ws) ⌝ }
+    ensures { λ r. ⌜ Cyclic (now (sheet .entry)) (now (places .entry)) (now (ws .entry)) (now (links .entry)) r ⌝ }
+{
+    let mut marks = [0u32; 512];
+    let mut next: u32 = 0;
+    while next < 512 {
+        let r = next;
+        next += 1;
+        if links[words::wide(r)] != 0 {
+            if within_linked(sheet, places, ws, links, &mut marks, r) {
+                return true;
+            }
+        }
+    }
+    false
+}
