@@ -204,8 +204,17 @@ fn meetings() -> Vec<(&'static str, Search)> {
     ("towers of 72 nodes that differ at the bottom", Search { meeting: Bottom, dense: 72, ..base }),
     ("the same, an unknown at the bottom bound late", Search { meeting: Bound, dense: 72, ..base }),
     (
+      "types of 110 nodes alike, and one inverted",
+      Search { meeting: Mirrored, dense: 110, ..base },
+    ),
+    ("types of 110 nodes alike, and one in itself", Search { meeting: Within, dense: 110, ..base }),
+    (
       "84 unknowns meet a type of 110 nodes",
       Search { meeting: Unknowns, dense: 110, links: 12, ..base },
+    ),
+    (
+      "the same in impl parameters of the generics",
+      Search { meeting: Unknowns, dense: 110, links: 12, params: true, ..base },
     ),
     (
       "a type of 90 Tuples meets its inverse, 315 times",

@@ -30,7 +30,7 @@ impl Default for Options {
   fn default() -> Self {
     Options {
       limit: rust::STEPS_LIMIT,
-      work: 724_330,
+      work: 662_794,
       limits: false,
       model: false,
       tell_most: false,

@@ -221,7 +221,7 @@ fn meaning(number: u32) -> &'static str {
     1 => "the sheet has under 16 or over 4,096 words",
     2 => "the question has under 3 or over 1,024 words",
     3 => "the answer buffer has under 10,240 words",
-    4 => "the workspace has under 724,330 words",
+    4 => "the workspace has under 662,794 words",
     5 => "the start count is over 1,000,000",
     6 => "the sheet's edition is not 1",
     7 => "a head or next of the sheet breaks the chain rule, or a record passes its end",

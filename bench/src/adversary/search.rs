@@ -22,6 +22,10 @@ pub enum Meeting {
   Bottom,
   /// Two types of one shape, an unknown in place of the last node of one: what it is bound to fails at the end.
   Bound,
+  /// Two types of one shape, and an argument that is inverted: there it fails.
+  Mirrored,
+  /// Two types of one shape, and an unknown that would be within itself.
+  Within,
   /// Unknowns of the candidate, each of which is bound to a dense type.
   Unknowns,
   /// Places where a dense type meets its own inverse.
@@ -42,6 +46,8 @@ pub struct Search {
   pub dense: usize,
   /// Links that are met.
   pub links: usize,
+  /// The question's generics have four impl parameters that fail like the candidates.
+  pub params: bool,
   /// Generics or structs that fill the sheet in front of those that are used.
   pub generics: usize,
   pub structs: usize,
@@ -52,6 +58,11 @@ impl Search {
     let mut sheet = bare(3, self.flex);
     sheet.structs = vec![(0, 1); self.structs + 2];
     sheet.generics.extend(vec![Generics::default(); self.generics]);
+    if self.params {
+      let failing = self.failing(0, 0);
+      let impl_params = vec![failing.query; 4];
+      sheet.generics[0] = Generics { type_params: 1, table: failing.table, impl_params };
+    }
     let recursive = self.recursive(&mut sheet);
     for _ in 0..self.branch {
       bind(&mut sheet, recursive.clone());
@@ -103,16 +114,8 @@ impl Search {
       Meeting::Nothing => (table.add(0, 0, &[]), table.add(0, 0, &[])),
       Meeting::Import => (fails, self.dense(table)),
       Meeting::Alike => (self.dense(table), table.add(0, 0, &[])),
-      Meeting::Bottom | Meeting::Bound => {
-        let last = match self.meeting {
-          Meeting::Bottom => table.add(kind::KEY, 0, &[]),
-          _ => table.add(kind::PARAM, 0, &[]),
-        };
-        let second = if self.meeting == Meeting::Bound { last } else { table.add(0, 0, &[]) };
-        let first = tower(table, self.struct_id(), self.dense, last);
-        let third = table.add(0, 0, &[]);
-        impl_.query = query(table, &[first, second, third], self.flex);
-        return impl_;
+      Meeting::Bottom | Meeting::Bound | Meeting::Mirrored | Meeting::Within => {
+        return self.failing_before(impl_);
       }
       Meeting::Unknowns => {
         let dense = table.add(0, 0, &[]);
@@ -124,6 +127,30 @@ impl Search {
       }
     };
     impl_.query = query(table, &[first, second, fails], self.flex);
+    impl_
+  }
+
+  /// A candidate that fails in its first two arguments, late.
+  fn failing_before(&self, mut impl_: Impl) -> Impl {
+    let table = &mut impl_.table;
+    let [first, second] = match self.meeting {
+      Meeting::Bottom => {
+        let last = table.add(kind::KEY, 0, &[]);
+        [tower(table, self.struct_id(), self.dense, last), table.add(0, 0, &[])]
+      }
+      Meeting::Bound => {
+        let last = table.add(kind::PARAM, 0, &[]);
+        [tower(table, self.struct_id(), self.dense, last), last]
+      }
+      Meeting::Mirrored => [self.dense(table), table.add(kind::ENUM, 0, &[]) + 1],
+      _ => {
+        let within = table.add(0, 0, &[]);
+        let round = table.add(kind::TUPLE, 0, &[within]);
+        [self.dense(table), table.add(kind::TUPLE, 0, &[within, round])]
+      }
+    };
+    let third = table.add(0, 0, &[]);
+    impl_.query = query(table, &[first, second, third], self.flex);
     impl_
   }
 
@@ -140,6 +167,11 @@ impl Search {
     let met = match self.meeting {
       Meeting::Unknowns | Meeting::Inverse => links(table, self.links, |_| [dense; 7]),
       Meeting::Bound => table.add(kind::NEVER, 0, &[]),
+      Meeting::Mirrored => table.add(kind::ENUM, 0, &[]),
+      Meeting::Within => {
+        let unknown = table.add(0, 0, &[]);
+        table.add(kind::TUPLE, 0, &[unknown, unknown])
+      }
       _ => table.add(kind::TUPLE, 0, &[]),
     };
     let leaf = table.add(kind::NEVER, 0, &[]);
@@ -160,6 +192,7 @@ impl Default for Search {
       of_structs: false,
       dense: 1,
       links: 0,
+      params: false,
       generics: 0,
       structs: 0,
     }
@@ -202,7 +235,8 @@ pub fn results(nodes: usize) -> Call {
 pub fn random(rng: &mut Rng) -> Search {
   use Meeting::*;
   let (levels, branch) = rng.pick(&[(2, 44), (3, 12), (3, 13), (4, 7), (5, 5), (6, 4), (10, 2)]);
-  let meeting = rng.pick(&[Nothing, Import, Alike, Bottom, Bound, Unknowns, Inverse]);
+  let meeting =
+    rng.pick(&[Nothing, Import, Alike, Bottom, Bound, Mirrored, Within, Unknowns, Inverse]);
   let of_structs = rng.chance(50);
   let filler = rng.range(0, 400);
   Search {
@@ -213,6 +247,7 @@ pub fn random(rng: &mut Rng) -> Search {
     of_structs,
     dense: rng.range(1, if meeting == Import { 230 } else { 120 }),
     links: rng.range(1, if meeting == Unknowns { 14 } else { 60 }),
+    params: rng.chance(20),
     generics: if of_structs { 0 } else { filler },
     structs: if of_structs { filler } else { 0 },
   }

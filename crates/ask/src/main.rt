@@ -158,6 +158,6 @@ fn serve(ws: &mut [u32]) {
 }
 
 fn main() {
-    let mut ws = [0u32; 724330];
+    let mut ws = [0u32; 662794];
     serve(&mut ws);
 }

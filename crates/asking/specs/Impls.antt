@@ -135,7 +135,7 @@ module _ (s sets q : Words) (f : Finder) (basic count : ℕ) (h : Impls s sets q
   ask-one = searched-one _ searched vs (types-of us) asked answers
       (λ rs e. subst (λ (ts : Types). AllKept ts rs) (ap (λ (y : ImplType × Types). y .1) (x .is)) (impl-kept (finder-of s f) basic q (h .sheet-short) (h .passed) (ltb (f .limit)) (eqb basic 1) count rs _ (λ i. (e i, (within (ltb (f .limit)) (impl-search (finder-of s f) (eqb basic 1) q) count) .1)))) (x .asks)
 
-  pub ask-ends : (buf out : Words) (r c : ℕ) → 724330 ≤ length vs → EndsImpl s (question-types q) (impl-query q) (query-of asked) searched vs buf out r → c ≡ count-of searched → Ends (impl-within (ltb (f .limit)) (finder-of s f) (eqb basic 1) q count) buf out (record { number = r; count = c })
+  pub ask-ends : (buf out : Words) (r c : ℕ) → 662794 ≤ length vs → EndsImpl s (question-types q) (impl-query q) (query-of asked) searched vs buf out r → c ≡ count-of searched → Ends (impl-within (ltb (f .limit)) (finder-of s f) (eqb basic 1) q count) buf out (record { number = r; count = c })
   unfolding impl-within
   ask-ends buf out r c long e k = record {
     closed = ends-call s q (question-types q) (impl-query q) (query-of asked) searched vs buf out r e refl refl (ap (λ (y : ImplType × Types). y .0) (sym (x .is))) vs _ (front-self vs (omega arith)) answers

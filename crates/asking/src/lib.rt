@@ -106,7 +106,7 @@ pub fn ask_impl(
     count: u32,
 ) -> Ended
     requires { ⌜ Impls (now sheet) (now sets) (now question) f basic ⌝ }
-    requires { ⌜ 724330 ≤ length (now ws) ⌝ }
+    requires { ⌜ 662794 ≤ length (now ws) ⌝ }
     requires { ⌜ limit·answer ≤ length (now answer) ⌝ }
     requires { ⌜ count ≤ 1000000 ⌝ }
     ensures { λ r. ⌜ Ends (impl-within (ltb (f .limit)) (finder-of (now (sheet .entry)) f) (eqb basic 1) (now (question .entry)) count) (now (answer .entry)) (now (answer .exit)) r ⌝ }

@@ -122,6 +122,6 @@ fn run_all(ws: &mut [u32]) {
 
 // The workspace is the one that document 01 asks for.
 fn main() {
-    let mut ws = [0u32; 724330];
+    let mut ws = [0u32; 662794];
     run_all(&mut ws);
 }

@@ -175,7 +175,7 @@ flex-passed s q source generics answer work count n h e z = record {
 }
 
 -- The constant.
-pub words-are : 724330 ≡ limit·workspace
+pub words-are : 662794 ≡ limit·workspace
 unfolding limit·workspace
 words-are = refl
 
@@ -199,7 +199,7 @@ module _ (s q : Words) (answer work count : ℕ) (h : Entered s q answer work co
   pub entered-question-short : length q ≤ 4096
   entered-question-short = omega (arith, h .question-short)
 
-  pub entered-work : (k : ℕ) → k ≤ 724330 → k ≤ work
+  pub entered-work : (k : ℕ) → k ≤ 662794 → k ≤ work
   unfolding limit·workspace
   entered-work k l = omega (arith, h .work-is)
 
@@ -209,5 +209,5 @@ module _ (s q : Words) (answer work count : ℕ) (h : Entered s q answer work co
   pub entered-count : count ≤ 1000000
   entered-count = h .count-low
 
-  pub entered-kept : (ws us : Words) → length ws ≡ work → length us ≡ length ws → 724330 ≤ length us
-  entered-kept ws us e d = let h = entered-work 724330 (omega arith) in omega arith
+  pub entered-kept : (ws us : Words) → length ws ≡ work → length us ≡ length ws → 662794 ≤ length us
+  entered-kept ws us e d = let h = entered-work 662794 (omega arith) in omega arith

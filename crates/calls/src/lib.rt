@@ -21,7 +21,7 @@ pub enum Outcome {
 }
 
 // The workspace's words that a call uses, and clears.
-pub const WORKSPACE: usize = 724330;
+pub const WORKSPACE: usize = 662794;
 
 // The step limit.
 const STEPS: u32 = 2000;
@@ -61,7 +61,7 @@ fn impl_with_sets(
     count: u32,
 ) -> Ended
     requires { ⌜ ImplPassed (now sheet) (now question) source generics basic ⌝ }
-    requires { ⌜ 724330 ≤ length (now ws) ⌝ }
+    requires { ⌜ 662794 ≤ length (now ws) ⌝ }
     requires { ⌜ limit·answer ≤ length (now answer) ⌝ }
     requires { ⌜ count ≤ 1000000 ⌝ }
     ensures { λ r. ⌜ Ends (impl-within (ltb limit·steps) (finder (now (sheet .entry)) source generics) (eqb basic 1) (now (question .entry)) count) (now (answer .entry)) (now (answer .exit)) r ⌝ }
@@ -135,7 +135,7 @@ fn flex_with_sets(
     count: u32,
 ) -> Ended
     requires { ⌜ FlexPassed (now sheet) (now question) source generics ⌝ }
-    requires { ⌜ 724330 ≤ length (now ws) ⌝ }
+    requires { ⌜ 662794 ≤ length (now ws) ⌝ }
     requires { ⌜ limit·answer ≤ length (now answer) ⌝ }
     requires { ⌜ count ≤ 1000000 ⌝ }
     ensures { λ r. ⌜ Ends (flex-within (ltb limit·steps) (finder (now (sheet .entry)) source generics) (now (question .entry)) count) (now (answer .entry)) (now (answer .exit)) r ⌝ }
@@ -258,5 +258,5 @@ pub extern "C" fn vine_find_flex(
 pub extern "C" fn vine_workspace_words() -> u32
     ensures { λ r. ⌜ r ≡ limit·workspace ⌝ }
 {
-    724330
+    662794
 }

@@ -150,7 +150,7 @@ fn run(k: usize, ws: &mut [u32]) {
 
 // The workspace is the one that document 01 asks for.
 fn main() {
-    let mut ws = [0u32; 724330];
+    let mut ws = [0u32; 662794];
     run(1, &mut ws);
     run(2, &mut ws);
     run(3, &mut ws);

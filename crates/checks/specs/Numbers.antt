@@ -121,11 +121,11 @@ module _ (s : Words) where
           past-3 : number (entry s q answer work c) ≡ number ((4, ltb work limit·workspace) ∷ (5, ltb limit·count c) ∷ [])
           past-3 = past-2 ∙ number-past 3 _ _ (le-ltb answer limit·answer k)
 
-          pub work-short : work < 724330 → 4 ≡ number (entry s q answer work c)
+          pub work-short : work < 662794 → 4 ≡ number (entry s q answer work c)
           unfolding limit·workspace
           work-short h = number-here 4 _ _ (lt-ltb work limit·workspace h) ∙ sym past-3
 
-          module _ (w : 724330 ≤ work) where
+          module _ (w : 662794 ≤ work) where
             past-4 : number (entry s q answer work c) ≡ number ((5, ltb limit·count c) ∷ [])
             unfolding limit·workspace
             past-4 = past-3 ∙ number-past 4 _ _ (le-ltb work limit·workspace w)

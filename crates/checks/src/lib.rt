@@ -21,7 +21,7 @@ pub const QUESTION: usize = 1024;
 
 pub const ANSWER: usize = 10240;
 
-pub const WORKSPACE: usize = 724330;
+pub const WORKSPACE: usize = 662794;
 
 pub const COUNT: u32 = 1000000;
 

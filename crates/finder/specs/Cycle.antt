@@ -205,25 +205,25 @@ pub record ElementAt (ws : Words) (a : ℕ) (qs : Queries) (from : ℕ) : Type 0
   pub few : qs .n ≤ 4
   pub counts : (k : ℕ) → getD (qs .counts) k 0 ≤ 4
 
--- m of them in slots 6 to 9.
+-- m of them in slots 5 to 8.
 pub record Elements (ws : Words) (m : ℕ) (qs : Queries) (from : ℕ) : Type 0 where
   pub all : List Result
   pub size : length all ≡ m
-  pub there : Slots ws 7692 all
+  pub there : Slots ws 6410 all
   pub for : Every (Ready-for qs from) all
   pub few : qs .n ≤ 4
   pub counts : (k : ℕ) → getD (qs .counts) k 0 ≤ 4
 
 -- What each gives is collected.
 pub record Collects (L : ℕ) (f : Result → Run (List Result)) (m count : ℕ) (ws : Words) (r : Asked) (out : Words) : Type 0 where
-  pub at : (all : List Result) → length all ≡ m → Slots ws 7692 all → Every One all → Answers (within (ltb L) (collect f all []) count) r out
+  pub at : (all : List Result) → length all ≡ m → Slots ws 6410 all → Every One all → Answers (within (ltb L) (collect f all []) count) r out
 
 -- k of them are done.
 pub record Collecting (L : ℕ) (f : Result → Run (List Result)) (m count : ℕ) (qs : Queries) (from : ℕ) (ws₀ ws : Words) (k n c : ℕ) : Type 0 where
   pub long : length ws ≡ length ws₀
   pub first : Elements ws₀ m qs from
   pub elements : Elements ws m qs from
-  pub at : (all : List Result) → length all ≡ m → Slots ws₀ 7692 all → Every One all → Resting L (within (ltb L) (collect f all []) count) f m k ws n c
+  pub at : (all : List Result) → length all ≡ m → Slots ws₀ 6410 all → Every One all → Resting L (within (ltb L) (collect f all []) count) f m k ws n c
 
 pub collecting-start : (L : ℕ) (f : Result → Run (List Result)) (m count : ℕ) (qs : Queries) (from : ℕ) (ws : Words) → count ≤ 4000000000 → Elements ws m qs from → Collecting L f m count qs from ws ws 0 0 count
 collecting-start L f m count qs from ws low e = record {
@@ -251,7 +251,7 @@ module _ (L : ℕ) (f : Result → Run (List Result)) (m count : ℕ) (qs : Quer
   every-get P (r ∷ rs) zero d h l = h .0
   every-get P (r ∷ rs) (suc j) d h l = every-get P rs j d (h .1) (omega arith)
 
-  pub collecting-element : k < m → ElementAt ws (7692 + 1282 * k) qs from
+  pub collecting-element : k < m → ElementAt ws (6410 + 1282 * k) qs from
   collecting-element h =
       let e = g .elements in
       record {
@@ -270,7 +270,7 @@ module _ (L : ℕ) (f : Result → Run (List Result)) (m count : ℕ) (qs : Quer
       elements = let x = g .elements in record {
         all = x .all;
         size = x .size;
-        there = slots-kept ws out 7692 (x .all) (s .keeps .len) (λ i p q. s .keeps .at i (omega arith) (omega (arith, x .size))) (x .there);
+        there = slots-kept ws out 6410 (x .all) (s .keeps .len) (λ i p q. s .keeps .at i (omega arith) (omega (arith, x .size))) (x .there);
         for = x .for;
         few = x .few;
         counts = x .counts;
@@ -284,17 +284,17 @@ module _ (L : ℕ) (f : Result → Run (List Result)) (m count : ℕ) (qs : Quer
   pub collecting-end : m ≤ k → Collects L f m count ws₀ (Found c n) ws
   collecting-end h = record { at = λ all p t o. rest-end L _ f m k ws n c (g .at all p t o) h }
 
--- A result's table, copied to slot 10, with the sub-questions that are left.
+-- A result's table, copied to slot 9, with the sub-questions that are left.
 pub element-filled : (ws : Words) (a : ℕ) (qs : Queries) (from : ℕ) → ElementAt ws a qs from → Packed (drop a ws)
 element-filled ws a qs from e = e .slot .table .packed
 
 pub element-of : (ws : Words) (a : ℕ) (qs : Queries) (from : ℕ) → ElementAt ws a qs from → Element ws a
 element-of ws a qs from e = record { result = e .result; slot = e .slot; one = e .for .one }
 
-pub element-tail : (ws us : Words) (a : ℕ) (qs : Queries) (from : ℕ) → ElementAt ws a qs from → Written ws us 12820 (types-of (drop a ws), end) → Tail (part 12820 us) qs from
+pub element-tail : (ws us : Words) (a : ℕ) (qs : Queries) (from : ℕ) → ElementAt ws a qs from → Written ws us 11538 (types-of (drop a ws), end) → Tail (part 11538 us) qs from
 element-tail ws us a qs from e w =
-    let t = part-table 12820 us (types-of (drop a ws)) (w .slot .table) in
-    let same : types-of (part 12820 us) ≡ e .result .0 = t .is ∙ e .slot .table .is in
+    let t = part-table 11538 us (types-of (drop a ws)) (w .slot .table) in
+    let same : types-of (part 11538 us) ≡ e .result .0 = t .is ∙ e .slot .table .is in
     record {
       packed = t .packed;
       neat = subst Neat (sym same) (e .for .neat);
@@ -314,10 +314,10 @@ sub-last L d a ws out qs from count r h w = answers-same _ _ r out (ap (λ (m : 
     one : drop from (queries-of qs) ≡ query-of (query-in qs from) ∷ []
     one = queries-next qs from (omega arith) ∙ ap (λ (l : List ImplType). query-of (query-in qs from) ∷ l) (queries-none qs (from + 1) (omega arith))
 
--- The first of more, asked of a copy of the table in slot 5.
-pub first-asking : (ws us : Words) (qs : Queries) (from : ℕ) → Tail ws qs from → from < qs .n → Written ws us 6410 (types-of ws, end) → Asking (part 6410 us) (query-in qs from)
+-- The first of more, asked of a copy of the table in slot 4.
+pub first-asking : (ws us : Words) (qs : Queries) (from : ℕ) → Tail ws qs from → from < qs .n → Written ws us 5128 (types-of ws, end) → Asking (part 5128 us) (query-in qs from)
 first-asking ws us qs from t h w =
-    let x = part-table 6410 us (types-of ws) (w .slot .table) in
+    let x = part-table 5128 us (types-of ws) (w .slot .table) in
     record {
       packed = x .packed;
       neat = subst Neat (sym (x .is)) (t .neat);
@@ -325,13 +325,13 @@ first-asking ws us qs from t h w =
       few = t .counts from;
     }
 
-module _ (L d : ℕ) (a : rules.Finder) (sound : Sound a) (ws us ys back : Words) (qs : Queries) (from count : ℕ) (first : Asked) (t : Tail ws qs from) (h : from < qs .n) (room : 12820 ≤ length ws)
-    (copied : Written ws us 6410 (types-of ws, end)) (w : Answers (within (ltb L) (question d a false (types-of (part 6410 us)) (query-of (query-in qs from))) count) first ys) (l : Lent 6410 us ys back) where
+module _ (L d : ℕ) (a : rules.Finder) (sound : Sound a) (ws us ys back : Words) (qs : Queries) (from count : ℕ) (first : Asked) (t : Tail ws qs from) (h : from < qs .n) (room : 11538 ≤ length ws)
+    (copied : Written ws us 5128 (types-of ws, end)) (w : Answers (within (ltb L) (question d a false (types-of (part 5128 us)) (query-of (query-in qs from))) count) first ys) (l : Lent 5128 us ys back) where
   abbrev q : ImplType
   q = query-of (query-in qs from)
 
-  same : types-of (part 6410 us) ≡ types-of ws
-  same = part-table 6410 us (types-of ws) (copied .slot .table) .is
+  same : types-of (part 5128 us) ≡ types-of ws
+  same = part-table 5128 us (types-of ws) (copied .slot .table) .is
 
   asked : Answers (within (ltb L) (question d a false (types-of ws) q) count) first ys
   asked = subst (λ (ts : Types). Answers (within (ltb L) (question d a false ts q) count) first ys) same w
@@ -368,8 +368,8 @@ module _ (L d : ℕ) (a : rules.Finder) (sound : Sound a) (ws us ys back : Words
       ready rs (o .1) (k .1),
     )
 
-    stands : Slots back 7692 (g .results)
-    stands = slots-back 6410 1282 us ys back (g .results) l (omega (arith, g .size, g .few, copied .len)) (g .stand)
+    stands : Slots back 6410 (g .results)
+    stands = slots-back 5128 1282 us ys back (g .results) l (omega (arith, g .size, g .few, copied .len)) (g .stand)
 
     pub sub-low : c ≤ 4000000000
     sub-low = g .low
@@ -407,7 +407,7 @@ module _ (s ws us : Words) (q : ImplType) (i : ℕ) (qs : Queries) (o : Opens s 
     pub opened-few : qs .n ≤ 4
     opened-few = opened-tail .few
 
-    pub opened-part : (d : ℕ) → 44870 * d + 51280 ≤ length ws → 44870 * d + 6410 + 12820 * (qs .n - 0 - 1) ≤ length (part 6410 us)
+    pub opened-part : (d : ℕ) → 41024 * d + 47434 ≤ length ws → 41024 * d + 6410 + 11538 * (qs .n - 0 - 1) ≤ length (part 6410 us)
     opened-part d h = omega (arith, part-length 6410 us, o .opened .len, opened-few)
 
     module _ (L cur : ℕ) (ask : Types → ImplType → Run (List Result)) (ys : Words) (asked : Asked) (room : 12820 ≤ length ws) (w : Answers (within (ltb L) (find-subimpls ask (types-of (part 6410 us)) (drop 0 (queries-of qs))) cur) asked ys) (l : length ys ≡ length (part 6410 us)) where
@@ -424,39 +424,39 @@ module _ (s ws us : Words) (q : ImplType) (i : ℕ) (qs : Queries) (o : Opens s 
       opened-steps n r out few t = candidate-steps L n cur i ask (queries-of qs) ws us ys _ out asked r few room (o .opened) w back _ (o .asks full unfit ask) t
 
 -- A result once its table is copied, and those that are left are asked of it.
-module _ (L cur k : ℕ) (ask : Types → ImplType → Run (List Result)) (ws us : Words) (qs : Queries) (from : ℕ) (e : ElementAt ws (7692 + 1282 * k) qs from) (below : k < 4) (room : 19230 ≤ length ws)
-    (c : Written ws us 12820 (types-of (drop (7692 + 1282 * k) ws), end)) (ys : Words) (asked : Asked) (w : Answers (within (ltb L) (find-subimpls ask (types-of (part 12820 us)) (drop from (queries-of qs))) cur) asked ys) (l : length ys ≡ length (part 12820 us)) where
-  returned : Lent 12820 us ys (putMid 12820 (length us - 12820) us ys)
-  returned = lent 12820 us ys (omega (arith, c .len)) l
+module _ (L cur k : ℕ) (ask : Types → ImplType → Run (List Result)) (ws us : Words) (qs : Queries) (from : ℕ) (e : ElementAt ws (6410 + 1282 * k) qs from) (below : k < 4) (room : 17948 ≤ length ws)
+    (c : Written ws us 11538 (types-of (drop (6410 + 1282 * k) ws), end)) (ys : Words) (asked : Asked) (w : Answers (within (ltb L) (find-subimpls ask (types-of (part 11538 us)) (drop from (queries-of qs))) cur) asked ys) (l : length ys ≡ length (part 11538 us)) where
+  returned : Lent 11538 us ys (putMid 11538 (length us - 11538) us ys)
+  returned = lent 11538 us ys (omega (arith, c .len)) l
 
-  pub rest-long : length (putMid 12820 (length us - 12820) us ys) ≡ length ws
+  pub rest-long : length (putMid 11538 (length us - 11538) us ys) ≡ length ws
   rest-long = returned .long ∙ c .len
 
-  pub rest-element : Element (putMid 12820 (length us - 12820) us ys) (7692 + 1282 * k)
-  rest-element = result-element L 0 cur k ask (drop from (queries-of qs)) ws us ys _ us asked asked (omega arith) below room c w returned (element-of ws (7692 + 1282 * k) qs from e)
+  pub rest-element : Element (putMid 11538 (length us - 11538) us ys) (6410 + 1282 * k)
+  rest-element = result-element L 0 cur k ask (drop from (queries-of qs)) ws us ys _ us asked asked (omega arith) below room c w returned (element-of ws (6410 + 1282 * k) qs from e)
 
-  pub rest-sub : Sub (putMid 12820 (length us - 12820) us ys) 14102 asked
+  pub rest-sub : Sub (putMid 11538 (length us - 11538) us ys) 12820 asked
   rest-sub = result-sub L 0 cur k ask (drop from (queries-of qs)) ws us ys _ us asked asked (omega arith) below room c w returned
 
-  pub rest-steps : (n : ℕ) (r : Asked) (out : Words) → n ≤ 4 → JoinSettles (putMid 12820 (length us - 12820) us ys) out n (7692 + 1282 * k) 14102 asked r → ResultStep L (sub-one ask (drop from (queries-of qs))) k n cur ws r out
-  rest-steps n r out few j = result-steps L n cur k ask (drop from (queries-of qs)) ws us ys _ out asked r few below room c w returned (element-of ws (7692 + 1282 * k) qs from e) j
+  pub rest-steps : (n : ℕ) (r : Asked) (out : Words) → n ≤ 4 → JoinSettles (putMid 11538 (length us - 11538) us ys) out n (6410 + 1282 * k) 12820 asked r → ResultStep L (sub-one ask (drop from (queries-of qs))) k n cur ws r out
+  rest-steps n r out few j = result-steps L n cur k ask (drop from (queries-of qs)) ws us ys _ out asked r few below room c w returned (element-of ws (6410 + 1282 * k) qs from e) j
 
 -- Slots that lie apart.
-pub beside-rest : (k : ℕ) → k < 4 → Beside (7692 + 1282 * k) 12820
+pub beside-rest : (k : ℕ) → k < 4 → Beside (6410 + 1282 * k) 11538
 beside-rest k h = record { either = inl (omega arith) }
 
-pub beside-sub : Beside 0 6410
+pub beside-sub : Beside 0 5128
 beside-sub = record { either = inl (omega arith) }
 
 -- Room in the parts that are lent.
-pub rest-part : (ws us : Words) (a d l : ℕ) → 44870 * d + 6410 + 12820 * l ≤ length ws → 0 < l → Written ws us 12820 (types-of (drop a ws), end) → 44870 * d + 6410 + 12820 * (l - 1) ≤ length (part 12820 us)
-rest-part ws us a d l h p w = omega (arith, part-length 12820 us, w .len)
+pub rest-part : (ws us : Words) (a d l : ℕ) → 41024 * d + 6410 + 11538 * l ≤ length ws → 0 < l → Written ws us 11538 (types-of (drop a ws), end) → 41024 * d + 6410 + 11538 * (l - 1) ≤ length (part 11538 us)
+rest-part ws us a d l h p w = omega (arith, part-length 11538 us, w .len)
 
-pub first-part : (ws us : Words) (d l : ℕ) → 44870 * d + 6410 + 12820 * l ≤ length ws → 0 < l → Written ws us 6410 (types-of ws, end) → 44870 * d + 6410 ≤ length (part 6410 us)
-first-part ws us d l h p w = omega (arith, part-length 6410 us, w .len)
+pub first-part : (ws us : Words) (d l : ℕ) → 41024 * d + 6410 + 11538 * l ≤ length ws → 0 < l → Written ws us 5128 (types-of ws, end) → 41024 * d + 6410 ≤ length (part 5128 us)
+first-part ws us d l h p w = omega (arith, part-length 5128 us, w .len)
 
-pub sub-long : (ws us ys : Words) → Written ws us 6410 (types-of ws, end) → 12820 ≤ length ws → length ys ≡ length (part 6410 us) → length (putMid 6410 (length us - 6410) us ys) ≡ length ws
-sub-long ws us ys w h e = lent 6410 us ys (omega (arith, w .len)) e .long ∙ w .len
+pub sub-long : (ws us ys : Words) → Written ws us 5128 (types-of ws, end) → 11538 ≤ length ws → length ys ≡ length (part 5128 us) → length (putMid 5128 (length us - 5128) us ys) ≡ length ws
+sub-long ws us ys w h e = lent 5128 us ys (omega (arith, w .len)) e .long ∙ w .len
 
 -- The same of a sub-question that was read.
 pub tail-asked : (ws : Words) (qs : Queries) (from : ℕ) (q : Query) → Tail ws qs from → q ≡ query-in qs from → qs .n ≡ from + 1 → Asking ws q
@@ -466,18 +466,18 @@ pub sub-last-of : (L d : ℕ) (a : rules.Finder) (ws out : Words) (qs : Queries)
     Answers (within (ltb L) (find-subimpls (ask-below d a) (types-of ws) (drop from (queries-of qs))) count) r out
 sub-last-of L d a ws out qs from count q r h e w = sub-last L d a ws out qs from count r h (subst (λ (p : Query). Answers (within (ltb L) (question d a false (types-of ws) (query-of p)) count) r out) e w)
 
-pub first-asked : (ws us : Words) (qs : Queries) (from : ℕ) (q : Query) → Tail ws qs from → q ≡ query-in qs from → from < qs .n → Written ws us 6410 (types-of ws, end) → Asking (part 6410 us) q
-first-asked ws us qs from q t e h w = subst (Asking (part 6410 us)) (sym e) (first-asking ws us qs from t h w)
+pub first-asked : (ws us : Words) (qs : Queries) (from : ℕ) (q : Query) → Tail ws qs from → q ≡ query-in qs from → from < qs .n → Written ws us 5128 (types-of ws, end) → Asking (part 5128 us) q
+first-asked ws us qs from q t e h w = subst (Asking (part 5128 us)) (sym e) (first-asking ws us qs from t h w)
 
-module _ (L d : ℕ) (s sets : Words) (f : Finder) (search : Searching s sets f) (ws us ys : Words) (qs : Queries) (from count : ℕ) (q : Query) (first : Asked) (t : Tail ws qs from) (e : q ≡ query-in qs from) (h : from < qs .n) (room : 12820 ≤ length ws)
-    (copied : Written ws us 6410 (types-of ws, end)) (w : Answers (within (ltb L) (question d (finder-of s f) (eqb 0 1) (types-of (part 6410 us)) (query-of q)) count) first ys) (k : length ys ≡ length (part 6410 us)) where
-  gone : Answers (within (ltb L) (question d (finder-of s f) false (types-of (part 6410 us)) (query-of (query-in qs from))) count) first ys
-  gone = subst (λ (p : Query). Answers (within (ltb L) (question d (finder-of s f) false (types-of (part 6410 us)) (query-of p)) count) first ys) e w
+module _ (L d : ℕ) (s sets : Words) (f : Finder) (search : Searching s sets f) (ws us ys : Words) (qs : Queries) (from count : ℕ) (q : Query) (first : Asked) (t : Tail ws qs from) (e : q ≡ query-in qs from) (h : from < qs .n) (room : 11538 ≤ length ws)
+    (copied : Written ws us 5128 (types-of ws, end)) (w : Answers (within (ltb L) (question d (finder-of s f) (eqb 0 1) (types-of (part 5128 us)) (query-of q)) count) first ys) (k : length ys ≡ length (part 5128 us)) where
+  gone : Answers (within (ltb L) (question d (finder-of s f) false (types-of (part 5128 us)) (query-of (query-in qs from))) count) first ys
+  gone = subst (λ (p : Query). Answers (within (ltb L) (question d (finder-of s f) false (types-of (part 5128 us)) (query-of p)) count) first ys) e w
 
-  came-back : Lent 6410 us ys (putMid 6410 (length us - 6410) us ys)
-  came-back = lent 6410 us ys (omega (arith, copied .len)) k
+  came-back : Lent 5128 us ys (putMid 5128 (length us - 5128) us ys)
+  came-back = lent 5128 us ys (omega (arith, copied .len)) k
 
-  pub asked-refused : (m c : ℕ) → first ≡ Refused m c → Answers (within (ltb L) (find-subimpls (ask-below d (finder-of s f)) (types-of ws) (drop from (queries-of qs))) count) (Refused m c) (putMid 6410 (length us - 6410) us ys)
+  pub asked-refused : (m c : ℕ) → first ≡ Refused m c → Answers (within (ltb L) (find-subimpls (ask-below d (finder-of s f)) (types-of ws) (drop from (queries-of qs))) count) (Refused m c) (putMid 5128 (length us - 5128) us ys)
   asked-refused m c p = sub-refused L d (finder-of s f) (search .sound) ws us ys _ qs from count first t h room copied gone came-back m c _ p
 
   module _ (c m : ℕ) (p : first ≡ Found c m) where
@@ -487,10 +487,10 @@ module _ (L d : ℕ) (s sets : Words) (f : Finder) (search : Searching s sets f)
     pub asked-few : m ≤ 4
     asked-few = sub-few L d (finder-of s f) (search .sound) ws us ys _ qs from count first t h room copied gone came-back c m p
 
-    pub asked-elements : Elements (putMid 6410 (length us - 6410) us ys) m qs (from + 1)
+    pub asked-elements : Elements (putMid 5128 (length us - 5128) us ys) m qs (from + 1)
     asked-elements = sub-elements L d (finder-of s f) (search .sound) ws us ys _ qs from count first t h room copied gone came-back c m p
 
-    pub asked-goes : (r : Asked) (out : Words) → Collects L (sub-one (ask-below d (finder-of s f)) (drop (from + 1) (queries-of qs))) m c (putMid 6410 (length us - 6410) us ys) r out → Answers (within (ltb L) (find-subimpls (ask-below d (finder-of s f)) (types-of ws) (drop from (queries-of qs))) count) r out
+    pub asked-goes : (r : Asked) (out : Words) → Collects L (sub-one (ask-below d (finder-of s f)) (drop (from + 1) (queries-of qs))) m c (putMid 5128 (length us - 5128) us ys) r out → Answers (within (ltb L) (find-subimpls (ask-below d (finder-of s f)) (types-of ws) (drop from (queries-of qs))) count) r out
     asked-goes r out x = sub-goes L d (finder-of s f) (search .sound) ws us ys _ qs from count first t h room copied gone came-back c m p r out x
 
 -- New slices for an import: of n words, from a sheet of at most five times as many.

@@ -1,6 +1,7 @@
 -- The members of the cycle: what each leaves, in the part of the slice that it is lent, and the laws that lead there from what it calls.
 -- A question's part: slot 0 the table, slots 1 to 4 its results, from slot 5 on the part of a candidate's sub-questions. A part of sub-questions: slot 0 the table,
--- slots 1 to 4 their results, from slot 5 on the part of the first, whose results stand in slots 6 to 9, and from slot 10 on the part of those that are left.
+-- slots 1 to 4 their results, from slot 4 on the part of the first, whose results stand in slots 5 to 8, and from slot 9 on the part of those that are left. Slot 4 has the first one's table,
+-- and only then the fourth result.
 use Prim.Native.Nat.{ℕ, _+_, _-_, _*_, _≤_, _<_}
 use mathlib.Core.Path.{_≡_, refl, sym, _∙_, ap, subst}
 use mathlib.Core.List.{List, [], _∷_, _++_, map}
@@ -26,10 +27,10 @@ use Rattle.finder.specs.Tails.{sub-one, Keeps}
 
 -- The words of a question's part with d levels left, and of a part of sub-questions, of which l are left.
 abbrev pub question-room : ℕ → ℕ
-question-room d = 44870 * d + 6410
+question-room d = 41024 * d + 6410
 
 abbrev pub tail-room : ℕ → ℕ → ℕ
-tail-room d l = question-room d + 12820 * (l - 1)
+tail-room d l = question-room d + 11538 * (l - 1)
 
 -- A member of the loop over candidates: what one gives is added behind n.
 pub record CandidateStep (L : ℕ) (run : Run (List Result)) (n cur : ℕ) (ws : Words) (r : Asked) (out : Words) : Type 0 where
@@ -39,7 +40,7 @@ pub record CandidateStep (L : ℕ) (run : Run (List Result)) (n cur : ℕ) (ws :
 -- A member of the loop over the results of a sub-question: what result k gives with those that are left is added behind n.
 pub record ResultStep (L : ℕ) (f : Result → Run (List Result)) (k n cur : ℕ) (ws : Words) (r : Asked) (out : Words) : Type 0 where
   pub keeps : Keeps ws out
-  pub step : (x : Result) → Slot ws (7692 + 1282 * k) x → Single (x .1) → Stepped L (adding (f x)) n cur ws r out
+  pub step : (x : Result) → Slot ws (6410 + 1282 * k) x → Single (x .1) → Stepped L (adding (f x)) n cur ws r out
 
 -- A step from words whose slots 1 to 4 are the same.
 stepped-from : (L : ℕ) (step : List Result → Run (List Result)) (n cur : ℕ) (ws us : Words) (r : Asked) (out : Words) → n ≤ 4 → length us ≡ length ws → ((i : ℕ) → i < 6410 → at us i ≡ at ws i) → Stepped L step n cur us r out → Stepped L step n cur ws r out
@@ -85,30 +86,30 @@ module _ (L n cur i : ℕ) (ask : Types → ImplType → Run (List Result)) (qs 
         (settled L 6410 cur (find-subimpls ask (types-of (part 6410 us)) qs) asked us ys back w l (omega (arith, o .len)) (under i) out n r few (omega arith) s));
   }
 
--- A result of the first sub-question, whose table was copied to slot 10, and of which those that are left were asked in the part from there on.
+-- A result of the first sub-question, whose table was copied to slot 9, and of which those that are left were asked in the part from there on.
 module _ (L n cur k : ℕ) (ask : Types → ImplType → Run (List Result)) (qs : List ImplType) (ws us ys back out : Words) (asked r : Asked)
-    (few : n ≤ 4) (below : k < 4) (room : 19230 ≤ length ws) (c : Written ws us 12820 (types-of (drop (7692 + 1282 * k) ws), end))
-    (w : Answers (within (ltb L) (find-subimpls ask (types-of (part 12820 us)) qs) cur) asked ys) (l : Lent 12820 us ys back) where
-  pub result-sub : Sub back 14102 asked
-  result-sub = sub-answered L 12820 cur (find-subimpls ask (types-of (part 12820 us)) qs) asked us ys back w l (omega (arith, c .len))
+    (few : n ≤ 4) (below : k < 4) (room : 17948 ≤ length ws) (c : Written ws us 11538 (types-of (drop (6410 + 1282 * k) ws), end))
+    (w : Answers (within (ltb L) (find-subimpls ask (types-of (part 11538 us)) qs) cur) asked ys) (l : Lent 11538 us ys back) where
+  pub result-sub : Sub back 12820 asked
+  result-sub = sub-answered L 11538 cur (find-subimpls ask (types-of (part 11538 us)) qs) asked us ys back w l (omega (arith, c .len))
 
-  still : (x : Result) → Slot ws (7692 + 1282 * k) x → Slot back (7692 + 1282 * k) x
-  still x s = slot-kept ws back (7692 + 1282 * k) x (l .long ∙ c .len) (λ j p q. l .low j (omega arith) ∙ c .low j (omega arith)) s
+  still : (x : Result) → Slot ws (6410 + 1282 * k) x → Slot back (6410 + 1282 * k) x
+  still x s = slot-kept ws back (6410 + 1282 * k) x (l .long ∙ c .len) (λ j p q. l .low j (omega arith) ∙ c .low j (omega arith)) s
 
-  pub result-element : Element ws (7692 + 1282 * k) → Element back (7692 + 1282 * k)
+  pub result-element : Element ws (6410 + 1282 * k) → Element back (6410 + 1282 * k)
   result-element e = record { result = e .result; slot = still (e .result) (e .slot); one = e .one }
 
-  pub result-steps : Element ws (7692 + 1282 * k) → JoinSettles back out n (7692 + 1282 * k) 14102 asked r → ResultStep L (sub-one ask qs) k n cur ws r out
+  pub result-steps : Element ws (6410 + 1282 * k) → JoinSettles back out n (6410 + 1282 * k) 12820 asked r → ResultStep L (sub-one ask qs) k n cur ws r out
   result-steps e j = record {
     keeps = record { len = frame .len ∙ l .long ∙ c .len; at = λ m p q. frame .high m p ∙ l .low m q ∙ c .low m q };
     step = λ x s one. each x s (j .at x (still x s) one);
   }
     where
-      frame : Settles (behind (e .result .1)) back out n 14102 asked r
+      frame : Settles (behind (e .result .1)) back out n 12820 asked r
       frame = j .at (e .result) (still (e .result) (e .slot)) (e .one)
 
-      each : (x : Result) → Slot ws (7692 + 1282 * k) x → Settles (behind (x .1)) back out n 14102 asked r → Stepped L (adding (sub-one ask qs x)) n cur ws r out
+      each : (x : Result) → Slot ws (6410 + 1282 * k) x → Settles (behind (x .1)) back out n 12820 asked r → Stepped L (adding (sub-one ask qs x)) n cur ws r out
       each x s t =
-          let same : types-of (part 12820 us) ≡ x .0 = part-table 12820 us (types-of (drop (7692 + 1282 * k) ws)) (c .slot .table) .is ∙ s .table .is in
+          let same : types-of (part 11538 us) ≡ x .0 = part-table 11538 us (types-of (drop (6410 + 1282 * k) ws)) (c .slot .table) .is ∙ s .table .is in
           stepped-from L _ n cur ws us r out few (c .len) (λ i h. c .low i (omega arith))
-          (settled L 12820 cur (find-subimpls ask (x .0) qs) asked us ys back (subst (λ (ts : Types). Answers (within (ltb L) (find-subimpls ask ts qs) cur) asked ys) same w) l (omega (arith, c .len)) (behind (x .1)) out n r few (omega arith) t)
+          (settled L 11538 cur (find-subimpls ask (x .0) qs) asked us ys back (subst (λ (ts : Types). Answers (within (ltb L) (find-subimpls ask ts qs) cur) asked ys) same w) l (omega (arith, c .len)) (behind (x .1)) out n r few (omega arith) t)

@@ -64,22 +64,22 @@ tail-last ask ts q few ones =
     (λ rs h. collect-alone ask rs [] (h .1) (h .0 .small) (omega (arith, h .0 .count)))
     ∙ bind-done (ask ts q)
 
--- The loop over the m results of the first sub-question, which stand in slots 6 to 9; k of them are done.
+-- The loop over the m results of the first sub-question, which stand in slots 5 to 8; k of them are done.
 pub record Resting (L : ℕ) (whole : Out (List Result) × ℕ) (f : Result → Run (List Result)) (m k : ℕ) (ws : Words) (n cur : ℕ) : Type 0 where
   pub all : List Result
   pub size : length all ≡ m
   pub ones : Every One all
-  pub there : Slots ws 7692 all
+  pub there : Slots ws 6410 all
   pub going : Going L whole (λ fs. collect f (drop k all) fs) ws n cur
 
 pub record Rested (L : ℕ) (whole : Out (List Result) × ℕ) (f : Result → Run (List Result)) (m k : ℕ) (r : Asked) (out : Words) : Type 0 where
   pub on : (c n : ℕ) → r ≡ Found c n → Resting L whole f m k out n c
   pub stops : (d c : ℕ) → r ≡ Refused d c → Answers whole (Refused d c) out
 
--- Slots 5 to 9 are as they were.
+-- Slots 5 to 8 are as they were.
 pub record Keeps (ws out : Words) : Type 0 where
   pub len : length out ≡ length ws
-  pub at : (i : ℕ) → 6410 ≤ i → i < 12820 → at out i ≡ at ws i
+  pub at : (i : ℕ) → 6410 ≤ i → i < 11538 → at out i ≡ at ws i
 
 every-get : (rs : List Result) (k : ℕ) (d : Result) → Every One rs → k < length rs → One (getD rs k d)
 every-get [] k d h l = absurd (omega arith)
@@ -88,9 +88,9 @@ every-get (r ∷ rs) (suc k) d h l = every-get rs k d (h .1) (omega arith)
 
 -- A step with result k is a turn.
 pub rest-turn : (L : ℕ) (whole : Out (List Result) × ℕ) (f : Result → Run (List Result)) (m k : ℕ) (ws out : Words) (n cur : ℕ) (r : Asked) → Resting L whole f m k ws n cur → k < m → m ≤ 4 → Keeps ws out →
-    ((x : Result) → Slot ws (7692 + 1282 * k) x → Single (x .1) → Stepped L (adding (f x)) n cur ws r out) → Rested L whole f m (k + 1) r out
+    ((x : Result) → Slot ws (6410 + 1282 * k) x → Single (x .1) → Stepped L (adding (f x)) n cur ws r out) → Rested L whole f m (k + 1) r out
 rest-turn L whole f m k ws out n cur r g more small kept step = record {
-  on = λ c d e. record { all = g .all; size = g .size; ones = g .ones; there = slots-kept ws out 7692 (g .all) (kept .len) (λ i p q. kept .at i (omega arith) (omega (arith, g .size))) (g .there); going = t .on c d e };
+  on = λ c d e. record { all = g .all; size = g .size; ones = g .ones; there = slots-kept ws out 6410 (g .all) (kept .len) (λ i p q. kept .at i (omega arith) (omega (arith, g .size))) (g .there); going = t .on c d e };
   stops = t .stops;
 }
   where
@@ -114,7 +114,7 @@ rest-end L whole f m k ws n cur g h = going-end L whole (λ fs. collect f (drop 
     none [] e = refl
     none (x ∷ l) e = absurd (omega arith)
 
--- The first of more sub-questions was asked in the part from slot 5 on, and answered.
+-- The first of more sub-questions was asked in the part from slot 4 on, and answered.
 module _ (L count : ℕ) (ask : Types → ImplType → Run (List Result)) (ts : Types) (q : ImplType) (qs : List ImplType) (first : Asked) (ys : Words) (w : Answers (within (ltb L) (ask ts q) count) first ys) where
   abbrev pub whole : Out (List Result) × ℕ
   whole = within (ltb L) (find-subimpls ask ts (q ∷ qs)) count
@@ -127,13 +127,13 @@ module _ (L count : ℕ) (ask : Types → ImplType → Run (List Result)) (ts : 
   tail-refused m c out e = answers-refused whole m c out (asks-first ∙ then-refused (ltb L) (ask ts q) (λ rs. collect (sub-one ask qs) rs []) count m c (w .refuses m c e))
 
   -- The loop over its results begins.
-  pub tail-start : (m c : ℕ) (ws back : Words) → Yields (Every One) (ask ts q) → first ≡ Found c m → Lent 6410 ws ys back → 12820 ≤ length ws → Resting L whole (sub-one ask qs) m 0 back 0 c
+  pub tail-start : (m c : ℕ) (ws back : Words) → Yields (Every One) (ask ts q) → first ≡ Found c m → Lent 5128 ws ys back → 11538 ≤ length ws → Resting L whole (sub-one ask qs) m 0 back 0 c
   tail-start m c ws back ones e l room =
       let g = w .found c m e in
       record {
         all = g .results;
         size = g .size;
         ones = came (Every One) ((within (ltb L) (ask ts q) count) .0) (g .results) (yields-within (Every One) (ltb L) (ask ts q) count ones) (ap (λ (o : Out (List Result) × ℕ). o .0) (g .is));
-        there = slots-back 6410 1282 ws ys back (g .results) l (omega (arith, g .size, g .few)) (g .stand);
+        there = slots-back 5128 1282 ws ys back (g .results) l (omega (arith, g .size, g .few)) (g .stand);
         going = going-start L whole (λ fs. collect (sub-one ask qs) (drop 0 (g .results)) fs) back c (g .low) (asks-first ∙ then-got (ltb L) (ask ts q) (λ rs. collect (sub-one ask qs) rs []) count c (g .results) (g .is));
       }

@@ -21,10 +21,16 @@ use queries::Query;
 use slots::Asked;
 use steps::Finder;
 
-// Where the results of a part's first sub-question stand; and where what is left behind a result is asked.
+// In a question's part: where a candidate's sub-questions have their results.
 const RESULTS: usize = 7692;
 
-const REST: usize = 12820;
+// In a part of more than one sub-question: where the first is asked, with its table in the place of the part's own fourth result, which is added only once
+// that table has served; where its results stand; and where those that are left are asked.
+const FIRST: usize = 5128;
+
+const ELEMENTS: usize = 6410;
+
+const REST: usize = 11538;
 
 // An import from the sheet needs words for the places of a table's records and for its mapping, a fifth of the sheet's: for a small sheet, for one of
 // middle size, and for any; and as many for marks as a table has nodes, twice where the sheet is not small. They are zeroed each time, so that fewer are faster.
@@ -158,7 +164,7 @@ pub fn question(
 ) -> Asked
     requires { ⌜ Searching (now sheet) (now sets) f ⌝ }
     requires { ⌜ Asking (now ws) q ⌝ }
-    requires { ⌜ 44870 * depth + 6410 ≤ length (now ws) ⌝ }
+    requires { ⌜ 41024 * depth + 6410 ≤ length (now ws) ⌝ }
     requires { ⌜ basic < 2 ⌝ }
     requires { ⌜ count ≤ 4000000000 ⌝ }
     ensures { λ r. ⌜ Answers (within (ltb (f .limit)) (question-run depth (finder-of (now (sheet .entry)) f) (eqb basic 1) (types-of (now (ws .entry))) (query-of q)) count) r (now (ws .exit)) ⌝ }
@@ -198,7 +204,7 @@ fn candidates(
 ) -> Asked
     requires { ⌜ Searching (now sheet) (now sets) f ⌝ }
     requires { ⌜ Asking (now ws) q ⌝ }
-    requires { ⌜ 44870 * depth + 51280 ≤ length (now ws) ⌝ }
+    requires { ⌜ 41024 * depth + 47434 ≤ length (now ws) ⌝ }
     requires { ⌜ basic < 2 ⌝ }
     requires { ⌜ count ≤ 4000000000 ⌝ }
     requires { ⌜ Row (now ws) 1282 n ⌝ }
@@ -249,7 +255,7 @@ fn candidate(
     requires { ⌜ Searching (now sheet) (now sets) f ⌝ }
     requires { ⌜ Asking (now ws) q ⌝ }
     requires { ⌜ i < many (now sheet) header·impls ⌝ }
-    requires { ⌜ 44870 * depth + 51280 ≤ length (now ws) ⌝ }
+    requires { ⌜ 41024 * depth + 47434 ≤ length (now ws) ⌝ }
     requires { ⌜ count ≤ 4000000000 ⌝ }
     requires { ⌜ n ≤ 4 ⌝ }
     ensures { λ r. ⌜ CandidateStep (f .limit) (try-candidate (ask-below depth (finder-of (now (sheet .entry)) f)) (now (sheet .entry)) (types-of (now (ws .entry))) (query-of q) i) n count (now (ws .entry)) r (now (ws .exit)) ⌝ }
@@ -278,7 +284,7 @@ fn sub_questions(
 ) -> Asked
     requires { ⌜ Searching (now sheet) (now sets) f ⌝ }
     requires { ⌜ Tail (now ws) qs from ⌝ }
-    requires { ⌜ 44870 * depth + 6410 + 12820 * (qs .n - from - 1) ≤ length (now ws) ⌝ }
+    requires { ⌜ 41024 * depth + 6410 + 11538 * (qs .n - from - 1) ≤ length (now ws) ⌝ }
     requires { ⌜ count ≤ 4000000000 ⌝ }
     ensures { λ r. ⌜ Answers (within (ltb (f .limit)) (find-subimpls (ask-below depth (finder-of (now (sheet .entry)) f)) (types-of (now (ws .entry))) (drop from (queries-of qs))) count) r (now (ws .exit)) ⌝ }
 {
@@ -289,15 +295,15 @@ fn sub_questions(
     if qs.n == from + 1 {
         return question(sheet, sets, ws, f, 0, q, depth, count);
     }
-    slots::copy_table_slot(ws, 0, steps::SUB);
-    let first = question(sheet, sets, &mut ws[steps::SUB..], f, 0, q, depth, count);
+    slots::copy_table_slot(ws, 0, FIRST);
+    let first = question(sheet, sets, &mut ws[FIRST..], f, 0, q, depth, count);
     match first {
         Asked::Refused { number, count } => Asked::Refused { number, count },
         Asked::Found { count, n } => { results(sheet, sets, ws, f, qs, from + 1, depth, n, count) }
     }
 }
 
-// The m results of a sub-question, which stand in slots 6 to 9, each with the sub-questions that are left, from one on.
+// The m results of a sub-question, which stand in slots 5 to 8, each with the sub-questions that are left, from one on.
 fn results(
     sheet: &[u32],
     sets: &[u32],
@@ -311,7 +317,7 @@ fn results(
 ) -> Asked
     requires { ⌜ Searching (now sheet) (now sets) f ⌝ }
     requires { ⌜ Elements (now ws) m qs from ⌝ }
-    requires { ⌜ 44870 * depth + 6410 + 12820 * (qs .n - from) ≤ length (now ws) ⌝ }
+    requires { ⌜ 41024 * depth + 6410 + 11538 * (qs .n - from) ≤ length (now ws) ⌝ }
     requires { ⌜ from < qs .n ⌝ }
     requires { ⌜ m ≤ 4 ⌝ }
     requires { ⌜ count ≤ 4000000000 ⌝ }
@@ -339,7 +345,7 @@ fn results(
     }
 }
 
-// Result k of a sub-question: those that are left are asked of its table behind slot 9, and what they give is added behind the n results that stand, behind its tree.
+// Result k of a sub-question: those that are left are asked of its table behind slot 8, and what they give is added behind the n results that stand, behind its tree.
 fn result(
     sheet: &[u32],
     sets: &[u32],
@@ -353,15 +359,15 @@ fn result(
     count: u32,
 ) -> Asked
     requires { ⌜ Searching (now sheet) (now sets) f ⌝ }
-    requires { ⌜ ElementAt (now ws) (7692 + 1282 * k) qs from ⌝ }
-    requires { ⌜ 44870 * depth + 6410 + 12820 * (qs .n - from) ≤ length (now ws) ⌝ }
+    requires { ⌜ ElementAt (now ws) (6410 + 1282 * k) qs from ⌝ }
+    requires { ⌜ 41024 * depth + 6410 + 11538 * (qs .n - from) ≤ length (now ws) ⌝ }
     requires { ⌜ from < qs .n ⌝ }
     requires { ⌜ k < 4 ⌝ }
     requires { ⌜ n ≤ 4 ⌝ }
     requires { ⌜ count ≤ 4000000000 ⌝ }
     ensures { λ r. ⌜ ResultStep (f .limit) (sub-one (ask-below depth (finder-of (now (sheet .entry)) f)) (drop from (queries-of qs))) k n count (now (ws .entry)) r (now (ws .exit)) ⌝ }
 {
-    let element = RESULTS + slots::SLOT * k;
+    let element = ELEMENTS + slots::SLOT * k;
     slots::copy_table_slot(ws, element, REST);
     let asked = sub_questions(sheet, sets, &mut ws[REST..], f, qs, from, depth, count);
     slots::settle_joined(ws, asked, n, element, REST + slots::SLOT)

@@ -62,7 +62,7 @@ fn ask_one(
     count: u32,
 ) -> Asked
     requires { ⌜ Flexing (now sheet) (now sets) (now question) f ⌝ }
-    requires { ⌜ 724330 ≤ length (now ws) ⌝ }
+    requires { ⌜ 662794 ≤ length (now ws) ⌝ }
     requires { ⌜ count ≤ 4000000000 ⌝ }
     ensures { λ r. ⌜ Answers (within (ltb (f .limit)) (flex-question (finder-of (now (sheet .entry)) f) (now (question .entry)) h inverted) count) r (now (ws .exit)) ⌝ }
 {
@@ -133,7 +133,7 @@ fn ask_turn(
     count: u32,
 ) -> Turn
     requires { ⌜ Flexing (now sheet) (now sets) (now question) f ⌝ }
-    requires { ⌜ 724330 ≤ length (now ws) ⌝ }
+    requires { ⌜ 662794 ≤ length (now ws) ⌝ }
     requires { ⌜ 1282 ≤ length (now kept) ⌝ }
     requires { ⌜ count ≤ 4000000000 ⌝ }
     ensures { λ r. ⌜ Turned (f .limit) (finder-of (now (sheet .entry)) f) (now (question .entry)) h inverted count (now (kept .exit)) r ⌝ }
@@ -271,7 +271,7 @@ fn inverse_drop_turn(
     count: u32,
 ) -> Ended
     requires { ⌜ Flexing (now sheet) (now sets) (now question) f ⌝ }
-    requires { ⌜ 724330 ≤ length (now ws) ⌝ }
+    requires { ⌜ 662794 ≤ length (now ws) ⌝ }
     requires { ⌜ limit·answer ≤ length (now answer) ⌝ }
     requires { ⌜ count ≤ 1000003 ⌝ }
     requires { ⌜ Behind (now question) ((n2, now k2) ∷ (n1, now k1) ∷ (n0, now k0) ∷ []) ⌝ }
@@ -329,7 +329,7 @@ fn inverse_fork_turn(
     count: u32,
 ) -> Ended
     requires { ⌜ Flexing (now sheet) (now sets) (now question) f ⌝ }
-    requires { ⌜ 724330 ≤ length (now ws) ⌝ }
+    requires { ⌜ 662794 ≤ length (now ws) ⌝ }
     requires { ⌜ limit·answer ≤ length (now answer) ⌝ }
     requires { ⌜ count ≤ 1000002 ⌝ }
     requires { ⌜ Behind (now question) ((n1, now k1) ∷ (n0, now k0) ∷ []) ⌝ }
@@ -383,7 +383,7 @@ fn drop_turn(
     count: u32,
 ) -> Ended
     requires { ⌜ Flexing (now sheet) (now sets) (now question) f ⌝ }
-    requires { ⌜ 724330 ≤ length (now ws) ⌝ }
+    requires { ⌜ 662794 ≤ length (now ws) ⌝ }
     requires { ⌜ limit·answer ≤ length (now answer) ⌝ }
     requires { ⌜ count ≤ 1000001 ⌝ }
     requires { ⌜ Behind (now question) ((n0, now k0) ∷ []) ⌝ }
@@ -433,7 +433,7 @@ fn fork_turn(
     count: u32,
 ) -> Ended
     requires { ⌜ Flexing (now sheet) (now sets) (now question) f ⌝ }
-    requires { ⌜ 724330 ≤ length (now ws) ⌝ }
+    requires { ⌜ 662794 ≤ length (now ws) ⌝ }
     requires { ⌜ limit·answer ≤ length (now answer) ⌝ }
     requires { ⌜ count ≤ limit·count ⌝ }
     ensures { λ r. ⌜ Rests (f .limit) (finder-of (now (sheet .entry)) f) (now (question .entry)) [] (flex-question (finder-of (now (sheet .entry)) f) (now (question .entry)) header·fork false ∷ after-fork (finder-of (now (sheet .entry)) f) (now (question .entry))) count (now (answer .entry)) (now (answer .exit)) r ⌝ }
@@ -470,7 +470,7 @@ pub fn ask_flex(
     count: u32,
 ) -> Ended
     requires { ⌜ Flexing (now sheet) (now sets) (now question) f ⌝ }
-    requires { ⌜ 724330 ≤ length (now ws) ⌝ }
+    requires { ⌜ 662794 ≤ length (now ws) ⌝ }
     requires { ⌜ limit·answer ≤ length (now answer) ⌝ }
     requires { ⌜ count ≤ limit·count ⌝ }
     ensures { λ r. ⌜ Ends (flex-within (ltb (f .limit)) (finder-of (now (sheet .entry)) f) (now (question .entry)) count) (now (answer .entry)) (now (answer .exit)) r ⌝ }

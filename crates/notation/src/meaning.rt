@@ -9,7 +9,7 @@ fn put_entry(out: &mut [u8], at: usize, n: u32) -> usize
         1 => crate::put_text(out, at, b"the sheet has under 16 or over 4,096 words"),
         2 => crate::put_text(out, at, b"the question has under 3 or over 1,024 words"),
         3 => crate::put_text(out, at, b"the answer buffer has under 10,240 words"),
-        4 => crate::put_text(out, at, b"the workspace has under 724,330 words"),
+        4 => crate::put_text(out, at, b"the workspace has under 662,794 words"),
         _ => crate::put_text(out, at, b"the start count is over 1,000,000"),
     }
 }

@@ -15,7 +15,7 @@ limit·answer = 10240
 
 -- 4: words of the workspace at least, the constant fixed in docs. A call clears as many.
 unfoldable pub limit·workspace : ℕ
-limit·workspace = 724330
+limit·workspace = 662794
 
 -- 5: a start count at most.
 abbrev pub limit·count : ℕ

@@ -128,7 +128,7 @@ witnesses =
     ∷ record { call = entered pin (replicate 2 0) limit·answer limit·workspace 0; number = 2; count = 0 }
     ∷ record { call = entered pin (replicate 1025 0) limit·answer limit·workspace 0; number = 2; count = 0 }
     ∷ record { call = entered pin Q 10239 limit·workspace 0; number = 3; count = 0 }
-    ∷ record { call = entered pin Q limit·answer 724329 0; number = 4; count = 0 }
+    ∷ record { call = entered pin Q limit·answer 662793 0; number = 4; count = 0 }
     ∷ record { call = entered pin Q limit·answer limit·workspace 1000001; number = 5; count = 1000001 }
     -- and a count at the most is searched with
     ∷ record { call = entered pin Q limit·answer limit·workspace 1000000; number = 18; count = 1000001 }

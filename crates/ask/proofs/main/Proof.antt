@@ -6,7 +6,7 @@ use Rattle.ask.proofs.main.Statement.{statement}
 use Rattle.ask.proofs.main.Tie as tie
 
 slice-aggregate-serve : tie.Need-slice-aggregate-serve
-slice-aggregate-serve c = sym (length-replicate {0} {A = ℕ} 724330 0)
+slice-aggregate-serve c = sym (length-replicate {0} {A = ℕ} 662794 0)
 
 serve-requires : tie.Need-serve-requires
 serve-requires c κs = tt

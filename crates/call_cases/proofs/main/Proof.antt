@@ -6,7 +6,7 @@ use Rattle.call_cases.proofs.main.Statement.{statement}
 use Rattle.call_cases.proofs.main.Tie as tie
 
 slice-aggregate-run-all : tie.Need-slice-aggregate-run-all
-slice-aggregate-run-all c = sym (length-replicate {0} {A = ℕ} 724330 0)
+slice-aggregate-run-all c = sym (length-replicate {0} {A = ℕ} 662794 0)
 
 run-all-requires : tie.Need-run-all-requires
 run-all-requires c κs = tt

@@ -6,19 +6,19 @@ use Rattle.check_cases.proofs.main.Statement.{statement}
 use Rattle.check_cases.proofs.main.Tie as tie
 
 slice-aggregate-run : tie.Need-slice-aggregate-run
-slice-aggregate-run c = sym (length-replicate {0} {A = ℕ} 724330 0)
+slice-aggregate-run c = sym (length-replicate {0} {A = ℕ} 662794 0)
 
 run-requires : tie.Need-run-requires
 run-requires c κs = tt
 
 slice-aggregate-run-2 : tie.Need-slice-aggregate-run-2
-slice-aggregate-run-2 c = sym (c .before .before .run .kept .1 .0 ∙ length-replicate {0} {A = ℕ} 724330 0)
+slice-aggregate-run-2 c = sym (c .before .before .run .kept .1 .0 ∙ length-replicate {0} {A = ℕ} 662794 0)
 
 run-requires-2 : tie.Need-run-requires-2
 run-requires-2 c κs = tt
 
 slice-aggregate-run-3 : tie.Need-slice-aggregate-run-3
-slice-aggregate-run-3 c = sym (c .before .before .run2 .kept .1 .0 ∙ c .before .before .before .before .before .run .kept .1 .0 ∙ length-replicate {0} {A = ℕ} 724330 0)
+slice-aggregate-run-3 c = sym (c .before .before .run2 .kept .1 .0 ∙ c .before .before .before .before .before .run .kept .1 .0 ∙ length-replicate {0} {A = ℕ} 662794 0)
 
 run-requires-3 : tie.Need-run-requires-3
 run-requires-3 c κs = tt
