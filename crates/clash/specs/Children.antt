@@ -15,7 +15,7 @@ use Rattle.rules.specs.Transfer.{cell-types, type-of-word}
 use Rattle.rules.specs.Answer.{word-of-type}
 use Rattle.rules.specs.SignedTerms.{Signed, SignedSol, made}
 use Rattle.table.specs.declared.Row.{Row}
-use Rattle.table.specs.Packing.{types-of, kind-at, id-at, inverted-at}
+use Rattle.table.specs.Packing.{types-of, kind-at, id-at}
 use Rattle.table.specs.Nodes.{word-type}
 use Rattle.table.specs.ChildTypes.{ChildTypes}
 use Rattle.clash.specs.Meaning.{row, record-types, record-side, Meaning}

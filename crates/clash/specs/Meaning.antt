@@ -15,8 +15,7 @@ use Rattle.rules.specs.AcyclicLaws.{children-at}
 use Rattle.rules.specs.Transfer.{cell-types}
 use Rattle.rules.specs.Answer.{word-of-type}
 use Rattle.rules.specs.Solutions.{rep}
-use Rattle.rules.specs.CommonSides.{xor-assoc}
-use Rattle.rules.specs.SignedTerms.{Signed, scon, snil, scons, SignedSol, turned, inverse, made, made-own, made-other, turned-made, turned-back, turned-twice}
+use Rattle.rules.specs.SignedTerms.{Signed, scon, snil, scons, SignedSol, turned, made, made-own, made-other, turned-made, turned-back, turned-twice}
 use Rattle.table.specs.Packing.{types-of, kind-at, id-at, inverted-at}
 use Rattle.table.specs.ChildTypes.{type-in, odd-sum}
 

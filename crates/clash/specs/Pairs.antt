@@ -11,13 +11,13 @@ use lib.Seq.{getD-take, length-take-le}
 use Rattle.rules.specs.Lists.{Words}
 use Rattle.rules.specs.Sheet.{at}
 use Rattle.rules.specs.SignedTerms.{Signed, SignedSol, snil, scons, turned, inverse}
-use Rattle.rules.specs.Types.{xor, find}
+use Rattle.rules.specs.Types.{find}
 use Rattle.rules.specs.Transfer.{type-of-word}
 use Rattle.rules.specs.Answer.{word-of-type}
 use Rattle.table.specs.declared.Row.{Row}
 use Rattle.table.specs.Packing.{types-of}
 use Rattle.queries.specs.declared.Query.{Query}
-use Rattle.clash.specs.Meaning.{odd, means, means-mod, means-turn, turn, row, Meaning, Parts, made-parts, type-sort}
+use Rattle.clash.specs.Meaning.{means, means-mod, means-turn, turn, row, Meaning, made-parts, type-sort}
 use Rattle.clash.specs.Refs.{KindOf, IdOf, Bit, type-side, side-of}
 use Rattle.clash.specs.Children.{Gathers}
 use Rattle.clash.specs.Links.{Linked, linked-none}

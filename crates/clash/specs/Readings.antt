@@ -1,5 +1,5 @@
 -- A solution of the question's table and a reading of the signature's give refs a meaning.
-use Prim.Native.Nat.{ℕ, zero, suc, _+_, _-_, _*_, _/_, _%_, _≤_, _<_}
+use Prim.Native.Nat.{ℕ, zero, suc, _+_, _-_, _/_, _%_, _≤_, _<_}
 use mathlib.Core.Path.{_≡_, refl, sym, _∙_, ap, ap₂, subst}
 use mathlib.Core.Bool.{Bool, true, false}
 use mathlib.Core.List.{List, [], _∷_, map}
@@ -10,7 +10,7 @@ use lib.Dec.{eqb, ltb}
 use lib.ListN.{length, getD, take}
 use lib.Seq.{getD-take, length-take-le}
 use borrow.Author.Tests.{eq-eqb, ne-eqb, lt-ltb, le-ltb}
-use Rattle.rules.specs.Lists.{Words, bit}
+use Rattle.rules.specs.Lists.{Words}
 use Rattle.rules.specs.Layout.{kind·param}
 use Rattle.rules.specs.Sheet.{at, chain}
 use Rattle.rules.specs.Types.{Ty, TypeState, unknown, known, state-at, invert-if, find}

@@ -241,7 +241,7 @@ module _ (s : Words) (ts : Types) (lo hi : Ty) (hlo : lo .1 < length ts) (hhi : 
 
   -- The lower root is the upper one, turned.
   up-low : (node-at (hang ts lo hi) (lo .1)) .up ≡ (xor (hi .0) (lo .0), hi .1)
-  up-low = up-turns s ts lo hi hlo hhi rlo rhi ne formed (lo .1) hlo rlo ∙ ap (λ z. (xor z (xor (hi .0) (lo .0)), hi .1)) (upright (lo .1) hlo rlo)
+  up-low = up-turns ts lo hi hlo hhi rlo rhi ne formed (lo .1) hlo rlo ∙ ap (λ z. (xor z (xor (hi .0) (lo .0)), hi .1)) (upright (lo .1) hlo rlo)
 
   low : θ (lo .1) ≡ turned s (xor (hi .0) (lo .0)) (θ (hi .1))
   unfolding value
@@ -257,9 +257,9 @@ module _ (s : Words) (ts : Types) (lo hi : Ty) (hlo : lo .1 < length ts) (hhi : 
     where
       go : Dec (rep ts n ≡ lo .1) → θ n ≡ value s θ ((node-at ts n) .up)
       go (yes q) =
-          sv n (on n h) u .0 ∙ ap (value s θ) (up-turns s ts lo hi hlo hhi rlo rhi ne formed n h q) ∙ sym (turned-twice s ((node-at ts n) .up .0) (xor (hi .0) (lo .0)) (θ (hi .1)))
+          sv n (on n h) u .0 ∙ ap (value s θ) (up-turns ts lo hi hlo hhi rlo rhi ne formed n h q) ∙ sym (turned-twice s ((node-at ts n) .up .0) (xor (hi .0) (lo .0)) (θ (hi .1)))
           ∙ ap (turned s ((node-at ts n) .up .0)) (sym low) ∙ ap (λ m. turned s ((node-at ts n) .up .0) (θ m)) (sym q)
-      go (no q) = sv n (on n h) u .0 ∙ ap (value s θ) (up-stays s ts lo hi hlo hhi rlo rhi ne formed n h (upright n h) q)
+      go (no q) = sv n (on n h) u .0 ∙ ap (value s θ) (up-stays ts lo hi hlo hhi rlo rhi ne formed n h (upright n h) q)
 
   top-hi : (r : ℕ) (u v : TypeState) → SignedFits s θ r (or-else u v) → SignedFits s θ r u
   unfolding or-else
@@ -271,7 +271,7 @@ module _ (s : Words) (ts : Types) (lo hi : Ty) (hlo : lo .1 < length ts) (hhi : 
   back-fit n h u q = go (ℕ-discrete (rep ts n) (hi .1))
     where
       same : rep (hang ts lo hi) n ≡ rep ts n
-      same = ap (λ (t : Ty). t .1) (up-stays s ts lo hi hlo hhi rlo rhi ne formed n h (upright n h) q)
+      same = ap (λ (t : Ty). t .1) (up-stays ts lo hi hlo hhi rlo rhi ne formed n h (upright n h) q)
 
       fit : SignedFits s θ (rep ts n) (state-at (hang ts lo hi) (rep ts n))
       fit = subst (λ r. SignedFits s θ r (state-at (hang ts lo hi) r)) same (sv n (on n h) u .1)
