@@ -50,9 +50,6 @@ finds-far ls t w u v x e q z ev f = record { at = λ s m l. (finds-up ls t t w u
 pub record Links (ls : Words) (x y : ℕ) (ks : Words) : Type 0 where
   pub at : (s : Words) (m : SignedSol) → Linked s m ls → means s m x ≡ means s m y → Linked s m ks
 
-pub links-none : (ls : Words) (x y : ℕ) → Links ls x y ls
-links-none ls x y = record { at = λ s m l q. l }
-
 pub links-set : (ls : Words) (x y v w : ℕ) → v ≡ turn (x % 2) y → w ≡ x / 2 % 512 → Links ls x y (set ls w (v % 1024 + 1))
 links-set ls x y v w ev e = record { at = λ s m l q. record { link = λ r z. one s m l q r z } }
   where

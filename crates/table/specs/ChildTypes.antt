@@ -79,12 +79,6 @@ pub record OwnArity (h n r : ℕ) : Type 0 where
   pub is : r ≢ 9 → r ≡ h / 32 % 16
   pub few : r ≢ 9 → r ≤ 8
 
-pub arity-untold : (h n r : ℕ) → r ≡ 9 → OwnArity h n r
-arity-untold h n r e = record { own = λ z. absurd (z e); is = λ z. absurd (z e); few = λ z. absurd (z e) }
-
-pub arity-told : (h n m r : ℕ) → h / 1024 % 256 ≡ n → m ≡ h / 32 % 16 → m ≤ 8 → r ≡ m → OwnArity h n r
-arity-told h n m r e q l z = record { own = λ x. e; is = λ x. z ∙ q; few = λ x. omega arith }
-
 -- The types of roots that the children of node n, its own root, are, where they are told.
 pub record ChildTypes (ws : Words) (n : ℕ) (r : Row) : Type 0 where
   pub root : r .n ≢ 9 → rep (types-of ws) n ≡ n
