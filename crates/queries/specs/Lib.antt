@@ -4,3 +4,4 @@ pub mod Queries
 pub mod Reading
 pub mod Rows
 pub mod Sizes
+pub mod Takes
