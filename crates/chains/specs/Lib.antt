@@ -1,2 +1,3 @@
-pub mod Noting
-pub mod Marked
+pub mod Walks
+pub mod Planes
+pub mod Sheets

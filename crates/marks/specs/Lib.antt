@@ -1,3 +1,2 @@
 pub mod Planes
 pub mod Keeping
-pub mod Heading

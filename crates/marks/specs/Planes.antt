@@ -1,19 +1,13 @@
 -- A plane: words of the workspace from a base on, one for each place of a slice. What passes note there, and the laws by which their loops go on.
-use Prim.Native.Nat.{ℕ, suc, _+_, _-_, _≤_, _<_}
-use mathlib.Core.Path.{_≡_, refl, sym, _∙_, ap, subst}
-use mathlib.Core.Bool.{Bool}
+use Prim.Native.Nat.{ℕ, _+_, _≤_, _<_}
+use mathlib.Core.Path.{_≡_, refl, sym, _∙_, subst}
 use mathlib.Core.Logic.{_≢_}
 use native.Mathlib.Decide.{ℕ-discrete}
 use native.Mathlib.Omega.{arith}
-use lib.Dec.{eqb}
 use lib.ListN.{length, set, length-set}
 use lib.Seq.{getD-set-same, getD-set-other}
 use Rattle.rules.specs.Lists.{Words}
 use Rattle.rules.specs.Sheet.{at}
-
--- A mark of place i in the plane from b: 1.
-abbrev pub flag : Words → ℕ → ℕ → Bool
-flag ws b i = eqb (at ws (b + i)) 1
 
 -- Of places lo to hi the plane from b holds what f says, and nothing below the plane is changed.
 pub record Noted (b : ℕ) (f : ℕ → ℕ) (lo hi : ℕ) (ws us : Words) : Type 0 where
@@ -43,8 +37,5 @@ module _ (b : ℕ) (f : ℕ → ℕ) (ws us : Words) where
   noted-up i v n h e = one-more i v 0 (i + 1) h e (λ j l k q. n .is j l (omega arith)) (n .long) (n .below)
 
 -- Fewer places.
-pub noted-from : (b : ℕ) (f : ℕ → ℕ) (lo lo′ hi : ℕ) (ws us : Words) → Noted b f lo hi ws us → lo ≤ lo′ → Noted b f lo′ hi ws us
-noted-from b f lo lo′ hi ws us n h = record { long = n .long; is = λ i l k. n .is i (omega arith) k; below = n .below }
-
 pub noted-to : (b : ℕ) (f : ℕ → ℕ) (lo hi hi′ : ℕ) (ws us : Words) → Noted b f lo hi ws us → hi′ ≤ hi → Noted b f lo hi′ ws us
 noted-to b f lo hi hi′ ws us n h = record { long = n .long; is = λ i l k. n .is i l (omega arith); below = n .below }

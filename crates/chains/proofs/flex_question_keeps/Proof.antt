@@ -1,24 +1,25 @@
--- `flex_question_keeps`: the table, by its plane.
-use Rattle.chains.specs.Marked.{flex-question-kept}
+-- `flex_question_keeps`: no marks at first, then the table.
+use Rattle.chains.specs.Planes.{planes-cleared}
+use Rattle.chains.specs.Sheets.{table-only}
 use borrow.Author.Needs.{needs}
 use Rattle.chains.proofs.flex_question_keeps.Statement.{statement}
 use Rattle.chains.proofs.flex_question_keeps.Tie as tie
 
-mark-nodes-requires : tie.Need-mark-nodes-requires
-mark-nodes-requires c κs = search needs
+mul-clear : tie.Need-mul-clear
+mul-clear c = search needs
 
-mul-head-test : tie.Need-mul-head-test
-mul-head-test c = search needs
+clear-requires : tie.Need-clear-requires
+clear-requires c κs = search needs
 
-head-test-requires : tie.Need-head-test-requires
-head-test-requires c κs = search needs
+nodes-keep-requires : tie.Need-nodes-keep-requires
+nodes-keep-requires c κs = (search needs, planes-cleared _ _ _ _ (c .before .before .before .clear .ensures))
 
 same-length : tie.Need-same-length
 same-length c = search needs
 
 returns : tie.Need-returns
-returns c = search (needs, flex-question-kept)
+returns c = table-only _ _ _ (c .before .before .nodes-keep .ensures)
 
 pub flex-question-keeps-spec : {M : Type 1} → statement M
 flex-question-keeps-spec =
-    tie.close (tie.spec mark-nodes-requires mul-head-test head-test-requires same-length returns)
+    tie.close (tie.spec mul-clear clear-requires nodes-keep-requires same-length returns)

@@ -1,58 +1,70 @@
--- `last_heads`: five heads, each by its plane.
-use Rattle.chains.specs.Marked.{last-kept}
+-- `last_heads`: one head after the other.
+use Rattle.chains.specs.Sheets.{goes-planes, run-no, run-on, run-last}
 use borrow.Author.Needs.{needs}
 use Rattle.chains.proofs.last_heads.Statement.{statement}
 use Rattle.chains.proofs.last_heads.Tie as tie
 
-mul-head-test : tie.Need-mul-head-test
-mul-head-test c = search needs
+threes-keep-requires : tie.Need-threes-keep-requires
+threes-keep-requires c κs = search needs
 
-head-test-requires : tie.Need-head-test-requires
-head-test-requires c κs = search needs
-
-head-test-requires-2 : tie.Need-head-test-requires-2
-head-test-requires-2 c κs = search needs
-
-mul-head-test-2 : tie.Need-mul-head-test-2
-mul-head-test-2 c = search needs
-
-head-test-requires-3 : tie.Need-head-test-requires-3
-head-test-requires-3 c κs = search needs
-
-head-test-requires-4 : tie.Need-head-test-requires-4
-head-test-requires-4 c κs = search needs
-
-head-test-requires-5 : tie.Need-head-test-requires-5
-head-test-requires-5 c κs = search needs
-
-both-requires : tie.Need-both-requires
-both-requires c κs = search needs
-
-both-requires-2 : tie.Need-both-requires-2
-both-requires-2 c κs = search needs
-
-both-requires-3 : tie.Need-both-requires-3
-both-requires-3 c κs = search needs
-
-both-requires-4 : tie.Need-both-requires-4
-both-requires-4 c κs = search needs
+same-length : tie.Need-same-length
+same-length c = search needs
 
 returns : tie.Need-returns
-returns c = search (needs, last-kept)
+returns c = run-no (c .before .before .before .threes-keep .ensures) (c .if1 .taken)
+
+cells-keep-requires : tie.Need-cells-keep-requires
+cells-keep-requires c κs = (search needs, goes-planes (c .before .before .before .before .threes-keep .ensures) (c .before .if1 .left))
+
+same-length-2 : tie.Need-same-length-2
+same-length-2 c = search needs
+
+returns-2 : tie.Need-returns-2
+returns-2 c = run-on (c .before .before .before .before .before .before .before .before .threes-keep .ensures) (c .before .before .before .before .before .if1 .left) (run-no (c .before .before .before .cells-keep .ensures) (c .if2 .taken))
+
+threes-keep-requires-2 : tie.Need-threes-keep-requires-2
+threes-keep-requires-2 c κs = (search needs, goes-planes (c .before .before .before .before .cells-keep .ensures) (c .before .if2 .left))
+
+same-length-3 : tie.Need-same-length-3
+same-length-3 c = search needs
+
+returns-3 : tie.Need-returns-3
+returns-3 c = run-on (c .before .before .before .before .before .before .before .before .before .before .before .before .before .threes-keep .ensures) (c .before .before .before .before .before .before .before .before .before .before .if1 .left) (run-on (c .before .before .before .before .before .before .before .before .cells-keep .ensures) (c .before .before .before .before .before .if2 .left) (run-no (c .before .before .before .threes-keep2 .ensures) (c .if3 .taken)))
+
+cells-keep-requires-2 : tie.Need-cells-keep-requires-2
+cells-keep-requires-2 c κs = (search needs, goes-planes (c .before .before .before .before .threes-keep2 .ensures) (c .before .if3 .left))
+
+same-length-4 : tie.Need-same-length-4
+same-length-4 c = search needs
+
+returns-4 : tie.Need-returns-4
+returns-4 c = run-on (c .before .before .before .before .before .before .before .before .before .before .before .before .before .before .before .before .before .before .threes-keep .ensures) (c .before .before .before .before .before .before .before .before .before .before .before .before .before .before .before .if1 .left) (run-on (c .before .before .before .before .before .before .before .before .before .before .before .before .before .cells-keep .ensures) (c .before .before .before .before .before .before .before .before .before .before .if2 .left) (run-on (c .before .before .before .before .before .before .before .before .threes-keep2 .ensures) (c .before .before .before .before .before .if3 .left) (run-no (c .before .before .before .cells-keep2 .ensures) (c .if4 .taken))))
+
+cells-keep-requires-3 : tie.Need-cells-keep-requires-3
+cells-keep-requires-3 c κs = (search needs, goes-planes (c .before .before .before .before .cells-keep2 .ensures) (c .before .if4 .left))
+
+same-length-5 : tie.Need-same-length-5
+same-length-5 c = search needs
+
+returns-5 : tie.Need-returns-5
+returns-5 c = run-on (c .before .before .before .before .before .before .before .before .before .before .before .before .before .before .before .before .before .before .before .before .before .before .threes-keep .ensures) (c .before .before .before .before .before .before .before .before .before .before .before .before .before .before .before .before .before .before .before .if1 .left) (run-on (c .before .before .before .before .before .before .before .before .before .before .before .before .before .before .before .before .before .cells-keep .ensures) (c .before .before .before .before .before .before .before .before .before .before .before .before .before .before .if2 .left) (run-on (c .before .before .before .before .before .before .before .before .before .before .before .before .threes-keep2 .ensures) (c .before .before .before .before .before .before .before .before .before .if3 .left) (run-on (c .before .before .before .before .before .before .before .cells-keep2 .ensures) (c .before .before .before .before .if4 .left) (run-last (c .before .before .cells-keep3 .ensures)))))
 
 pub last-heads-spec : {M : Type 1} → statement M
 last-heads-spec =
     tie.close
     (tie.spec
-    mul-head-test
-    head-test-requires
-    head-test-requires-2
-    mul-head-test-2
-    head-test-requires-3
-    head-test-requires-4
-    head-test-requires-5
-    both-requires
-    both-requires-2
-    both-requires-3
-    both-requires-4
-    returns)
+    threes-keep-requires
+    same-length
+    returns
+    cells-keep-requires
+    same-length-2
+    returns-2
+    threes-keep-requires-2
+    same-length-3
+    returns-3
+    cells-keep-requires-2
+    same-length-4
+    returns-4
+    cells-keep-requires-3
+    same-length-5
+    returns-5)

@@ -1,34 +1,43 @@
--- `sheet_keeps`: both halves of the header.
-use Rattle.chains.specs.Marked.{sheet-kept}
+-- `sheet_keeps`: no marks at first, then both halves of the header.
+use Rattle.chains.specs.Planes.{planes-cleared}
+use Rattle.chains.specs.Sheets.{run-planes, sheet-first, sheet-last}
 use borrow.Author.Needs.{needs}
 use Rattle.chains.proofs.sheet_keeps.Statement.{statement}
 use Rattle.chains.proofs.sheet_keeps.Tie as tie
 
-mark-sheet-requires : tie.Need-mark-sheet-requires
-mark-sheet-requires c κs = search needs
+mul-clear : tie.Need-mul-clear
+mul-clear c = search needs
+
+clear-requires : tie.Need-clear-requires
+clear-requires c κs = search needs
 
 first-heads-requires : tie.Need-first-heads-requires
-first-heads-requires c κs = search needs
-
-last-heads-requires : tie.Need-last-heads-requires
-last-heads-requires c κs = search needs
-
-both-requires : tie.Need-both-requires
-both-requires c κs = search needs
+first-heads-requires c κs = (search needs, planes-cleared _ _ _ _ (c .before .before .before .clear .ensures))
 
 same-length : tie.Need-same-length
 same-length c = search needs
 
 returns : tie.Need-returns
-returns c = search (needs, sheet-kept)
+returns c = sheet-first _ _ _ _ (c .before .before .before .first-heads .ensures) (c .if1 .taken)
+
+last-heads-requires : tie.Need-last-heads-requires
+last-heads-requires c κs = (search needs, run-planes (c .before .before .before .before .first-heads .ensures) (c .before .if1 .left))
+
+same-length-2 : tie.Need-same-length-2
+same-length-2 c = search needs
+
+returns-2 : tie.Need-returns-2
+returns-2 c = sheet-last _ _ _ _ (c .before .before .before .before .before .before .before .first-heads .ensures) _ _ (c .before .before .before .before .if1 .left) (c .before .before .last-heads .ensures)
 
 pub sheet-keeps-spec : {M : Type 1} → statement M
 sheet-keeps-spec =
     tie.close
     (tie.spec
-    mark-sheet-requires
+    mul-clear
+    clear-requires
     first-heads-requires
-    last-heads-requires
-    both-requires
     same-length
-    returns)
+    returns
+    last-heads-requires
+    same-length-2
+    returns-2)

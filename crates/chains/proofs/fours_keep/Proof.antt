@@ -1,0 +1,24 @@
+-- `fours_keep`: a walk in plane 4.
+use Rattle.chains.specs.Planes.{fours-go}
+use borrow.Author.Needs.{needs}
+use Rattle.chains.proofs.fours_keep.Statement.{statement}
+use Rattle.chains.proofs.fours_keep.Tie as tie
+
+field-at-requires : tie.Need-field-at-requires
+field-at-requires c κs = search needs
+
+mul-plain-keep : tie.Need-mul-plain-keep
+mul-plain-keep c = search needs
+
+plain-keep-requires : tie.Need-plain-keep-requires
+plain-keep-requires c κs = search needs
+
+same-length : tie.Need-same-length
+same-length c = search needs
+
+returns : tie.Need-returns
+returns c = search (needs, fours-go)
+
+pub fours-keep-spec : {M : Type 1} → statement M
+fours-keep-spec =
+    tie.close (tie.spec field-at-requires mul-plain-keep plain-keep-requires same-length returns)
