@@ -32,16 +32,16 @@ pub struct Worst {
   pub call: Call,
 }
 
-/// A call of source 0 and generics 0 on a sheet for the arguments of trait 0; in a flex call, for enum 0 of them, whose
+/// A call of source 0 and generics 0 on a sheet for the arguments of a trait?; in a flex call, for enum 0 of them, whose
 /// inverse nothing meets.
-fn call(sheet: &Sheet, table: &Table, args: &[u32], flex: bool) -> Call {
+fn call(sheet: &Sheet, table: &Table, args: &[u32], trait_: u32, flex: bool) -> Call {
   let rng = &mut Rng::new(0);
   let mut table = table.clone();
   let question = if flex {
     let word = table.add(kind::ENUM, 0, args);
     flex_question(&table, word, TIGHT, rng)
   } else {
-    let query = Query { trait_: 1, args: args.to_vec() };
+    let query = Query { trait_, args: args.to_vec() };
     impl_question(&table, &query, TIGHT, rng)
   };
   Call {
@@ -209,6 +209,20 @@ fn meetings() -> Vec<(&'static str, Search)> {
     ),
     ("types of 110 nodes alike, and one in itself", Search { meeting: Within, dense: 110, ..base }),
     (
+      "types of 110 nodes alike, and a struct inverted",
+      Search { meeting: Turned, dense: 110, ..base },
+    ),
+    ("towers of 110 nodes brought from the sheet", Search { meeting: Brought, dense: 110, ..base }),
+    (
+      "the same of 68 nodes, with four that are found",
+      Search { meeting: Brought, dense: 68, found: 4, ..base },
+    ),
+    ("few of 300 nodes reached", Search { meeting: Nothing, unreached: 300, ..base }),
+    (
+      "towers of 72 of 200 nodes that differ at the bottom",
+      Search { meeting: Bottom, dense: 72, unreached: 128, ..base },
+    ),
+    (
       "84 unknowns meet a type of 110 nodes",
       Search { meeting: Unknowns, dense: 110, links: 12, ..base },
     ),
@@ -227,7 +241,8 @@ fn meetings() -> Vec<(&'static str, Search)> {
   ]
 }
 
-fn searches() -> Vec<Worst> {
+/// Results, and searches that spend all steps, by part.
+pub fn searches() -> Vec<Worst> {
   let name = "four to each of three sub-questions".into();
   let mut all = vec![Worst { part: "results", name, call: search::results(130) }];
   let steps = Search::default().levels;

@@ -32,8 +32,15 @@ fn main() -> ExitCode {
       ExitCode::SUCCESS
     }
     ["--worst", ref rest @ ..] => worst_alone(rest),
+    ["--searches"] => {
+      if worst::searches_end() {
+        ExitCode::SUCCESS
+      } else {
+        ExitCode::FAILURE
+      }
+    }
     _ => {
-      eprintln!("usage: bench [--worst [LEVELS] [TRIES] [SEED]]");
+      eprintln!("usage: bench [--searches | --worst [LEVELS] [TRIES] [SEED]]");
       ExitCode::FAILURE
     }
   }

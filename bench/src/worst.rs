@@ -180,6 +180,23 @@ pub fn table(levels: usize) -> bool {
   slow + wrong == 0
 }
 
+/// Whether the searches of impl calls that spend all steps end, each within five times the time that an input may take. Without
+/// the test before a candidate is opened most of them take longer.
+pub fn searches_end() -> bool {
+  let all = adversary::searches();
+  let searches: Vec<_> = all.iter().filter(|worst| worst.part == "search, impl").collect();
+  let mut ended = 0;
+  for worst in &searches {
+    match timed(&worst.call, Side::Port, 5 * IN_TIME) {
+      Some(took) if took.count > rust::STEPS_LIMIT => ended += 1,
+      Some(took) => println!("{}: number {}, {} steps", worst.name, took.number, took.count),
+      None => println!("{}: not in {:?}", worst.name, 5 * IN_TIME),
+    }
+  }
+  println!("{ended} of {} searches that spend all steps have ended in time", searches.len());
+  ended == searches.len()
+}
+
 fn print_row(worst: &Worst, port: Option<Took>) {
   let Worst { part, name, call } = worst;
   let checked = port.is_none_or(|took| took.number == 0 || took.number > 13);

@@ -100,7 +100,7 @@ impl Join {
     for_any(&mut sheet, [0, 0], false);
     let mut table = Table::default();
     let args = [0, 1].map(|side| self.side(&mut table, side));
-    call(&sheet, &table, &args, false)
+    call(&sheet, &table, &args, 1, false)
   }
 
   /// A type meets its own copy after the search. Round Error it is indeterminate. Round Default the search has found it to be the
@@ -114,12 +114,12 @@ impl Join {
     if self.error {
       let y = if self.shape == Shape::Skew { side(false) } else { x };
       for_any(&mut sheet, [0, 2, 4], flex);
-      return call(&sheet, &table, &[x, y, x], flex);
+      return call(&sheet, &table, &[x, y, x], 1, flex);
     }
     let y = side(false);
     let reference = table.add(kind::REF, 0, &[x]);
     for_any(&mut sheet, [0, 2, 3], flex);
-    call(&sheet, &table, &[reference, x, y], flex)
+    call(&sheet, &table, &[reference, x, y], 1, flex)
   }
 
   /// An unknown that fork's impl and drop's have a type for each.
@@ -147,7 +147,7 @@ fn fork_and_drop(types: [(Table, u32); 2], structs: usize) -> Call {
   }
   let mut table = Table::default();
   let unknown = table.add(0, 0, &[]);
-  call(&sheet, &table, &[unknown], true)
+  call(&sheet, &table, &[unknown], 1, true)
 }
 
 /// An impl of trait 0 for any types, by type words over its parameters.
@@ -169,7 +169,7 @@ pub fn copied(nodes: usize, flex: bool) -> Call {
   for_any(&mut sheet, [0], flex);
   let mut table = Table::default();
   let word = dense(&mut table, None, nodes);
-  call(&sheet, &table, &[word], flex)
+  call(&sheet, &table, &[word], 1, flex)
 }
 
 /// A tower that is indeterminate is met again and again, and between a join changes the table: links of a tower, an unknown

@@ -26,6 +26,10 @@ pub enum Meeting {
   Mirrored,
   /// Two types of one shape, and an unknown that would be within itself.
   Within,
+  /// A struct that is not self-dual and is inverted: there it fails.
+  Turned,
+  /// As `Bound`, but a first candidate brings the question's type from the sheet, which has room for more.
+  Brought,
   /// Unknowns of the candidate, each of which is bound to a dense type.
   Unknowns,
   /// Places where a dense type meets its own inverse.
@@ -48,6 +52,10 @@ pub struct Search {
   pub links: usize,
   /// The question's generics have four impl parameters that fail like the candidates.
   pub params: bool,
+  /// Candidates that succeed: what they give is dropped, since each sub-question is followed by one that has no answer.
+  pub found: usize,
+  /// Nodes of the tables of failing candidates that nothing reaches, behind all others.
+  pub unreached: usize,
   /// Generics or structs that fill the sheet in front of those that are used.
   pub generics: usize,
   pub structs: usize,
@@ -56,7 +64,8 @@ pub struct Search {
 impl Search {
   pub fn call(&self) -> Call {
     let mut sheet = bare(3, self.flex);
-    sheet.structs = vec![(0, 1); self.structs + 2];
+    let self_dual = u32::from(self.meeting != Meeting::Turned);
+    sheet.structs = vec![(0, self_dual); self.structs + 2];
     sheet.generics.extend(vec![Generics::default(); self.generics]);
     if self.params {
       let failing = self.failing(0, 0);
@@ -68,13 +77,45 @@ impl Search {
       bind(&mut sheet, recursive.clone());
     }
     sheet.generics.push(Generics { type_params: 1, ..Generics::default() });
-    for place in self.branch..IMPLS {
+    for _ in 0..self.found {
+      let found = self.succeeding(sheet.generics.len() as u32 - 1);
+      bind(&mut sheet, found);
+    }
+    let brings = usize::from(self.meeting == Meeting::Brought);
+    for place in self.branch + self.found..IMPLS - brings {
       let failing = self.failing(sheet.generics.len() as u32 - 1, place as u32);
       bind(&mut sheet, failing);
     }
     let mut table = Table::default();
     let args = self.asked(&mut table);
-    call(&sheet, &table, &args, self.flex)
+    if self.meeting == Meeting::Brought {
+      self.bring(&mut sheet);
+      return call(&sheet, &table, &args, 2, self.flex);
+    }
+    call(&sheet, &table, &args, 1, self.flex)
+  }
+
+  /// Adds a trait of as many arguments, and a candidate for any of them that needs trait 0 for a tower, Never and the third.
+  fn bring(&self, sheet: &mut Sheet) {
+    sheet.traits.push(sheet.traits[0]);
+    if self.flex {
+      (sheet.fork, sheet.drop) = (2, 2);
+    }
+    let mut generics = Generics { type_params: 1, ..Generics::default() };
+    let third = generics.table.add(kind::PARAM, 0, &[]);
+    let last = generics.table.add(kind::TUPLE, 0, &[]);
+    let tower = tower(&mut generics.table, self.struct_id(), self.dense, last);
+    let never = generics.table.add(kind::NEVER, 0, &[]);
+    let needed = query(&mut generics.table, &[tower, never, third], self.flex);
+    generics.impl_params.push(needed);
+    let generics_id = sheet.generics.len() as u32;
+    sheet.generics.push(generics);
+    let mut impl_ = Impl { generics: generics_id, flags: flag::NAMED, ..Impl::default() };
+    let [first, second] = [(); 2].map(|()| impl_.table.add(0, 0, &[]));
+    let third = impl_.table.add(kind::PARAM, 0, &[]);
+    impl_.query = query(&mut impl_.table, &[first, second, third], self.flex);
+    impl_.query.trait_ = 2;
+    bind(sheet, impl_);
   }
 
   /// The struct that stands round what is asked below, and the one that dense types have.
@@ -96,6 +137,11 @@ impl Search {
     let inner = [0, 1, 2].map(|id| generics.table.add(kind::PARAM, id, &[]));
     let needed = query(&mut generics.table, &inner, self.flex);
     generics.impl_params.push(needed);
+    if self.found > 0 {
+      let last = generics.table.add(kind::ENUM, 0, &[]);
+      let needed = query(&mut generics.table, &[inner[0], inner[1], last], self.flex);
+      generics.impl_params.push(needed);
+    }
     let mut impl_ =
       Impl { generics: sheet.generics.len() as u32, flags: flag::NAMED, ..Impl::default() };
     let mut outer = [0, 1, 2].map(|id| impl_.table.add(kind::PARAM, id, &[]));
@@ -105,8 +151,31 @@ impl Search {
     impl_
   }
 
-  /// A candidate that fails in its third argument, a Key of its own.
+  /// A candidate for the tower that is asked for, anything and any struct. All but its first node are those of a failing one.
+  fn succeeding(&self, generics: u32) -> Impl {
+    let mut impl_ = Impl { generics, flags: flag::NAMED, ..Impl::default() };
+    let table = &mut impl_.table;
+    let inner = 2 * (3 + self.dense / 2 * 2) as u32;
+    let third = table.add(kind::STRUCT, self.round(), &[inner]);
+    let second = table.add(0, 0, &[]);
+    let last = table.add(kind::PARAM, 0, &[]);
+    let first = tower(table, self.struct_id(), self.dense, last);
+    table.add(0, 0, &[]);
+    impl_.query = query(table, &[first, second, third], self.flex);
+    impl_
+  }
+
+  /// A candidate that fails, with all nodes of its table.
   fn failing(&self, generics: u32, key: u32) -> Impl {
+    let mut impl_ = self.failing_reached(generics, key);
+    for _ in 0..self.unreached {
+      impl_.table.add(kind::NEVER, 0, &[]);
+    }
+    impl_
+  }
+
+  /// A candidate that fails in its third argument, a Key of its own.
+  fn failing_reached(&self, generics: u32, key: u32) -> Impl {
     let mut impl_ = Impl { generics, flags: flag::NAMED, ..Impl::default() };
     let table = &mut impl_.table;
     let fails = table.add(kind::KEY, key, &[]);
@@ -114,7 +183,12 @@ impl Search {
       Meeting::Nothing => (table.add(0, 0, &[]), table.add(0, 0, &[])),
       Meeting::Import => (fails, self.dense(table)),
       Meeting::Alike => (self.dense(table), table.add(0, 0, &[])),
-      Meeting::Bottom | Meeting::Bound | Meeting::Mirrored | Meeting::Within => {
+      Meeting::Bottom
+      | Meeting::Bound
+      | Meeting::Brought
+      | Meeting::Mirrored
+      | Meeting::Turned
+      | Meeting::Within => {
         return self.failing_before(impl_);
       }
       Meeting::Unknowns => {
@@ -138,9 +212,16 @@ impl Search {
         let last = table.add(kind::KEY, 0, &[]);
         [tower(table, self.struct_id(), self.dense, last), table.add(0, 0, &[])]
       }
-      Meeting::Bound => {
+      Meeting::Bound | Meeting::Brought => {
+        if self.found > 0 {
+          table.add(0, 0, &[]);
+        }
         let last = table.add(kind::PARAM, 0, &[]);
         [tower(table, self.struct_id(), self.dense, last), last]
+      }
+      Meeting::Turned => {
+        let inner = table.add(0, 0, &[]);
+        [self.dense(table), table.add(kind::STRUCT, self.round() + 1, &[inner]) + 1]
       }
       Meeting::Mirrored => [self.dense(table), table.add(kind::ENUM, 0, &[]) + 1],
       _ => {
@@ -157,7 +238,7 @@ impl Search {
   /// The arguments that are asked for.
   fn asked(&self, table: &mut Table) -> [u32; 3] {
     let dense = match self.meeting {
-      Meeting::Nothing | Meeting::Import => table.add(kind::TUPLE, 0, &[]),
+      Meeting::Nothing | Meeting::Import | Meeting::Brought => table.add(kind::TUPLE, 0, &[]),
       Meeting::Bottom | Meeting::Bound => {
         let last = table.add(kind::TUPLE, 0, &[]);
         tower(table, self.struct_id(), self.dense, last)
@@ -168,6 +249,10 @@ impl Search {
       Meeting::Unknowns | Meeting::Inverse => links(table, self.links, |_| [dense; 7]),
       Meeting::Bound => table.add(kind::NEVER, 0, &[]),
       Meeting::Mirrored => table.add(kind::ENUM, 0, &[]),
+      Meeting::Turned => {
+        let inner = table.add(kind::TUPLE, 0, &[]);
+        table.add(kind::STRUCT, self.round() + 1, &[inner])
+      }
       Meeting::Within => {
         let unknown = table.add(0, 0, &[]);
         table.add(kind::TUPLE, 0, &[unknown, unknown])
@@ -193,6 +278,8 @@ impl Default for Search {
       dense: 1,
       links: 0,
       params: false,
+      found: 0,
+      unreached: 0,
       generics: 0,
       structs: 0,
     }
@@ -228,15 +315,16 @@ pub fn results(nodes: usize) -> Call {
   let first = dense(&mut table, None, nodes);
   let never = table.add(kind::NEVER, 0, &[]);
   let second = table.add(kind::STRUCT, 0, &[never]);
-  call(&sheet, &table, &[first, second], false)
+  call(&sheet, &table, &[first, second], 1, false)
 }
 
 /// A search by chance.
 pub fn random(rng: &mut Rng) -> Search {
   use Meeting::*;
   let (levels, branch) = rng.pick(&[(2, 44), (3, 12), (3, 13), (4, 7), (5, 5), (6, 4), (10, 2)]);
-  let meeting =
-    rng.pick(&[Nothing, Import, Alike, Bottom, Bound, Mirrored, Within, Unknowns, Inverse]);
+  let meeting = rng.pick(&[
+    Nothing, Import, Alike, Bottom, Bound, Mirrored, Within, Turned, Brought, Unknowns, Inverse,
+  ]);
   let of_structs = rng.chance(50);
   let filler = rng.range(0, 400);
   Search {
@@ -248,6 +336,8 @@ pub fn random(rng: &mut Rng) -> Search {
     dense: rng.range(1, if meeting == Import { 230 } else { 120 }),
     links: rng.range(1, if meeting == Unknowns { 14 } else { 60 }),
     params: rng.chance(20),
+    found: 0,
+    unreached: if rng.chance(30) { rng.range(0, 300) } else { 0 },
     generics: if of_structs { 0 } else { filler },
     structs: if of_structs { filler } else { 0 },
   }

@@ -38,7 +38,7 @@ pub fn tables(generics: usize, nodes: usize, asked: usize, ending: Ending) -> Ca
   if ending == Ending::Question {
     word = table.add(kind::TUPLE, 0, &[word, word + 2]);
   }
-  call(&sheet, &table, &[word], false)
+  call(&sheet, &table, &[word], 1, false)
 }
 
 /// Definitions that share their chains.
@@ -83,7 +83,7 @@ impl Charts {
       let query = Query { trait_: place as u32 + 1, args: Vec::new() };
       sheet.impls.push(Impl { flags, query, ..Impl::default() });
     }
-    let mut call = call(&sheet, &Table::default(), &[], false);
+    let mut call = call(&sheet, &Table::default(), &[], 1, false);
     call.source = self.definitions as u32 - 1;
     call
   }
