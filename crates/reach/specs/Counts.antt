@@ -3,7 +3,7 @@ use Prim.Native.Nat.{ℕ, zero, suc, _+_, _*_, _/_, _≤_, _<_}
 use mathlib.Core.Path.{_≡_, refl, sym, _∙_, ap, subst}
 use mathlib.Core.Bool.{Bool, true, false}
 use mathlib.Core.List.{List, [], _∷_, map}
-use mathlib.Core.Option.{Option, none, some}
+use mathlib.Core.Option.{Option, some}
 use mathlib.Core.Logic.{_≢_, _⊎_, inl, inr}
 use native.Mathlib.Nat.{le-of-suc-le-suc, not-suc-le-zero}
 use native.Mathlib.Omega.{arith}
@@ -11,11 +11,11 @@ use lib.Dec.{eqb}
 use lib.ListN.{length, getD, take}
 use lib.Seq.{length-take-le}
 use Rattle.rules.specs.Lists.{Words}
-use Rattle.rules.specs.Layout.{node·kind, node·inverted, node·id, node·children, kind·unknown, kind·param}
+use Rattle.rules.specs.Layout.{node·kind, node·inverted, node·id, kind·unknown}
 use Rattle.rules.specs.Sheet.{at, chain, chain-of}
 use Rattle.rules.specs.Types.{Ty, TypeState, known, Types, invert-if, state-at}
 use Rattle.rules.specs.Transfer.{param-for, import-types, type-of-word, cell-types, node-state, table}
-use Rattle.rules.specs.Solutions.{rep, AllIn, ChildrenIn, WellFormed, eqb-true, eqb-false}
+use Rattle.rules.specs.Solutions.{AllIn, ChildrenIn, WellFormed, eqb-true, eqb-false}
 use Rattle.rules.specs.Acyclic.{children}
 use Rattle.rules.specs.Members.{In, first, later}
 use Rattle.rules.specs.TransferCount.{import-most}

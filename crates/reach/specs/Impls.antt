@@ -1,7 +1,7 @@
 -- The signatures of all impls of a checked sheet.
-use Prim.Native.Nat.{ℕ, zero, suc, _+_, _*_, _≤_, _<_}
+use Prim.Native.Nat.{ℕ, _+_, _*_, _≤_, _<_}
 use mathlib.Core.Path.{_≡_, refl, sym, _∙_, ap, subst}
-use mathlib.Core.Bool.{Bool, true}
+use mathlib.Core.Bool.{true}
 use mathlib.Core.Option.{some}
 use mathlib.Core.Logic.{_≢_, ⊎-elim}
 use native.Mathlib.Nat.{eq-or-lt-of-le}
@@ -9,14 +9,13 @@ use native.Mathlib.Omega.{arith}
 use lib.ListN.{length, set}
 use lib.Seq.{getD-set-same, getD-set-other}
 use Rattle.rules.specs.Lists.{Words}
-use Rattle.rules.specs.Layout.{header·generics, header·impls, impl·table, impl·generics}
+use Rattle.rules.specs.Layout.{header·generics, header·impls, impl·table}
 use Rattle.rules.specs.Sheet.{at, chain, records, many, field, type-params, impl-generics, impl-table, impl-args}
-use Rattle.rules.specs.Types.{Types}
 use Rattle.rules.specs.Transfer.{import-impl-type}
 use Rattle.rules.specs.Search.{Finder, impl-signature, fresh-params, with-fresh}
 use Rattle.rules.specs.CheckedTables.{Ready}
 use Rattle.rules.specs.Neat.{impl-generics-in, signature-neat, signature-in, fresh-length}
-use Rattle.rules.specs.SearchKeeps.{fresh-count, signed}
+use Rattle.rules.specs.SearchKeeps.{fresh-count}
 use Rattle.rules.specs.CommonTerms.{fresh-most}
 use Rattle.queries.specs.Sizes.{impl-few}
 use Rattle.queries.specs.Takes.{SignatureTakes}

@@ -1,8 +1,8 @@
 -- The impl parameters of the caller's generics.
-use Prim.Native.Nat.{ℕ, zero, suc, _+_, _*_, _≤_, _<_}
+use Prim.Native.Nat.{ℕ, _+_, _*_, _≤_, _<_}
 use mathlib.Core.Path.{_≡_, refl, sym, _∙_, ap, subst}
-use mathlib.Core.Bool.{Bool, false, true}
-use mathlib.Core.List.{[], map}
+use mathlib.Core.Bool.{false, true}
+use mathlib.Core.List.{[]}
 use mathlib.Core.Option.{none}
 use mathlib.Core.Logic.{_≢_, ⊎-elim}
 use native.Mathlib.Nat.{eq-or-lt-of-le}
@@ -10,8 +10,8 @@ use native.Mathlib.Omega.{arith}
 use lib.ListN.{length, getD, set, length-map}
 use lib.Seq.{getD-set-same, getD-set-other}
 use Rattle.rules.specs.Lists.{Words}
-use Rattle.rules.specs.Layout.{header·generics, generics·table, generics·impl-params, impl-param·trait, impl-param·args}
-use Rattle.rules.specs.Sheet.{at, chain, records, many, field, generics-table, impl-param-records}
+use Rattle.rules.specs.Layout.{header·generics, impl-param·trait, impl-param·args}
+use Rattle.rules.specs.Sheet.{at, chain, many, field, generics-table, impl-param-records}
 use Rattle.rules.specs.Types.{ImplType}
 use Rattle.rules.specs.Transfer.{import-types, import-impl-type, cell-types}
 use Rattle.rules.specs.Solutions.{AllIn}

@@ -16,7 +16,7 @@ use Rattle.rules.specs.Sheet.{at, chain, chain-of}
 use Rattle.rules.specs.WordLaws.{word-past}
 use Rattle.rules.specs.Members.{In, in-cases, in-empty}
 use Rattle.rules.specs.Pigeonholes.{lt-or}
-use Rattle.reach.specs.Within.{marked, marked-none, marked-more}
+use Rattle.reach.specs.Within.{marked, marked-more}
 
 never : {A : Type 0} → false ≡ true → A
 never e = let z : _≡_ {A = ℕ} 0 1 = cc in absurd (omega arith)

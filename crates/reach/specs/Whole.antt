@@ -9,7 +9,7 @@ use native.Mathlib.Omega.{arith}
 use lib.Dec.{T, lit<}
 use lib.ListN.{length}
 use Rattle.rules.specs.Lists.{Words}
-use Rattle.rules.specs.Layout.{header·length, header·generics, header·impls, generics·length}
+use Rattle.rules.specs.Layout.{header·length, header·generics, generics·length}
 use Rattle.rules.specs.Sheet.{at, chain, chain-of, records, many}
 use Rattle.rules.specs.Chains.{zero-or-from, chain-keeps, head-keeps, generics-keep, sheet-keeps}
 use Rattle.rules.specs.CheckLaws.{part}
