@@ -12,7 +12,7 @@ ghost use Rattle.reach.specs.Impls.{Called, Checked, Generics, params-at
 ghost use Rattle.reach.specs.Params.{PutsParam, PutsParams, ParamsPut};
 use chart::layout;
 
-// As many nodes as a walk goes to: no table has more.
+// As many nodes as a walk goes to: no table of a search has more.
 const NODES: usize = 256;
 
 // What is told, in place of the queue's end, where there are more.
@@ -36,7 +36,7 @@ fn is_given(sheet: &[u32], with: bool, p: usize) -> bool
     false
 }
 
-// Marks node k and queues its record, if there is anything to do for it.
+// Marks node k and queues its record, unless it is marked already or a Param that is given. The queue's end after it.
 fn enter(
     sheet: &[u32],
     places: &mut [u32],
