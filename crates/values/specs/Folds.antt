@@ -16,6 +16,7 @@ use Rattle.rules.specs.Limits.{limit·sheet}
 use Rattle.rules.specs.Sheet.{at, chain, chain-of}
 use Rattle.rules.specs.Chains.{no-heads}
 use Rattle.rules.specs.ChainLaws.{Keeps, at-end, at-record, chain-rule, chain-step}
+use Rattle.chart.specs.Index.{chain-within}
 use Rattle.rules.specs.Members.{same-test, all-cons, In, first, later}
 
 -- The larger of two.
@@ -40,50 +41,28 @@ larger-least a b n = go (decLe a b)
     go (yes h) = (λ l. (omega (arith, larger-right a b h), omega (arith, larger-right a b h)), λ r. omega (arith, larger-right a b h))
     go (no h) = (λ l. (omega (arith, larger-left a b (omega arith)), omega (arith, larger-left a b (omega arith))), λ r. omega (arith, larger-left a b (omega arith)))
 
--- One record more: a count goes up by 1 (and never past the size of a slice), or the larger need holds.
-unfoldable pub join : Bool → ℕ → ℕ → ℕ
-join true v m = elim (ltb m limit·sheet) [ true ↦ suc m | false ↦ m ]
-join false v m = larger v m
+-- One record more: a count goes up by 1, and never past the size of a slice.
+unfoldable pub longer : ℕ → ℕ
+longer m = elim (ltb m limit·sheet) [ true ↦ suc m | false ↦ m ]
 
-module _ (count : Bool) (v m : ℕ) where
-  -- A count goes up.
-  pub join-up : count ≡ true → m < limit·sheet → m + 1 ≡ join count v m
-  unfolding join
-  join-up e l = (let q : m + 1 ≡ suc m = omega arith in q) ∙ sym (ap (λ x. elim x as (λ b. ℕ) [ true ↦ suc m | false ↦ m ]) (lt-ltb m limit·sheet l)) ∙ ap (λ c. join c v m) (sym e)
+-- It goes up.
+pub longer-up : (m : ℕ) → m < limit·sheet → m + 1 ≡ longer m
+unfolding longer
+longer-up m l = rw (lt-ltb m limit·sheet l, longer) (omega arith)
 
-  -- A count stays at the size of a slice.
-  pub join-full : count ≡ true → limit·sheet ≤ m → m ≡ join count v m
-  unfolding join
-  join-full e l = sym (ap (λ x. elim x as (λ b. ℕ) [ true ↦ suc m | false ↦ m ]) (le-ltb m limit·sheet l)) ∙ ap (λ c. join c v m) (sym e)
-
-  -- The need of the others is the larger.
-  pub join-right : count ≡ false → v ≤ m → m ≡ join count v m
-  unfolding join
-  join-right e l = larger-right v m l ∙ ap (λ c. join c v m) (sym e)
-
-  -- The need of the record is the larger.
-  pub join-left : count ≡ false → m < v → v ≡ join count v m
-  unfolding join
-  join-left e l = larger-left v m l ∙ ap (λ c. join c v m) (sym e)
-
--- How many records there are, or the most that f gives for one.
-unfoldable pub fold : Bool → (ℕ → ℕ) → Words → ℕ
-fold c f [] = 0
-fold c f (p ∷ ps) = join c (f p) (fold c f ps)
+-- It stays at the size of a slice.
+pub longer-full : (m : ℕ) → limit·sheet ≤ m → m ≡ longer m
+unfolding longer
+longer-full m l = rw (le-ltb m limit·sheet l, longer)
 
 -- The most that f gives for a record.
-abbrev pub most : (ℕ → ℕ) → Words → ℕ
-most f ps = fold false f ps
-
--- The count of records is their number.
-pub fold-count : (f : ℕ → ℕ) (ps : Words) → length ps ≤ limit·sheet → fold true f ps ≡ length ps
-unfolding fold join
-fold-count f [] h = refl
-fold-count f (p ∷ ps) h = let e = fold-count f ps (omega arith) in rw (lt-ltb (fold true f ps) limit·sheet (omega arith), join) (ap suc e)
+unfoldable pub most : (ℕ → ℕ) → Words → ℕ
+most f [] = 0
+most f (p ∷ ps) = larger (f p) (most f ps)
 
 -- The most is at most n if each is.
 pub most-least : (f : ℕ → ℕ) (n : ℕ) (ps : Words) → T (all (λ p. leb (f p) n) ps) ↔ (most f ps ≤ n)
-unfolding fold join all
+unfolding most all
 most-least f n [] = (λ t. omega arith, λ l. tt)
 most-least f n (p ∷ ps) =
     let a = all-cons (λ q. leb (f q) n) p ps in
@@ -96,10 +75,10 @@ pub most-leb : (f : ℕ → ℕ) (n : ℕ) (ps : Words) → all (λ p. leb (f p)
 most-leb f n ps = same-test _ _ (λ t. le→leb (most f ps) n (most-least f n ps .0 t), λ t. most-least f n ps .1 (leb→le (most f ps) n t))
 
 -- The same of functions that agree on a chain.
-pub fold-same : (c : Bool) (f g : ℕ → ℕ) (ps : Words) → ((p : ℕ) → In p ps → f p ≡ g p) → fold c f ps ≡ fold c g ps
-unfolding fold
-fold-same c f g [] h = refl
-fold-same c f g (p ∷ ps) h = λ t. join c (h p first t) (fold-same c f g ps (λ q i. h q (later i)) t)
+pub most-same : (f g : ℕ → ℕ) (ps : Words) → ((p : ℕ) → In p ps → f p ≡ g p) → most f ps ≡ most g ps
+unfolding most
+most-same f g [] h = refl
+most-same f g (p ∷ ps) h = λ t. larger (h p first t) (most-same f g ps (λ q i. h q (later i)) t)
 
 -- A chain that goes forward: every next is zero or past its record's place, within the slice.
 abbrev pub Forward : Words → ℕ → Type 0
@@ -169,71 +148,89 @@ mark-same ws us b to (suc h) l same = go (decLt (suc h) limit·sheet)
     go (yes k) = sym (mark-some us b (suc h) (at us (b + suc h)) (λ e. omega arith) k refl) ∙ same (b + suc h) (omega arith) ∙ mark-some ws b (suc h) (at ws (b + suc h)) (λ e. omega arith) k refl
     go (no k) = sym (mark-past us b (suc h) (omega arith)) ∙ mark-past ws b (suc h) (omega arith)
 
--- The words of the plane from f.
-abbrev pub plane : Words → ℕ → ℕ → ℕ
-plane ws f p = at ws (f + p)
-
 -- In the plane from b is noted, from place lo on, what g says of each place from which a chain goes forward; nothing below the plane is changed.
 pub record Folded (s : Words) (b : ℕ) (g : ℕ → ℕ) (lo : ℕ) (ws us : Words) : Type 0 where
   pub long : length us ≡ length ws
   pub is : (i : ℕ) → lo ≤ i → i < length s → Forward s i → at us (b + i) ≡ g i
   pub below : (j : ℕ) → j < b → at us j ≡ at ws j
 
--- One step: the record at a place, and what is noted of its next.
-unfoldable pub fold-step : Words → Bool → Words → ℕ → ℕ → ℕ → ℕ
-fold-step s c ws f b i = join c (at ws (f + i)) (chain-mark ws b (at s i))
+-- Nothing is noted yet.
+pub fold-none : (s : Words) (b : ℕ) (g : ℕ → ℕ) (ws : Words) → Folded s b g (length s) ws ws
+fold-none s b g ws = record { long = refl; is = λ i l k o. absurd (omega arith); below = λ j l. refl }
 
--- The words that make up a step.
-pub fold-found : (s : Words) (c : Bool) (ws : Words) (f b i v next m r : ℕ) → v ≡ at ws (f + i) → next ≡ at s i → m ≡ chain-mark ws b next → r ≡ join c v m → r ≡ fold-step s c ws f b i
-unfolding fold-step
-fold-found s c ws f b i v next m r e n k h = h ∙ λ t. join c (e t) ((k ∙ ap (chain-mark ws b) n) t)
+module _ (s : Words) (b : ℕ) (g : ℕ → ℕ) (ws us : Words) where
+  -- What is noted of the next of a record, where all that lies further on is noted.
+  pub next-noted : (i : ℕ) → length s ≤ limit·sheet → g 0 ≡ 0 → Folded s b g (suc i) ws us → 0 < i → Forward s i → chain-mark us b (at s i) ≡ g (at s i)
+  next-noted i small z n p o = go (onward p o .beyond)
+    where
+      go : (at s i ≡ 0) ⊎ (i < at s i) → chain-mark us b (at s i) ≡ g (at s i)
+      go (inl e) = sym (mark-none us b (at s i) e) ∙ sym (ap g e ∙ z)
+      go (inr l) =
+          let k = onward (omega arith) (onward p o .rest) .inside in
+          sym (mark-some us b (at s i) (at us (b + at s i)) (λ e. omega arith) (omega arith) refl) ∙ n .is (at s i) l k (onward p o .rest)
 
-module _ (s : Words) (c : Bool) (ws : Words) (f b : ℕ) where
-  -- What the pass notes of a place.
-  abbrev pub folded : ℕ → ℕ
-  folded i = fold c (plane ws f) (chain s i)
+  -- The loop that falls: one place more, where what is noted follows from what is noted further on.
+  pub fold-more : (i r : ℕ) → 1 < i → i ≤ length s → b + length s ≤ length ws → Folded s b g i ws us → (Folded s b g (suc (i - 1)) ws us → 0 < i - 1 → Forward s (i - 1) → r ≡ g (i - 1)) → Folded s b g (i - 1) ws (set us (b + (i - 1)) r)
+  fold-more i r p l room n e = record {
+    long = length-set us (b + (i - 1)) r ∙ n .long;
+    is = λ j h k o. go j h k o (ℕ-discrete j (i - 1));
+    below = λ j h. getD-set-other us (b + (i - 1)) j r 0 (λ q. absurd (omega arith)) ∙ n .below j h;
+  }
+    where
+      further : Folded s b g (suc (i - 1)) ws us
+      further = record { long = n .long; is = λ j h k o. n .is j (omega arith) k o; below = n .below }
 
-  -- Nothing is noted yet.
-  pub fold-none : Folded s b folded (length s) ws ws
-  fold-none = record { long = refl; is = λ i l k o. absurd (omega arith); below = λ j l. refl }
+      go : (j : ℕ) → i - 1 ≤ j → j < length s → Forward s j → Dec (j ≡ i - 1) → at (set us (b + (i - 1)) r) (b + j) ≡ g j
+      go j h k o (yes q) = subst (λ x. Forward s x → at (set us (b + (i - 1)) r) (b + x) ≡ g x) (sym q) (λ o₁. getD-set-same us (b + (i - 1)) r 0 (omega (arith, n .long)) ∙ e further (omega arith) o₁) o
+      go j h k o (no q) = getD-set-other us (b + (i - 1)) (b + j) r 0 (λ x. q (omega arith)) ∙ n .is j (omega arith) k o
 
-  module _ (us : Words) (small : length s ≤ limit·sheet) (apart : f + length s ≤ b) where
-    later-mark : (i : ℕ) → Folded s b folded (suc i) ws us → 0 < i → Forward s i → chain-mark us b (at s i) ≡ folded (at s i)
-    unfolding fold
-    later-mark i n p o = go (onward p o .beyond)
-      where
-        go : (at s i ≡ 0) ⊎ (i < at s i) → chain-mark us b (at s i) ≡ folded (at s i)
-        go (inl e) = sym (mark-none us b (at s i) e) ∙ sym (ap (fold c (plane ws f)) (ap (chain s) e ∙ chain-none s))
-        go (inr l) =
-            let k = onward (omega arith) (onward p o .rest) .inside in
-            sym (mark-some us b (at s i) (at us (b + at s i)) (λ e. omega arith) (omega arith) refl) ∙ n .is (at s i) l k (onward p o .rest)
+  -- All places but 0 are noted.
+  pub fold-done : (i : ℕ) → i ≤ 1 → Folded s b g i ws us → Folded s b g 1 ws us
+  fold-done i h n = record { long = n .long; is = λ j k l o. n .is j (omega arith) l o; below = n .below }
 
-    step-right : (i : ℕ) → i < length s → Folded s b folded (suc i) ws us → 0 < i → Forward s i → fold-step s c us f b i ≡ folded i
-    unfolding fold-step fold
-    step-right i l n p o = (λ t. join c (n .below (f + i) (omega arith) t) (later-mark i n p o t)) ∙ sym (ap (fold c (plane ws f)) (forward-step s i p o))
+  -- What the plane says of a head then.
+  pub head-noted : (h : ℕ) → length s ≤ limit·sheet → g 0 ≡ 0 → Folded s b g 1 ws us → Forward s h → chain-mark us b h ≡ g h
+  head-noted zero small z n o = sym (mark-none us b 0 refl) ∙ sym z
+  head-noted (suc h) small z n o =
+      let k = onward (omega arith) o .inside in
+      sym (mark-some us b (suc h) (at us (b + suc h)) (λ e. omega arith) (omega arith) refl) ∙ n .is (suc h) (omega arith) k o
 
-    -- The loop that falls: one place more.
-    pub fold-more : (i r : ℕ) → 1 < i → i ≤ length s → b + limit·sheet ≤ length ws → Folded s b folded i ws us → r ≡ fold-step s c us f b (i - 1) → Folded s b folded (i - 1) ws (set us (b + (i - 1)) r)
-    fold-more i r p l room n e = record {
-      long = length-set us (b + (i - 1)) r ∙ n .long;
-      is = λ j h k o. go j h k o (ℕ-discrete j (i - 1));
-      below = λ j h. getD-set-other us (b + (i - 1)) j r 0 (λ q. absurd (omega arith)) ∙ n .below j h;
-    }
-      where
-        all-but : Folded s b folded (suc (i - 1)) ws us
-        all-but = record { long = n .long; is = λ j h k o. n .is j (omega arith) k o; below = n .below }
+-- How many records the chain from a place has.
+unfoldable pub chain-length : Words → ℕ → ℕ
+chain-length s i = length (chain s i)
 
-        go : (j : ℕ) → i - 1 ≤ j → j < length s → Forward s j → Dec (j ≡ i - 1) → at (set us (b + (i - 1)) r) (b + j) ≡ folded j
-        go j h k o (yes q) = subst (λ x. Forward s x → at (set us (b + (i - 1)) r) (b + x) ≡ folded x) (sym q) (λ o₁. getD-set-same us (b + (i - 1)) r 0 (omega (arith, n .long)) ∙ e ∙ step-right (i - 1) (omega arith) all-but (omega arith) o₁) o
-        go j h k o (no q) = getD-set-other us (b + (i - 1)) (b + j) r 0 (λ x. q (omega arith)) ∙ n .is j (omega arith) k o
+-- From zero there is none.
+pub length-none : (s : Words) → chain-length s 0 ≡ 0
+unfolding chain-length
+length-none s = ap length (chain-none s)
 
-  -- Less is promised of a shorter part.
-  pub fold-done : (us : Words) (i : ℕ) → i ≤ 1 → Folded s b folded i ws us → Folded s b folded 1 ws us
-  fold-done us i h n = record { long = n .long; is = λ j k l o. n .is j (omega arith) l o; below = n .below }
+-- One more than from its next.
+length-right : (s : Words) (i m : ℕ) → length s ≤ limit·sheet → 0 < i → Forward s i → m ≡ chain-length s (at s i) → longer m ≡ chain-length s i
+unfolding chain-length
+length-right s i m small p o e =
+    let q = ap length (forward-step s i p o) in
+    sym (longer-up m (omega (arith, q, chain-within s i))) ∙ (let z : m + 1 ≡ length (chain s i) = omega (arith, q) in z)
 
--- What a plane says of a head, where it is noted for every place.
-pub head-noted : (s ws us : Words) (b : ℕ) (g : ℕ → ℕ) (h : ℕ) → length s ≤ limit·sheet → Folded s b g 1 ws us → g 0 ≡ 0 → Forward s h → chain-mark us b h ≡ g h
-head-noted s ws us b g zero small n z o = sym (mark-none us b 0 refl) ∙ sym z
-head-noted s ws us b g (suc h) small n z o =
-    let k = onward (omega arith) o .inside in
-    sym (mark-some us b (suc h) (at us (b + suc h)) (λ e. omega arith) (omega arith) refl) ∙ n .is (suc h) (omega arith) k o
+-- The pass that notes lengths: one place more.
+pub lengths-more : (s ws us : Words) (b i r : ℕ) → length s ≤ limit·sheet → b + limit·sheet ≤ length ws → 1 < i → i ≤ length s → Folded s b (chain-length s) i ws us → r ≡ longer (chain-mark us b (at s (i - 1))) → Folded s b (chain-length s) (i - 1) ws (set us (b + (i - 1)) r)
+lengths-more s ws us b i r small room p l n e = fold-more s b (chain-length s) ws us i r p l (omega arith) n
+    (λ f q o. e ∙ length-right s (i - 1) (chain-mark us b (at s (i - 1))) small q o (next-noted s b (chain-length s) ws us (i - 1) small (length-none s) f q o))
+
+-- What f says of the chain from a place: the most that it says of one of its records.
+unfoldable pub chain-most : (ℕ → ℕ) → Words → ℕ → ℕ
+chain-most f s i = most f (chain s i)
+
+-- From zero it says 0.
+pub most-none : (f : ℕ → ℕ) (s : Words) → chain-most f s 0 ≡ 0
+unfolding chain-most most
+most-none f s = ap (most f) (chain-none s)
+
+-- The larger of what it says of the record and of the chain from its next.
+most-right : (f : ℕ → ℕ) (s : Words) (i : ℕ) → 0 < i → Forward s i → larger (f i) (chain-most f s (at s i)) ≡ chain-most f s i
+unfolding chain-most most
+most-right f s i p o = sym (ap (most f) (forward-step s i p o))
+
+-- The pass that notes it: one place more.
+pub most-more : (s ws us : Words) (f : ℕ → ℕ) (b i v r : ℕ) → length s ≤ limit·sheet → b + limit·sheet ≤ length ws → 1 < i → i ≤ length s → Folded s b (chain-most f s) i ws us → v ≡ f (i - 1) → r ≡ larger v (chain-mark us b (at s (i - 1))) → Folded s b (chain-most f s) (i - 1) ws (set us (b + (i - 1)) r)
+most-more s ws us f b i v r small room p l n e k = fold-more s b (chain-most f s) ws us i r p l (omega arith) n
+    (λ g q o. k ∙ (λ t. larger (e t) (next-noted s b (chain-most f s) ws us (i - 1) small (most-none f s) g q o t)) ∙ most-right f s (i - 1) q o)

@@ -31,11 +31,6 @@ pub record Known (s ws : Words) : Type 0 where
   pub count : (h : ℕ) → h < header·length → at ws h ≡ many s h
   pub trait : (i : ℕ) → i < many s header·traits → at ws (limit·sheet + i) ≡ at (records s header·traits) i
 
--- With room for a table's planes from b.
-pub record Ready (s ws : Words) (b : ℕ) : Type 0 where
-  pub known : Known s ws
-  pub room : b + 3 * limit·sheet ≤ length ws
-
 -- It stays known in a workspace that agrees on its first two planes.
 pub known-same : (s ws us : Words) (to : ℕ) → length s ≤ limit·sheet → 2 * limit·sheet ≤ to → ((j : ℕ) → j < to → at us j ≡ at ws j) → Known s ws → Known s us
 known-same s ws us to small l same k = record {

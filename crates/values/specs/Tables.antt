@@ -1,8 +1,7 @@
 -- The planes that 8 and 12 read, one word for each chain: how long it is, and the most that its cells, nodes, bindings, members or impl parameters ask for.
-use Prim.Native.Nat.{ℕ, _+_, _*_, _≤_, _<_}
+use Prim.Native.Nat.{ℕ, _+_, _-_, _*_, _≤_, _<_}
 use mathlib.Core.Path.{_≡_, sym, _∙_, ap, subst}
-use mathlib.Core.Bool.{Bool, true, false, not}
-use mathlib.Core.Logic.{_⊎_, inl, inr}
+use mathlib.Core.Bool.{not}
 use native.Mathlib.Omega.{arith}
 use native.Mathlib.Decide.{ℕ-discrete}
 use lib.ListN.{length, set}
@@ -11,55 +10,53 @@ use Rattle.rules.specs.Lists.{Words, bit}
 use Rattle.rules.specs.Limits.{limit·sheet}
 use Rattle.rules.specs.Layout.{header·traits, header·length, node·children, node·kind, node·inverted, node·id, impl-param·args, impl-param·trait}
 use Rattle.rules.specs.Sheet.{at, chain, many}
-use Rattle.rules.specs.ChainLaws.{at-end, at-record}
-use Rattle.rules.specs.Members.{In, in-cases, in-empty}
+use Rattle.rules.specs.Members.{In}
 use Rattle.rules.specs.Values.{binding-ok, member-ok}
-use Rattle.chart.specs.Index.{Indexed, indexed-record, indexed-many, many-within, chain-within}
-use Rattle.marks.specs.Planes.{Noted}
-use Rattle.values.specs.Folds.{Forward, forward-step, chain-none, chain-mark, mark-same, plane, fold, most, fold-count, fold-same, Folded, folded, head-noted}
-use Rattle.values.specs.NodeLaws.{bad, bound, core, args-core, node-core, node-need, node-child, param-core, param-child}
+use Rattle.chart.specs.Index.{Indexed, indexed-record, indexed-many, many-within}
+use Rattle.values.specs.Folds.{larger, Forward, chain-mark, mark-same, most, most-same, chain-length, length-none, Folded, fold-done, head-noted, chain-most, most-none, most-more}
+use Rattle.values.specs.NodeLaws.{bad, cell-need, bound, core, args-core, node-core, node-need, node-child, param-core, param-child}
 use Rattle.values.specs.Known.{Known, known-same}
-use Rattle.values.specs.Value.{value, table-value, link-value, node-mark, param-mark}
+use Rattle.values.specs.Value.{node-mark, param-mark, inner-mark, node-same, param-same, inner-same}
 
--- Where the planes stand: behind what is known of the sheet. Between them are those that are folded into them.
+-- Where the planes stand: behind what is known of the sheet, one behind the other. First, how long a chain is.
 abbrev pub plane·lengths : ℕ
-plane·lengths = 4 * limit·sheet
+plane·lengths = 2 * limit·sheet
 
 -- What the cells of a chain ask of their table.
 abbrev pub plane·bounds : ℕ
-plane·bounds = 6 * limit·sheet
+plane·bounds = 3 * limit·sheet
 
 -- Whether a node of a chain is out of range by itself.
 abbrev pub plane·cores : ℕ
-plane·cores = 8 * limit·sheet
+plane·cores = 4 * limit·sheet
 
 -- What its nodes ask of the type parameters.
 abbrev pub plane·needs : ℕ
-plane·needs = 10 * limit·sheet
+plane·needs = 5 * limit·sheet
 
 -- What their children ask of the table.
 abbrev pub plane·kids : ℕ
-plane·kids = 12 * limit·sheet
+plane·kids = 6 * limit·sheet
 
 -- Whether a binding of a chain is out of range.
 abbrev pub plane·bindings : ℕ
-plane·bindings = 14 * limit·sheet
+plane·bindings = 7 * limit·sheet
 
 -- Whether a member is.
 abbrev pub plane·members : ℕ
-plane·members = 16 * limit·sheet
+plane·members = 8 * limit·sheet
 
 -- Whether an impl parameter is.
 abbrev pub plane·params : ℕ
-plane·params = 18 * limit·sheet
+plane·params = 9 * limit·sheet
 
 -- What their arguments ask of the table.
 abbrev pub plane·args : ℕ
-plane·args = 20 * limit·sheet
+plane·args = 10 * limit·sheet
 
 -- All of them together.
 abbrev pub planes·room : ℕ
-planes·room = 21 * limit·sheet
+planes·room = 11 * limit·sheet
 
 -- The sheet is known, and there is room for the planes of a slice w.
 pub record Space (s w ws : Words) : Type 0 where
@@ -103,45 +100,49 @@ known-made s ws us n c x = record {
   trait = λ i l. indexed-record s header·traits ws us limit·sheet n x i (omega (arith, indexed-many s header·traits ws us limit·sheet n x));
 }
 
--- What is noted of each place, folded along chains.
-pub record Most (s w ws us : Words) (b x to : ℕ) : Type 0 where
+-- The plane from `to` has what f says of each chain, and nothing below it is changed.
+pub record Most (s w ws us : Words) (f : ℕ → ℕ) (to : ℕ) : Type 0 where
   pub long : length us ≡ length ws
   pub below : (j : ℕ) → j < to → at us j ≡ at ws j
-  pub is : (h : ℕ) → Forward w h → chain-mark us (to + limit·sheet) h ≡ most (value s w ws b x) (chain w h)
+  pub is : (h : ℕ) → Forward w h → chain-mark us to h ≡ most f (chain w h)
   pub space : Space s w us
 
--- The records of a chain that goes forward lie within the slice.
-pub in-inside : (s : Words) (i p : ℕ) → Forward s i → In p (chain s i) → p < length s
-in-inside s i p at-end m = absurd (in-empty (subst (In p) (chain-none s) m))
-in-inside s i p (at-record {i = j} h l n t k) m = go (in-cases (subst (In p) (forward-step s i h (at-record h l n t k)) m)) (in-inside s (at s i) p k)
-  where
-    go : (p ≡ i) ⊎ In p (chain s (at s i)) → (In p (chain s (at s i)) → p < length s) → p < length s
-    go (inl e) ih = omega arith
-    go (inr m) ih = ih m
+-- A pass from the slice's end, over a plane behind what is known.
+module _ (s w ws us : Words) (q : Space s w ws) where
+  -- The sheet stays known.
+  pub known-fold : (g : ℕ → ℕ) (to i : ℕ) → 2 * limit·sheet ≤ to → Folded w to g i ws us → Known s us
+  known-fold g to i l n = known-same s ws us to (q .small) l (n .below) (q .known)
 
-none-folded : (w : Words) (c : Bool) (vs : Words) (f : ℕ) → fold c (plane vs f) (chain w 0) ≡ 0
-unfolding fold
-none-folded w c vs f = ap (fold c (plane vs f)) (chain-none w)
+  -- And the room stays.
+  pub space-fold : (g : ℕ → ℕ) (to i : ℕ) → 2 * limit·sheet ≤ to → Folded w to g i ws us → Space s w us
+  space-fold g to i l n = record { known = known-fold g to i l n; small = q .small; part = q .part; room = omega (arith, q .room, n .long) }
 
--- Values of places, folded along chains.
-pub most-made : (s w ws vs us : Words) (b x to : ℕ) → Space s w ws → 2 * limit·sheet ≤ b → b + 3 * limit·sheet ≤ to → Noted to (value s w ws b x) 0 (length w) ws vs → Folded w (to + limit·sheet) (folded w false vs to (to + limit·sheet)) 1 vs us → Most s w ws us b x to
-most-made s w ws vs us b x to q lb lt n f = record {
-  long = f .long ∙ n .long;
-  below = λ j l. f .below j (omega arith) ∙ n .below j l;
-  is = λ h o.
-      head-noted w vs us (to + limit·sheet) (folded w false vs to (to + limit·sheet)) h (q .part) f (none-folded w false vs to) o
-      ∙ fold-same false (plane vs to) (value s w ws b x) (chain w h) (λ p m. n .is p (omega arith) (in-inside w h p o m));
-  space = record {
-    known = known-same s ws us to (q .small) (omega arith) (λ j l. f .below j (omega arith) ∙ n .below j l) (q .known);
-    small = q .small;
-    part = q .part;
-    room = omega (arith, q .room, f .long, n .long);
-  };
-}
+  -- All places are noted.
+  pub most-made : (f : ℕ → ℕ) (to i : ℕ) → 2 * limit·sheet ≤ to → i ≤ 1 → Folded w to (chain-most f w) i ws us → Most s w ws us f to
+  unfolding chain-most
+  most-made f to i l e n = record {
+    long = n .long;
+    below = n .below;
+    is = λ h o. head-noted w to (chain-most f w) ws us h (q .part) (most-none f w) (fold-done w to (chain-most f w) ws us i e n) o;
+    space = space-fold (chain-most f w) to i l n;
+  }
 
--- The sheet stays known after a pass.
-pub space-fold : (s w ws us : Words) (f : ℕ → ℕ) (b lo : ℕ) → 2 * limit·sheet ≤ b → Space s w ws → Folded w b f lo ws us → Space s w us
-space-fold s w ws us f b lo l p m = record { known = known-same s ws us b (p .small) l (m .below) (p .known); small = p .small; part = p .part; room = omega (arith, p .room, m .long) }
+  -- One place more.
+  pub values-more : (f : ℕ → ℕ) (to i v r : ℕ) → to + limit·sheet ≤ planes·room → 1 < i → i ≤ length w → Folded w to (chain-most f w) i ws us → v ≡ f (i - 1) → r ≡ larger v (chain-mark us to (at w (i - 1))) → Folded w to (chain-most f w) (i - 1) ws (set us (to + (i - 1)) r)
+  values-more f to i v r room p l n e k = most-more w ws us f to i v r (q .part) (omega (arith, q .room)) p l n e k
+
+  -- The same of what is read off the plane from b: it is as before the pass.
+  pub nodes-more : (b to i v r : ℕ) → b + limit·sheet ≤ to → to + limit·sheet ≤ planes·room → 1 < i → i ≤ length w → Folded w to (chain-most (node-mark s w ws b) w) i ws us → v ≡ node-mark s w us b (i - 1) → r ≡ larger v (chain-mark us to (at w (i - 1))) →
+      Folded w to (chain-most (node-mark s w ws b) w) (i - 1) ws (set us (to + (i - 1)) r)
+  nodes-more b to i v r apart room p l n e k = values-more (node-mark s w ws b) to i v r room p l n (e ∙ node-same ws us b to apart (n .below) s w (i - 1)) k
+
+  pub params-more : (b to i v r : ℕ) → b + limit·sheet ≤ to → to + limit·sheet ≤ planes·room → 1 < i → i ≤ length w → Folded w to (chain-most (param-mark s ws b) w) i ws us → v ≡ param-mark s us b (i - 1) → r ≡ larger v (chain-mark us to (at w (i - 1))) →
+      Folded w to (chain-most (param-mark s ws b) w) (i - 1) ws (set us (to + (i - 1)) r)
+  params-more b to i v r apart room p l n e k = values-more (param-mark s ws b) to i v r room p l n (e ∙ param-same ws us b to apart (n .below) s (i - 1)) k
+
+  pub inners-more : (b off to i v r : ℕ) → b + limit·sheet ≤ to → to + limit·sheet ≤ planes·room → 1 < i → i ≤ length w → Folded w to (chain-most (inner-mark w ws b off) w) i ws us → v ≡ inner-mark w us b off (i - 1) → r ≡ larger v (chain-mark us to (at w (i - 1))) →
+      Folded w to (chain-most (inner-mark w ws b off) w) (i - 1) ws (set us (to + (i - 1)) r)
+  inners-more b off to i v r apart room p l n e k = values-more (inner-mark w ws b off) to i v r room p l n (e ∙ inner-same ws us b to apart (n .below) w off (i - 1)) k
 
 -- The lengths of chains, and what cells ask of the table.
 pub record Cells (w us : Words) : Type 0 where
@@ -158,15 +159,12 @@ pub record CellsMade (w ws us : Words) : Type 0 where
   pub cells : Cells w us
   pub below : Below plane·lengths ws us
 
--- A pass that counts, and one that folds what cells ask for.
-pub cells-made : (s w ws vs us : Words) (f : ℕ) → length w ≤ limit·sheet → Folded w plane·lengths (folded w true ws f plane·lengths) 1 ws vs → Most s w vs us (2 * limit·sheet) 0 (5 * limit·sheet) → CellsMade w ws us
-unfolding value table-value bound
-cells-made s w ws vs us f small n m = record {
+-- A pass that counts, and one for what cells ask for.
+pub cells-made : (s w ws vs us : Words) → length w ≤ limit·sheet → Folded w plane·lengths (chain-length w) 1 ws vs → Most s w vs us (cell-need w) plane·bounds → CellsMade w ws us
+unfolding bound chain-length
+cells-made s w ws vs us small n m = record {
   cells = record {
-    lengths = λ h o.
-        mark-same vs us plane·lengths (5 * limit·sheet) h (omega arith) (m .below)
-        ∙ head-noted w ws vs plane·lengths (folded w true ws f plane·lengths) h small n (none-folded w true ws f) o
-        ∙ fold-count (plane ws f) (chain w h) (omega (arith, chain-within w h));
+    lengths = λ h o. mark-same vs us plane·lengths plane·bounds h (omega arith) (m .below) ∙ head-noted w plane·lengths (chain-length w) ws vs h small (length-none w) n o;
     bounds = λ h o. m .is h o;
   };
   below = record { same = λ j l. m .below j (omega arith) ∙ n .below j l; long = m .long ∙ n .long };
@@ -187,55 +185,54 @@ pub record Nodes (s w us : Words) : Type 0 where
 pub record NodesMade (s w ws us : Words) : Type 0 where
   pub cells : Cells w us
   pub nodes : Nodes s w us
-  pub below : Below (7 * limit·sheet) ws us
+  pub below : Below plane·cores ws us
 
 -- What is noted of a place, where its chains go forward.
 module _ (s w ws : Words) (c : Cells w ws) (h : ℕ) (r : Rows w h node·children) where
-  node-cores : most (value s w ws plane·lengths 1) (chain w h) ≡ most (bad (node-core s w)) (chain w h)
-  unfolding value table-value node-mark node-core
-  node-cores = fold-same false (value s w ws plane·lengths 1) (bad (node-core s w)) (chain w h)
+  node-cores : most (node-mark s w ws plane·lengths) (chain w h) ≡ most (bad (node-core s w)) (chain w h)
+  unfolding node-mark node-core
+  node-cores = most-same (node-mark s w ws plane·lengths) (bad (node-core s w)) (chain w h)
       (λ p m. ap (λ n. bit (not (core s (at w (p + node·kind)) (at w (p + node·inverted)) (at w (p + node·id)) n))) (c .lengths (at w (p + node·children)) (r .inner p m)))
 
-  node-kids : most (value s w ws plane·lengths 3) (chain w h) ≡ most (node-child w) (chain w h)
-  unfolding value table-value node-child
-  node-kids = fold-same false (value s w ws plane·lengths 3) (node-child w) (chain w h) (λ p m. c .bounds (at w (p + node·children)) (r .inner p m))
+  node-kids : most (inner-mark w ws plane·bounds node·children) (chain w h) ≡ most (node-child w) (chain w h)
+  unfolding inner-mark node-child
+  node-kids = most-same (inner-mark w ws plane·bounds node·children) (node-child w) (chain w h) (λ p m. c .bounds (at w (p + node·children)) (r .inner p m))
 
 -- Cells stay known.
-cells-same : (w ws us : Words) (to : ℕ) → 7 * limit·sheet ≤ to → ((j : ℕ) → j < to → at us j ≡ at ws j) → Cells w ws → Cells w us
+cells-same : (w ws us : Words) (to : ℕ) → plane·cores ≤ to → ((j : ℕ) → j < to → at us j ≡ at ws j) → Cells w ws → Cells w us
 cells-same w ws us to l same c = record {
   lengths = λ h o. mark-same ws us plane·lengths to h (omega arith) same ∙ c .lengths h o;
   bounds = λ h o. mark-same ws us plane·bounds to h (omega arith) same ∙ c .bounds h o;
 }
 
 -- After a pass further up.
-pub cells-most : (s w ws us : Words) (b x to : ℕ) → 7 * limit·sheet ≤ to → Cells w ws → Most s w ws us b x to → Cells w us
-cells-most s w ws us b x to l c m = cells-same w ws us to l (m .below) c
+pub cells-most : (s w ws us : Words) (f : ℕ → ℕ) (to : ℕ) → plane·cores ≤ to → Cells w ws → Most s w ws us f to → Cells w us
+cells-most s w ws us f to l c m = cells-same w ws us to l (m .below) c
 
 -- Three passes: cores, needs, children.
-pub nodes-made : (s w ws u₁ u₂ u₃ : Words) → Cells w ws → Most s w ws u₁ plane·lengths 1 (7 * limit·sheet) → Most s w u₁ u₂ plane·lengths 2 (9 * limit·sheet) → Most s w u₂ u₃ plane·lengths 3 (11 * limit·sheet) → NodesMade s w ws u₃
-unfolding value table-value
+pub nodes-made : (s w ws u₁ u₂ u₃ : Words) → Cells w ws → Most s w ws u₁ (node-mark s w ws plane·lengths) plane·cores → Most s w u₁ u₂ (node-need w) plane·needs → Most s w u₂ u₃ (inner-mark w u₂ plane·bounds node·children) plane·kids → NodesMade s w ws u₃
 nodes-made s w ws u₁ u₂ u₃ c m₁ m₂ m₃ = record {
   cells = c₃;
   nodes = record {
     cores = λ h r.
-        mark-same u₂ u₃ plane·cores (11 * limit·sheet) h (omega arith) (m₃ .below)
-        ∙ mark-same u₁ u₂ plane·cores (9 * limit·sheet) h (omega arith) (m₂ .below)
+        mark-same u₂ u₃ plane·cores plane·kids h (omega arith) (m₃ .below)
+        ∙ mark-same u₁ u₂ plane·cores plane·needs h (omega arith) (m₂ .below)
         ∙ m₁ .is h (r .forward)
         ∙ node-cores s w ws c h r;
-    needs = λ h o. mark-same u₂ u₃ plane·needs (11 * limit·sheet) h (omega arith) (m₃ .below) ∙ m₂ .is h o;
+    needs = λ h o. mark-same u₂ u₃ plane·needs plane·kids h (omega arith) (m₃ .below) ∙ m₂ .is h o;
     kids = λ h r. m₃ .is h (r .forward) ∙ node-kids s w u₂ c₂ h r;
   };
   below = record { same = λ j l. m₃ .below j (omega arith) ∙ m₂ .below j (omega arith) ∙ m₁ .below j l; long = m₃ .long ∙ m₂ .long ∙ m₁ .long };
 }
   where
     c₁ : Cells w u₁
-    c₁ = cells-most s w ws u₁ plane·lengths 1 (7 * limit·sheet) (omega arith) c m₁
+    c₁ = cells-most s w ws u₁ (node-mark s w ws plane·lengths) plane·cores (omega arith) c m₁
 
     c₂ : Cells w u₂
-    c₂ = cells-most s w u₁ u₂ plane·lengths 2 (9 * limit·sheet) (omega arith) c₁ m₂
+    c₂ = cells-most s w u₁ u₂ (node-need w) plane·needs (omega arith) c₁ m₂
 
     c₃ : Cells w u₃
-    c₃ = cells-most s w u₂ u₃ plane·lengths 3 (11 * limit·sheet) (omega arith) c₂ m₃
+    c₃ = cells-most s w u₂ u₃ (inner-mark w u₂ plane·bounds node·children) plane·kids (omega arith) c₂ m₃
 
 -- The planes of a slice's tables.
 pub record Tables (s w us : Words) : Type 0 where
@@ -251,47 +248,46 @@ pub record Links (s us : Words) : Type 0 where
   pub args : (h : ℕ) → Rows s h impl-param·args → chain-mark us plane·args h ≡ most (param-child s) (chain s h)
 
 module _ (s ws : Words) (c : Cells s ws) (h : ℕ) (r : Rows s h impl-param·args) where
-  link-params : most (value s s ws plane·lengths 6) (chain s h) ≡ most (bad (param-core s)) (chain s h)
-  unfolding value link-value param-mark param-core
-  link-params = fold-same false (value s s ws plane·lengths 6) (bad (param-core s)) (chain s h) (λ p m. ap (λ n. bit (not (args-core s (at s (p + impl-param·trait)) n))) (c .lengths (at s (p + impl-param·args)) (r .inner p m)))
+  link-params : most (param-mark s ws plane·lengths) (chain s h) ≡ most (bad (param-core s)) (chain s h)
+  unfolding param-mark param-core
+  link-params = most-same (param-mark s ws plane·lengths) (bad (param-core s)) (chain s h) (λ p m. ap (λ n. bit (not (args-core s (at s (p + impl-param·trait)) n))) (c .lengths (at s (p + impl-param·args)) (r .inner p m)))
 
-  link-args : most (value s s ws plane·lengths 7) (chain s h) ≡ most (param-child s) (chain s h)
-  unfolding value link-value param-child
-  link-args = fold-same false (value s s ws plane·lengths 7) (param-child s) (chain s h) (λ p m. c .bounds (at s (p + impl-param·args)) (r .inner p m))
+  link-args : most (inner-mark s ws plane·bounds impl-param·args) (chain s h) ≡ most (param-child s) (chain s h)
+  unfolding inner-mark param-child
+  link-args = most-same (inner-mark s ws plane·bounds impl-param·args) (param-child s) (chain s h) (λ p m. c .bounds (at s (p + impl-param·args)) (r .inner p m))
 
 -- It is noted, and nothing below is changed.
 pub record LinksMade (s ws us : Words) : Type 0 where
   pub links : Links s us
-  pub below : Below (13 * limit·sheet) ws us
+  pub below : Below plane·bindings ws us
 
 -- Four passes: bindings, members, impl parameters, their arguments.
-pub links-made : (s ws u₁ u₂ u₃ u₄ : Words) → Cells s ws → Most s s ws u₁ plane·lengths 4 (13 * limit·sheet) → Most s s u₁ u₂ plane·lengths 5 (15 * limit·sheet) → Most s s u₂ u₃ plane·lengths 6 (17 * limit·sheet) → Most s s u₃ u₄ plane·lengths 7 (19 * limit·sheet) → LinksMade s ws u₄
-unfolding value link-value
+pub links-made : (s ws u₁ u₂ u₃ u₄ : Words) → Cells s ws → Most s s ws u₁ (bad (binding-ok s)) plane·bindings → Most s s u₁ u₂ (bad (member-ok s)) plane·members → Most s s u₂ u₃ (param-mark s u₂ plane·lengths) plane·params → Most s s u₃ u₄ (inner-mark s u₃ plane·bounds impl-param·args) plane·args → LinksMade s ws u₄
 links-made s ws u₁ u₂ u₃ u₄ c m₁ m₂ m₃ m₄ = record {
   links = record {
     bindings = λ h o.
-        mark-same u₃ u₄ plane·bindings (19 * limit·sheet) h (omega arith) (m₄ .below)
-        ∙ mark-same u₂ u₃ plane·bindings (17 * limit·sheet) h (omega arith) (m₃ .below)
-        ∙ mark-same u₁ u₂ plane·bindings (15 * limit·sheet) h (omega arith) (m₂ .below)
+        mark-same u₃ u₄ plane·bindings plane·args h (omega arith) (m₄ .below)
+        ∙ mark-same u₂ u₃ plane·bindings plane·params h (omega arith) (m₃ .below)
+        ∙ mark-same u₁ u₂ plane·bindings plane·members h (omega arith) (m₂ .below)
         ∙ m₁ .is h o;
     members = λ h o.
-        mark-same u₃ u₄ plane·members (19 * limit·sheet) h (omega arith) (m₄ .below)
-        ∙ mark-same u₂ u₃ plane·members (17 * limit·sheet) h (omega arith) (m₃ .below)
+        mark-same u₃ u₄ plane·members plane·args h (omega arith) (m₄ .below)
+        ∙ mark-same u₂ u₃ plane·members plane·params h (omega arith) (m₃ .below)
         ∙ m₂ .is h o;
-    params = λ h r. mark-same u₃ u₄ plane·params (19 * limit·sheet) h (omega arith) (m₄ .below) ∙ m₃ .is h (r .forward) ∙ link-params s u₂ c₂ h r;
+    params = λ h r. mark-same u₃ u₄ plane·params plane·args h (omega arith) (m₄ .below) ∙ m₃ .is h (r .forward) ∙ link-params s u₂ c₂ h r;
     args = λ h r. m₄ .is h (r .forward) ∙ link-args s u₃ c₃ h r;
   };
   below = record { same = λ j l. m₄ .below j (omega arith) ∙ m₃ .below j (omega arith) ∙ m₂ .below j (omega arith) ∙ m₁ .below j l; long = m₄ .long ∙ m₃ .long ∙ m₂ .long ∙ m₁ .long };
 }
   where
     c₁ : Cells s u₁
-    c₁ = cells-most s s ws u₁ plane·lengths 4 (13 * limit·sheet) (omega arith) c m₁
+    c₁ = cells-most s s ws u₁ (bad (binding-ok s)) plane·bindings (omega arith) c m₁
 
     c₂ : Cells s u₂
-    c₂ = cells-most s s u₁ u₂ plane·lengths 5 (15 * limit·sheet) (omega arith) c₁ m₂
+    c₂ = cells-most s s u₁ u₂ (bad (member-ok s)) plane·members (omega arith) c₁ m₂
 
     c₃ : Cells s u₃
-    c₃ = cells-most s s u₂ u₃ plane·lengths 6 (17 * limit·sheet) (omega arith) c₂ m₃
+    c₃ = cells-most s s u₂ u₃ (param-mark s u₂ plane·lengths) plane·params (omega arith) c₂ m₃
 
 -- The planes of a slice's tables, of cells and of nodes.
 pub tables-made : (s w ws vs us : Words) → Space s w ws → CellsMade w ws vs → NodesMade s w vs us → Tables s w us
@@ -314,12 +310,12 @@ pub record Charted (s us : Words) : Type 0 where
 pub charted : (s ws us : Words) → length s ≤ limit·sheet → Tables s s ws → LinksMade s ws us → Charted s us
 charted s ws us small t l = record {
   tables = record {
-    known = known-same s ws us (13 * limit·sheet) small (omega arith) (l .below .same) (t .known);
-    cells = cells-same s ws us (13 * limit·sheet) (omega arith) (l .below .same) (t .cells);
+    known = known-same s ws us plane·bindings small (omega arith) (l .below .same) (t .known);
+    cells = cells-same s ws us plane·bindings (omega arith) (l .below .same) (t .cells);
     nodes = record {
-      cores = λ h r. mark-same ws us plane·cores (13 * limit·sheet) h (omega arith) (l .below .same) ∙ t .nodes .cores h r;
-      needs = λ h o. mark-same ws us plane·needs (13 * limit·sheet) h (omega arith) (l .below .same) ∙ t .nodes .needs h o;
-      kids = λ h r. mark-same ws us plane·kids (13 * limit·sheet) h (omega arith) (l .below .same) ∙ t .nodes .kids h r;
+      cores = λ h r. mark-same ws us plane·cores plane·bindings h (omega arith) (l .below .same) ∙ t .nodes .cores h r;
+      needs = λ h o. mark-same ws us plane·needs plane·bindings h (omega arith) (l .below .same) ∙ t .nodes .needs h o;
+      kids = λ h r. mark-same ws us plane·kids plane·bindings h (omega arith) (l .below .same) ∙ t .nodes .kids h r;
     };
   };
   links = l .links;

@@ -1,10 +1,10 @@
-// What is noted of a chain as a whole, and the pass from the slice's end that notes it for every place.
+// What is noted of a chain as a whole, and the pass from the slice's end that notes the length of every place's.
 ghost use mathlib.Core.Path.{_≡_};
 ghost use Prim.Native.Nat.{_+_, _<_, _≤_};
 ghost use lib.ListN.{length};
 ghost use Rattle.rules.specs.Limits.{limit·sheet};
 ghost use Rattle.rules.specs.Sheet.{at};
-ghost use Rattle.values.specs.Folds.{join, chain-mark, fold-step, folded, Folded};
+ghost use Rattle.values.specs.Folds.{larger, longer, chain-mark, chain-length, Folded};
 use crate::limits;
 
 // What the plane from b says of the chain from a head: 0 where there is none, or where it lies past a plane's end.
@@ -49,43 +49,55 @@ fn mark_noted(ws: &[u32], b: usize, h: usize) -> u32
     noted(ws, b, h)
 }
 
-// One record more: a count goes up by 1, or the larger need holds.
-fn join(count: bool, v: u32, m: u32) -> u32
-    ensures { λ r. ⌜ r ≡ join count v m ⌝ }
+// The larger of two.
+fn larger(a: u32, b: u32) -> u32
+    ensures { λ r. ⌜ r ≡ larger a b ⌝ }
 {
-    if count {
-        if m < limits::PLANE_WORD {
-            return m + 1;
-        }
-        return m;
+    if a <= b {
+        return b;
     }
-    if v <= m {
-        return m;
-    }
-    v
+    a
 }
 
-// What the record at a place and what is noted of its next make up.
-fn fold_at(s: &[u32], count: bool, ws: &[u32], f: usize, b: usize, i: usize) -> u32
-    requires { ⌜ f + i < length (now ws) ⌝ }
-    requires { ⌜ b + limit·sheet ≤ length (now ws) ⌝ }
-    ensures { λ r. ⌜ r ≡ fold-step (now (s .entry)) count (now (ws .entry)) f b i ⌝ }
+// One record more: never more than a slice has words.
+fn longer(m: u32) -> u32
+    ensures { λ r. ⌜ r ≡ longer m ⌝ }
 {
-    let v = noted(ws, f, i);
+    if m < limits::PLANE_WORD {
+        return m + 1;
+    }
+    m
+}
+
+// How many records the chain from a place has, where the plane from b has it of the place's next.
+fn length_at(s: &[u32], ws: &[u32], b: usize, i: usize) -> u32
+    requires { ⌜ b + limit·sheet ≤ length (now ws) ⌝ }
+    ensures { λ r. ⌜ r ≡ longer (chain-mark (now (ws .entry)) b (at (now (s .entry)) i)) ⌝ }
+{
     let next = words::next(s, i);
     let m = mark_noted(ws, b, next);
-    join(count, v, m)
+    longer(m)
 }
 
-// Notes, in the plane from b, how many records the chain from each place has, or the most that the plane from f says of one of them.
-pub fn mark_fold(s: &[u32], count: bool, ws: &mut [u32], f: usize, b: usize)
-    requires { ⌜ (length (now s) ≤ limit·sheet) × (f + length (now s) ≤ b) × (b + limit·sheet ≤ length (now ws)) ⌝ }
-    ensures { λ _. ⌜ Folded (now (s .entry)) b (folded (now (s .entry)) count (now (ws .entry)) f b) 1 (now (ws .entry)) (now (ws .exit)) ⌝ }
+// The most that is noted of the chain from a place, where v is of the record and the plane from b has it of the place's next.
+pub fn most_at(s: &[u32], v: u32, ws: &[u32], b: usize, i: usize) -> u32
+    requires { ⌜ b + limit·sheet ≤ length (now ws) ⌝ }
+    ensures { λ r. ⌜ r ≡ larger v (chain-mark (now (ws .entry)) b (at (now (s .entry)) i)) ⌝ }
+{
+    let next = words::next(s, i);
+    let m = mark_noted(ws, b, next);
+    larger(v, m)
+}
+
+// Notes, in the plane from b, how many records the chain from each place has.
+pub fn note_lengths(s: &[u32], ws: &mut [u32], b: usize)
+    requires { ⌜ (length (now s) ≤ limit·sheet) × (b + limit·sheet ≤ length (now ws)) ⌝ }
+    ensures { λ _. ⌜ Folded (now (s .entry)) b (chain-length (now (s .entry))) 1 (now (ws .entry)) (now (ws .exit)) ⌝ }
 {
     let mut i = s.len();
     while i > 1 {
-        let r = fold_at(s, count, ws, f, b, i - 1);
-        ws[b + (i - 1)] = r;
         i -= 1;
+        let r = length_at(s, ws, b, i);
+        ws[b + i] = r;
     }
 }

@@ -1,6 +1,6 @@
 // 8 and 12: every value of every record is in range and within its limit, in time that goes with the slice's length whatever chains share.
-// Planes of the workspace hold what is noted of each place (limits::PLANE words each): what a record there asks for, and the most
-// that the records of the chain from there ask for. A test of a whole chain is then one read.
+// Planes of the workspace hold what is noted of the chain from each place (limits::PLANE words each): its length, and the most that its
+// records ask for. A test of a whole chain is then one read.
 ghost use mathlib.Core.Path.{_≡_};
 ghost use Prim.Native.Nat.{_≤_};
 ghost use lib.Dec.{T};
@@ -11,9 +11,9 @@ ghost use Rattle.rules.specs.Values.{sheet-values, impl-question-values, flex-q
 ghost use Rattle.values.specs.Tables.{planes·room};
 
 pub mod fits; // fits.rt: the tests of one record
-pub mod folds; // folds.rt: what is noted of a chain, and the pass from the slice's end
+pub mod folds; // folds.rt: what is noted of a chain, and the pass that notes lengths
 pub mod limits; // limits.rt: the limits of document 01, and the planes
-pub mod planes; // planes.rt: what is noted of each place
+pub mod planes; // planes.rt: what is noted of each place, and the passes over all
 pub mod prepare; // prepare.rt: the planes that 8 and 12 read
 pub mod records; // records.rt: the values of each record, read off the planes
 

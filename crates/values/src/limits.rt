@@ -19,42 +19,26 @@ pub const PLANE: usize = 4096;
 
 pub const PLANE_WORD: u32 = 4096;
 
-// The planes of chains: lengths; what cells ask of their table; whether a node is out of range by itself, and what nodes ask of the type
-// parameters and of their table; whether a binding, a member or an impl parameter is out of range, and what arguments ask of a table.
-pub const LENGTHS: usize = 4 * PLANE;
+// The planes of chains, behind the counts and the index of traits: lengths; what cells ask of their table; whether a node is out of range by
+// itself, and what nodes ask of the type parameters and of their table; whether a binding, a member or an impl parameter is out of range, and
+// what arguments ask of a table.
+pub const LENGTHS: usize = 2 * PLANE;
 
-pub const BOUNDS: usize = 6 * PLANE;
+pub const BOUNDS: usize = 3 * PLANE;
 
-pub const CORES: usize = 8 * PLANE;
+pub const CORES: usize = 4 * PLANE;
 
-pub const NEEDS: usize = 10 * PLANE;
+pub const NEEDS: usize = 5 * PLANE;
 
-pub const KIDS: usize = 12 * PLANE;
+pub const KIDS: usize = 6 * PLANE;
 
-pub const BINDINGS: usize = 14 * PLANE;
+pub const BINDINGS: usize = 7 * PLANE;
 
-pub const MEMBERS: usize = 16 * PLANE;
+pub const MEMBERS: usize = 8 * PLANE;
 
-pub const PARAMS: usize = 18 * PLANE;
+pub const PARAMS: usize = 9 * PLANE;
 
-pub const ARGS: usize = 20 * PLANE;
-
-// The planes that are folded into them: what a record at a place asks for.
-pub const CELL_VALUES: usize = 5 * PLANE;
-
-pub const NODE_VALUES: usize = 7 * PLANE;
-
-pub const NEED_VALUES: usize = 9 * PLANE;
-
-pub const CHILD_VALUES: usize = 11 * PLANE;
-
-pub const BINDING_VALUES: usize = 13 * PLANE;
-
-pub const MEMBER_VALUES: usize = 15 * PLANE;
-
-pub const PARAM_VALUES: usize = 17 * PLANE;
-
-pub const ARGS_VALUES: usize = 19 * PLANE;
+pub const ARGS: usize = 10 * PLANE;
 
 // The chains of the header.
 pub const CHAINS: usize = 10;

@@ -1,33 +1,15 @@
-// What is noted of each place, and the planes of a table.
+// What is noted of a place by itself, and the passes that note the most of it along each chain.
 ghost use mathlib.Core.Path.{_≡_};
-ghost use Prim.Native.Nat.{_+_, _*_, _<_, _≤_};
-ghost use lib.ListN.{length};
-ghost use Rattle.rules.specs.Limits.{limit·sheet};
-ghost use Rattle.marks.specs.Planes.{Noted};
-ghost use Rattle.values.specs.NodeLaws.{cell-need, node-need};
-ghost use Rattle.values.specs.Known.{Known, Ready};
-ghost use Rattle.values.specs.Value.{node-mark, param-mark, table-value, link-value, value};
+ghost use Rattle.rules.specs.Layout.{node·children, impl-param·args};
+ghost use Rattle.rules.specs.Values.{binding-ok, member-ok};
+ghost use Rattle.values.specs.NodeLaws.{bad, cell-need, node-need};
+ghost use Rattle.values.specs.Known.{Known};
+ghost use Rattle.values.specs.Value.{node-mark, param-mark, inner-mark};
+ghost use Rattle.values.specs.Tables.{plane·lengths, plane·bounds, plane·cores, plane·needs, plane·kids, plane·bindings, plane·members, plane·params, plane·args, Space, Most};
 use crate::fits;
 use crate::folds;
 use crate::limits;
 use chart::layout;
-
-// What is noted: of a cell, of a node by itself, of its Param, of its children, of a binding, of a member, of an impl parameter, of its arguments.
-pub const CELL: usize = 0;
-
-pub const NODE: usize = 1;
-
-pub const NEED: usize = 2;
-
-pub const CHILD: usize = 3;
-
-pub const BINDING: usize = 4;
-
-pub const MEMBER: usize = 5;
-
-pub const PARAM: usize = 6;
-
-pub const ARGS: usize = 7;
 
 // What a cell asks of the table: its node.
 fn cell_need(w: &[u32], p: usize) -> u32
@@ -76,208 +58,140 @@ fn param_mark(s: &[u32], ws: &[u32], b: usize, p: usize) -> u32
     fits::bad(fits::args_core(s, ws, t, n))
 }
 
-fn table_value(s: &[u32], w: &[u32], ws: &[u32], b: usize, x: usize, p: usize) -> u32
-    requires { ⌜ Ready (now s) (now ws) b ⌝ }
-    ensures { λ r. ⌜ r ≡ table-value (now (s .entry)) (now (w .entry)) (now (ws .entry)) b x p ⌝ }
+// Whether a binding is out of range.
+fn binding_mark(s: &[u32], ws: &[u32], p: usize) -> u32
+    requires { ⌜ Known (now s) (now ws) ⌝ }
+    ensures { λ r. ⌜ r ≡ bad (binding-ok (now (s .entry))) p ⌝ }
 {
-    if x == CELL {
-        return cell_need(w, p);
-    }
-    if x == NODE {
-        return node_mark(s, w, ws, b, p);
-    }
-    if x == NEED {
-        return node_need(w, p);
-    }
-    let c = chart::field_at(w, p, layout::NODE_CHILDREN);
-    folds::chain_mark(ws, b + 2 * limits::PLANE, c)
+    fits::bad(fits::binding_ok(s, ws, p))
 }
 
-fn link_value(s: &[u32], ws: &[u32], b: usize, x: usize, p: usize) -> u32
-    requires { ⌜ Ready (now s) (now ws) b ⌝ }
-    ensures { λ r. ⌜ r ≡ link-value (now (s .entry)) (now (ws .entry)) b x p ⌝ }
+// Whether a member is out of range.
+fn member_mark(s: &[u32], ws: &[u32], p: usize) -> u32
+    requires { ⌜ Known (now s) (now ws) ⌝ }
+    ensures { λ r. ⌜ r ≡ bad (member-ok (now (s .entry))) p ⌝ }
 {
-    if x == BINDING {
-        return fits::bad(fits::binding_ok(s, ws, p));
-    }
-    if x == MEMBER {
-        return fits::bad(fits::member_ok(s, ws, p));
-    }
-    if x == PARAM {
-        return param_mark(s, ws, b, p);
-    }
-    let c = chart::field_at(s, p, layout::IMPL_PARAM_ARGS);
-    folds::chain_mark(ws, b + 2 * limits::PLANE, c)
+    fits::bad(fits::member_ok(s, ws, p))
 }
 
-// What is noted of a place: x says which.
-fn value(s: &[u32], w: &[u32], ws: &[u32], b: usize, x: usize, p: usize) -> u32
-    requires { ⌜ Ready (now s) (now ws) b ⌝ }
-    ensures { λ r. ⌜ r ≡ value (now (s .entry)) (now (w .entry)) (now (ws .entry)) b x p ⌝ }
+// What the plane from b has of the chain that a record heads in word k.
+fn inner_mark(w: &[u32], ws: &[u32], b: usize, k: usize, p: usize) -> u32
+    ensures { λ r. ⌜ r ≡ inner-mark (now (w .entry)) (now (ws .entry)) b k p ⌝ }
 {
-    if x < BINDING {
-        table_value(s, w, ws, b, x, p)
-    } else {
-        link_value(s, ws, b, x, p)
+    let h = chart::field_at(w, p, k);
+    folds::chain_mark(ws, b, h)
+}
+
+// The passes, from the slice's end: each notes in its plane the most that is said of a record of the chain from each place.
+
+// What a cell asks of its table.
+pub fn note_cells(s: &[u32], w: &[u32], ws: &mut [u32])
+    requires { ⌜ Space (now s) (now w) (now ws) ⌝ }
+    ensures { λ _. ⌜ Most (now (s .entry)) (now (w .entry)) (now (ws .entry)) (now (ws .exit)) (cell-need (now (w .entry))) plane·bounds ⌝ }
+{
+    let mut i = w.len();
+    while i > 1 {
+        i -= 1;
+        let v = cell_need(w, i);
+        let r = folds::most_at(w, v, ws, limits::BOUNDS, i);
+        ws[limits::BOUNDS + i] = r;
     }
 }
 
-// Notes it for every place, in the plane from `to`; a loop for each of what is noted, so that none is chosen at every place.
-
-// Of a cell.
-fn note_cells(s: &[u32], w: &[u32], ws: &mut [u32], b: usize, to: usize)
-    requires { ⌜ Known (now s) (now ws) × (length (now s) ≤ limit·sheet) × (length (now w) ≤ limit·sheet) × (2 * limit·sheet ≤ b) × (b + 3 * limit·sheet ≤ to) × (to + limit·sheet ≤ length (now ws)) ⌝ }
-    ensures { λ _. ⌜ Noted to (value (now (s .entry)) (now (w .entry)) (now (ws .entry)) b 0) 0 (length (now (w .entry))) (now (ws .entry)) (now (ws .exit)) ⌝ }
+// Whether a node is out of range by itself.
+pub fn note_nodes(s: &[u32], w: &[u32], ws: &mut [u32])
+    requires { ⌜ Space (now s) (now w) (now ws) ⌝ }
+    ensures { λ _. ⌜ Most (now (s .entry)) (now (w .entry)) (now (ws .entry)) (now (ws .exit)) (node-mark (now (s .entry)) (now (w .entry)) (now (ws .entry)) plane·lengths) plane·cores ⌝ }
 {
-    let mut i = 0;
-    while i < w.len() {
-        let r = value(s, w, ws, b, CELL, i);
-        ws[to + i] = r;
-        i += 1;
+    let mut i = w.len();
+    while i > 1 {
+        i -= 1;
+        let v = node_mark(s, w, ws, limits::LENGTHS, i);
+        let r = folds::most_at(w, v, ws, limits::CORES, i);
+        ws[limits::CORES + i] = r;
     }
 }
 
-// Of a node by itself.
-fn note_nodes(s: &[u32], w: &[u32], ws: &mut [u32], b: usize, to: usize)
-    requires { ⌜ Known (now s) (now ws) × (length (now s) ≤ limit·sheet) × (length (now w) ≤ limit·sheet) × (2 * limit·sheet ≤ b) × (b + 3 * limit·sheet ≤ to) × (to + limit·sheet ≤ length (now ws)) ⌝ }
-    ensures { λ _. ⌜ Noted to (value (now (s .entry)) (now (w .entry)) (now (ws .entry)) b 1) 0 (length (now (w .entry))) (now (ws .entry)) (now (ws .exit)) ⌝ }
+// What a node asks of the type parameters.
+pub fn note_needs(s: &[u32], w: &[u32], ws: &mut [u32])
+    requires { ⌜ Space (now s) (now w) (now ws) ⌝ }
+    ensures { λ _. ⌜ Most (now (s .entry)) (now (w .entry)) (now (ws .entry)) (now (ws .exit)) (node-need (now (w .entry))) plane·needs ⌝ }
 {
-    let mut i = 0;
-    while i < w.len() {
-        let r = value(s, w, ws, b, NODE, i);
-        ws[to + i] = r;
-        i += 1;
+    let mut i = w.len();
+    while i > 1 {
+        i -= 1;
+        let v = node_need(w, i);
+        let r = folds::most_at(w, v, ws, limits::NEEDS, i);
+        ws[limits::NEEDS + i] = r;
     }
 }
 
-// Of a node's Param.
-fn note_needs(s: &[u32], w: &[u32], ws: &mut [u32], b: usize, to: usize)
-    requires { ⌜ Known (now s) (now ws) × (length (now s) ≤ limit·sheet) × (length (now w) ≤ limit·sheet) × (2 * limit·sheet ≤ b) × (b + 3 * limit·sheet ≤ to) × (to + limit·sheet ≤ length (now ws)) ⌝ }
-    ensures { λ _. ⌜ Noted to (value (now (s .entry)) (now (w .entry)) (now (ws .entry)) b 2) 0 (length (now (w .entry))) (now (ws .entry)) (now (ws .exit)) ⌝ }
+// What a node's children ask of the table.
+pub fn note_children(s: &[u32], w: &[u32], ws: &mut [u32])
+    requires { ⌜ Space (now s) (now w) (now ws) ⌝ }
+    ensures { λ _. ⌜ Most (now (s .entry)) (now (w .entry)) (now (ws .entry)) (now (ws .exit)) (inner-mark (now (w .entry)) (now (ws .entry)) plane·bounds node·children) plane·kids ⌝ }
 {
-    let mut i = 0;
-    while i < w.len() {
-        let r = value(s, w, ws, b, NEED, i);
-        ws[to + i] = r;
-        i += 1;
+    let mut i = w.len();
+    while i > 1 {
+        i -= 1;
+        let v = inner_mark(w, ws, limits::BOUNDS, layout::NODE_CHILDREN, i);
+        let r = folds::most_at(w, v, ws, limits::KIDS, i);
+        ws[limits::KIDS + i] = r;
     }
 }
 
-// Of a node's children.
-fn note_children(s: &[u32], w: &[u32], ws: &mut [u32], b: usize, to: usize)
-    requires { ⌜ Known (now s) (now ws) × (length (now s) ≤ limit·sheet) × (length (now w) ≤ limit·sheet) × (2 * limit·sheet ≤ b) × (b + 3 * limit·sheet ≤ to) × (to + limit·sheet ≤ length (now ws)) ⌝ }
-    ensures { λ _. ⌜ Noted to (value (now (s .entry)) (now (w .entry)) (now (ws .entry)) b 3) 0 (length (now (w .entry))) (now (ws .entry)) (now (ws .exit)) ⌝ }
+// Whether a binding is out of range.
+pub fn note_bindings(s: &[u32], ws: &mut [u32])
+    requires { ⌜ Space (now s) (now s) (now ws) ⌝ }
+    ensures { λ _. ⌜ Most (now (s .entry)) (now (s .entry)) (now (ws .entry)) (now (ws .exit)) (bad (binding-ok (now (s .entry)))) plane·bindings ⌝ }
 {
-    let mut i = 0;
-    while i < w.len() {
-        let r = value(s, w, ws, b, CHILD, i);
-        ws[to + i] = r;
-        i += 1;
+    let mut i = s.len();
+    while i > 1 {
+        i -= 1;
+        let v = binding_mark(s, ws, i);
+        let r = folds::most_at(s, v, ws, limits::BINDINGS, i);
+        ws[limits::BINDINGS + i] = r;
     }
 }
 
-// Of a binding.
-fn note_bindings(s: &[u32], w: &[u32], ws: &mut [u32], b: usize, to: usize)
-    requires { ⌜ Known (now s) (now ws) × (length (now s) ≤ limit·sheet) × (length (now w) ≤ limit·sheet) × (2 * limit·sheet ≤ b) × (b + 3 * limit·sheet ≤ to) × (to + limit·sheet ≤ length (now ws)) ⌝ }
-    ensures { λ _. ⌜ Noted to (value (now (s .entry)) (now (w .entry)) (now (ws .entry)) b 4) 0 (length (now (w .entry))) (now (ws .entry)) (now (ws .exit)) ⌝ }
+// Whether a member is out of range.
+pub fn note_members(s: &[u32], ws: &mut [u32])
+    requires { ⌜ Space (now s) (now s) (now ws) ⌝ }
+    ensures { λ _. ⌜ Most (now (s .entry)) (now (s .entry)) (now (ws .entry)) (now (ws .exit)) (bad (member-ok (now (s .entry)))) plane·members ⌝ }
 {
-    let mut i = 0;
-    while i < w.len() {
-        let r = value(s, w, ws, b, BINDING, i);
-        ws[to + i] = r;
-        i += 1;
+    let mut i = s.len();
+    while i > 1 {
+        i -= 1;
+        let v = member_mark(s, ws, i);
+        let r = folds::most_at(s, v, ws, limits::MEMBERS, i);
+        ws[limits::MEMBERS + i] = r;
     }
 }
 
-// Of a member.
-fn note_members(s: &[u32], w: &[u32], ws: &mut [u32], b: usize, to: usize)
-    requires { ⌜ Known (now s) (now ws) × (length (now s) ≤ limit·sheet) × (length (now w) ≤ limit·sheet) × (2 * limit·sheet ≤ b) × (b + 3 * limit·sheet ≤ to) × (to + limit·sheet ≤ length (now ws)) ⌝ }
-    ensures { λ _. ⌜ Noted to (value (now (s .entry)) (now (w .entry)) (now (ws .entry)) b 5) 0 (length (now (w .entry))) (now (ws .entry)) (now (ws .exit)) ⌝ }
+// Whether an impl parameter is out of range, but for what its arguments name.
+pub fn note_params(s: &[u32], ws: &mut [u32])
+    requires { ⌜ Space (now s) (now s) (now ws) ⌝ }
+    ensures { λ _. ⌜ Most (now (s .entry)) (now (s .entry)) (now (ws .entry)) (now (ws .exit)) (param-mark (now (s .entry)) (now (ws .entry)) plane·lengths) plane·params ⌝ }
 {
-    let mut i = 0;
-    while i < w.len() {
-        let r = value(s, w, ws, b, MEMBER, i);
-        ws[to + i] = r;
-        i += 1;
+    let mut i = s.len();
+    while i > 1 {
+        i -= 1;
+        let v = param_mark(s, ws, limits::LENGTHS, i);
+        let r = folds::most_at(s, v, ws, limits::PARAMS, i);
+        ws[limits::PARAMS + i] = r;
     }
 }
 
-// Of an impl parameter.
-fn note_params(s: &[u32], w: &[u32], ws: &mut [u32], b: usize, to: usize)
-    requires { ⌜ Known (now s) (now ws) × (length (now s) ≤ limit·sheet) × (length (now w) ≤ limit·sheet) × (2 * limit·sheet ≤ b) × (b + 3 * limit·sheet ≤ to) × (to + limit·sheet ≤ length (now ws)) ⌝ }
-    ensures { λ _. ⌜ Noted to (value (now (s .entry)) (now (w .entry)) (now (ws .entry)) b 6) 0 (length (now (w .entry))) (now (ws .entry)) (now (ws .exit)) ⌝ }
+// What an impl parameter's arguments ask of the table.
+pub fn note_args(s: &[u32], ws: &mut [u32])
+    requires { ⌜ Space (now s) (now s) (now ws) ⌝ }
+    ensures { λ _. ⌜ Most (now (s .entry)) (now (s .entry)) (now (ws .entry)) (now (ws .exit)) (inner-mark (now (s .entry)) (now (ws .entry)) plane·bounds impl-param·args) plane·args ⌝ }
 {
-    let mut i = 0;
-    while i < w.len() {
-        let r = value(s, w, ws, b, PARAM, i);
-        ws[to + i] = r;
-        i += 1;
+    let mut i = s.len();
+    while i > 1 {
+        i -= 1;
+        let v = inner_mark(s, ws, limits::BOUNDS, layout::IMPL_PARAM_ARGS, i);
+        let r = folds::most_at(s, v, ws, limits::ARGS, i);
+        ws[limits::ARGS + i] = r;
     }
-}
-
-// Of its arguments.
-fn note_args(s: &[u32], w: &[u32], ws: &mut [u32], b: usize, to: usize)
-    requires { ⌜ Known (now s) (now ws) × (length (now s) ≤ limit·sheet) × (length (now w) ≤ limit·sheet) × (2 * limit·sheet ≤ b) × (b + 3 * limit·sheet ≤ to) × (to + limit·sheet ≤ length (now ws)) ⌝ }
-    ensures { λ _. ⌜ Noted to (value (now (s .entry)) (now (w .entry)) (now (ws .entry)) b 7) 0 (length (now (w .entry))) (now (ws .entry)) (now (ws .exit)) ⌝ }
-{
-    let mut i = 0;
-    while i < w.len() {
-        let r = value(s, w, ws, b, ARGS, i);
-        ws[to + i] = r;
-        i += 1;
-    }
-}
-
-// Of a node and its table, x says which.
-fn note_table(s: &[u32], w: &[u32], ws: &mut [u32], b: usize, x: usize, to: usize)
-    requires { ⌜ Known (now s) (now ws) × (length (now s) ≤ limit·sheet) × (length (now w) ≤ limit·sheet) × (2 * limit·sheet ≤ b) × (b + 3 * limit·sheet ≤ to) × (to + limit·sheet ≤ length (now ws)) ⌝ }
-    requires { ⌜ x < 4 ⌝ }
-    ensures { λ _. ⌜ Noted to (value (now (s .entry)) (now (w .entry)) (now (ws .entry)) b x) 0 (length (now (w .entry))) (now (ws .entry)) (now (ws .exit)) ⌝ }
-{
-    if x == CELL {
-        note_cells(s, w, ws, b, to);
-        return;
-    }
-    if x == NODE {
-        note_nodes(s, w, ws, b, to);
-        return;
-    }
-    if x == NEED {
-        note_needs(s, w, ws, b, to);
-        return;
-    }
-    note_children(s, w, ws, b, to)
-}
-
-// Of bindings, members and impl parameters.
-fn note_links(s: &[u32], w: &[u32], ws: &mut [u32], b: usize, x: usize, to: usize)
-    requires { ⌜ Known (now s) (now ws) × (length (now s) ≤ limit·sheet) × (length (now w) ≤ limit·sheet) × (2 * limit·sheet ≤ b) × (b + 3 * limit·sheet ≤ to) × (to + limit·sheet ≤ length (now ws)) ⌝ }
-    requires { ⌜ 4 ≤ x ⌝ }
-    ensures { λ _. ⌜ Noted to (value (now (s .entry)) (now (w .entry)) (now (ws .entry)) b x) 0 (length (now (w .entry))) (now (ws .entry)) (now (ws .exit)) ⌝ }
-{
-    if x == BINDING {
-        note_bindings(s, w, ws, b, to);
-        return;
-    }
-    if x == MEMBER {
-        note_members(s, w, ws, b, to);
-        return;
-    }
-    if x == PARAM {
-        note_params(s, w, ws, b, to);
-        return;
-    }
-    note_args(s, w, ws, b, to)
-}
-
-// Of all, x says which.
-pub fn note_values(s: &[u32], w: &[u32], ws: &mut [u32], b: usize, x: usize, to: usize)
-    requires { ⌜ Known (now s) (now ws) × (length (now s) ≤ limit·sheet) × (length (now w) ≤ limit·sheet) × (2 * limit·sheet ≤ b) × (b + 3 * limit·sheet ≤ to) × (to + limit·sheet ≤ length (now ws)) ⌝ }
-    ensures { λ _. ⌜ Noted to (value (now (s .entry)) (now (w .entry)) (now (ws .entry)) b x) 0 (length (now (w .entry))) (now (ws .entry)) (now (ws .exit)) ⌝ }
-{
-    if x < BINDING {
-        note_table(s, w, ws, b, x, to);
-        return;
-    }
-    note_links(s, w, ws, b, x, to)
 }

@@ -1,11 +1,11 @@
 // The planes that 8 and 12 read: what is known of the sheet, then what is noted of the chains of a slice.
 ghost use mathlib.Core.Path.{_≡_};
-ghost use Prim.Native.Nat.{_+_, _*_, _≤_};
+ghost use Prim.Native.Nat.{_≤_};
 ghost use lib.ListN.{length};
 ghost use Rattle.rules.specs.Limits.{limit·sheet};
 ghost use Rattle.rules.specs.Layout.{header·length};
 ghost use Rattle.values.specs.Known.{Known};
-ghost use Rattle.values.specs.Tables.{planes·room, Space, Counted, Most, Cells, CellsMade, NodesMade, LinksMade, Tables, Charted};
+ghost use Rattle.values.specs.Tables.{planes·room, Space, Counted, Cells, CellsMade, NodesMade, LinksMade, Tables, Charted};
 use crate::folds;
 use crate::limits;
 use crate::planes;
@@ -42,29 +42,13 @@ pub fn prepare_known(s: &[u32], ws: &mut [u32])
     chart::index(s, layout::TRAITS, ws, limits::PLANE);
 }
 
-// Notes what x says of each place in the plane from `to`, and the most of it along each chain in the next.
-fn note_most(s: &[u32], w: &[u32], ws: &mut [u32], b: usize, x: usize, to: usize)
-    requires { ⌜ Space (now s) (now w) (now ws) × (2 * limit·sheet ≤ b) × (b + 3 * limit·sheet ≤ to) × (to + 2 * limit·sheet ≤ planes·room) ⌝ }
-    ensures { λ _. ⌜ Most (now (s .entry)) (now (w .entry)) (now (ws .entry)) (now (ws .exit)) b x to ⌝ }
-{
-    planes::note_values(s, w, ws, b, x, to);
-    folds::mark_fold(w, false, ws, to, to + limits::PLANE);
-}
-
 // The lengths of chains, and what cells ask of their table.
 fn prepare_cells(s: &[u32], w: &[u32], ws: &mut [u32])
     requires { ⌜ Space (now s) (now w) (now ws) ⌝ }
     ensures { λ _. ⌜ CellsMade (now (w .entry)) (now (ws .entry)) (now (ws .exit)) ⌝ }
 {
-    folds::mark_fold(w, true, ws, 0, limits::LENGTHS);
-    note_most(
-        s,
-        w,
-        ws,
-        2 * limits::PLANE,
-        planes::CELL,
-        limits::CELL_VALUES,
-    );
+    folds::note_lengths(w, ws, limits::LENGTHS);
+    planes::note_cells(s, w, ws);
 }
 
 // What nodes ask for.
@@ -72,16 +56,9 @@ fn prepare_nodes(s: &[u32], w: &[u32], ws: &mut [u32])
     requires { ⌜ Space (now s) (now w) (now ws) × Cells (now w) (now ws) ⌝ }
     ensures { λ _. ⌜ NodesMade (now (s .entry)) (now (w .entry)) (now (ws .entry)) (now (ws .exit)) ⌝ }
 {
-    note_most(s, w, ws, limits::LENGTHS, planes::NODE, limits::NODE_VALUES);
-    note_most(s, w, ws, limits::LENGTHS, planes::NEED, limits::NEED_VALUES);
-    note_most(
-        s,
-        w,
-        ws,
-        limits::LENGTHS,
-        planes::CHILD,
-        limits::CHILD_VALUES,
-    );
+    planes::note_nodes(s, w, ws);
+    planes::note_needs(s, w, ws);
+    planes::note_children(s, w, ws);
 }
 
 // What bindings, members and impl parameters ask for.
@@ -89,31 +66,10 @@ fn prepare_links(s: &[u32], ws: &mut [u32])
     requires { ⌜ Space (now s) (now s) (now ws) × Cells (now s) (now ws) ⌝ }
     ensures { λ _. ⌜ LinksMade (now (s .entry)) (now (ws .entry)) (now (ws .exit)) ⌝ }
 {
-    note_most(
-        s,
-        s,
-        ws,
-        limits::LENGTHS,
-        planes::BINDING,
-        limits::BINDING_VALUES,
-    );
-    note_most(
-        s,
-        s,
-        ws,
-        limits::LENGTHS,
-        planes::MEMBER,
-        limits::MEMBER_VALUES,
-    );
-    note_most(
-        s,
-        s,
-        ws,
-        limits::LENGTHS,
-        planes::PARAM,
-        limits::PARAM_VALUES,
-    );
-    note_most(s, s, ws, limits::LENGTHS, planes::ARGS, limits::ARGS_VALUES);
+    planes::note_bindings(s, ws);
+    planes::note_members(s, ws);
+    planes::note_params(s, ws);
+    planes::note_args(s, ws);
 }
 
 // The planes of the tables of a slice.

@@ -3,19 +3,18 @@ use Rattle.values.specs.Tables.{links-made}
 use borrow.Author.Needs.{needs}
 use Rattle.values.proofs.prepare.prepare_links.Statement.{statement}
 use Rattle.values.proofs.prepare.prepare_links.Tie as tie
-use Rattle.values.proofs.prepare.prepare_links.Reads as reads
 
-note-most-requires : tie.Need-note-most-requires
-note-most-requires c κs = search needs
+note-bindings-requires : tie.Need-note-bindings-requires
+note-bindings-requires c κs = search needs
 
-note-most-requires-2 : tie.Need-note-most-requires-2
-note-most-requires-2 c κs = search needs
+note-members-requires : tie.Need-note-members-requires
+note-members-requires c κs = search needs
 
-note-most-requires-3 : tie.Need-note-most-requires-3
-note-most-requires-3 c κs = search needs
+note-params-requires : tie.Need-note-params-requires
+note-params-requires c κs = search needs
 
-note-most-requires-4 : tie.Need-note-most-requires-4
-note-most-requires-4 c κs = search needs
+note-args-requires : tie.Need-note-args-requires
+note-args-requires c κs = search needs
 
 same-length : tie.Need-same-length
 same-length c = search needs
@@ -25,11 +24,4 @@ returns c = search (needs, links-made)
 
 pub prepare-links-spec : {M : Type 1} → statement M
 prepare-links-spec =
-    tie.close
-    (tie.spec
-    note-most-requires
-    note-most-requires-2
-    note-most-requires-3
-    note-most-requires-4
-    same-length
-    returns)
+    tie.close (tie.spec note-bindings-requires note-members-requires note-params-requires note-args-requires same-length returns)

@@ -1,28 +1,25 @@
--- `mark_fold`: all that lies further on is noted.
+-- `note_lengths`: all that lies further on is noted.
 use Prim.Native.Nat.{_≤_}
 use lib.ListN.{length}
-use Rattle.values.specs.Folds.{Folded, folded, fold-none, fold-more, fold-done}
+use Rattle.values.specs.Folds.{chain-length, Folded, fold-none, fold-done, lengths-more}
 use borrow.Author.Needs.{needs}
-use Rattle.values.proofs.folds.mark_fold.Statement.{statement}
-use Rattle.values.proofs.folds.mark_fold.Tie as tie
+use Rattle.values.proofs.folds.note_lengths.Statement.{statement}
+use Rattle.values.proofs.folds.note_lengths.Tie as tie
 
 abbrev Inv-loop : tie.InvT-loop
-Inv-loop s count ws₀ f b i₀ ws i = (i ≤ length s) × Folded s b (folded s count ws₀ f b) i ws₀ ws
+Inv-loop s ws₀ b i₀ ws i = (i ≤ length s) × Folded s b (chain-length s) i ws₀ ws
 
 abbrev μ-loop : tie.MeasureT-loop
-μ-loop s count ws₀ f b i₀ ws i = i
+μ-loop s ws₀ b i₀ ws i = i
 
 loop-holds : tie.Need-loop-holds Inv-loop μ-loop
 loop-holds c = search (needs, fold-none)
 
-sub-fold-at : tie.Need-sub-fold-at Inv-loop μ-loop
-sub-fold-at c = search needs
+sub-i : tie.Need-sub-i Inv-loop μ-loop
+sub-i c = search needs
 
-fold-at-requires : tie.Need-fold-at-requires Inv-loop μ-loop
-fold-at-requires c κs = search needs
-
-sub-ws : tie.Need-sub-ws Inv-loop μ-loop
-sub-ws c = search needs
+length-at-requires : tie.Need-length-at-requires Inv-loop μ-loop
+length-at-requires c κs = search needs
 
 add-ws : tie.Need-add-ws Inv-loop μ-loop
 add-ws c = search needs
@@ -33,14 +30,11 @@ mul-ws c = search needs
 slice-write-ws : tie.Need-slice-write-ws Inv-loop μ-loop
 slice-write-ws c = search needs
 
-sub-i : tie.Need-sub-i Inv-loop μ-loop
-sub-i c = search needs
-
 loop-less : tie.Need-loop-less Inv-loop μ-loop
 loop-less c = search needs
 
 loop-again : tie.Need-loop-again Inv-loop μ-loop
-loop-again c = search (needs, fold-more)
+loop-again c = search (needs, lengths-more)
 
 same-length : tie.Need-same-length Inv-loop μ-loop
 same-length c = search needs
@@ -48,20 +42,18 @@ same-length c = search needs
 returns : tie.Need-returns Inv-loop μ-loop
 returns c = search (needs, fold-done)
 
-pub mark-fold-spec : {M : Type 1} → statement M
-mark-fold-spec =
+pub note-lengths-spec : {M : Type 1} → statement M
+note-lengths-spec =
     tie.close
     (tie.spec
     Inv-loop
     μ-loop
     loop-holds
-    sub-fold-at
-    fold-at-requires
-    sub-ws
+    sub-i
+    length-at-requires
     add-ws
     mul-ws
     slice-write-ws
-    sub-i
     loop-less
     loop-again
     same-length
