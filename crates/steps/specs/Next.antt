@@ -1,9 +1,10 @@
 -- The next candidate of a question, or none: what the code leaves.
 use Prim.Native.Nat.{ℕ, _+_, _≤_, _<_}
-use mathlib.Core.Path.{_≡_}
+use mathlib.Core.Path.{_≡_, sym}
 use mathlib.Core.List.{[], _∷_, map}
 use native.Mathlib.Omega.{arith}
 use lib.ListN.{length, take}
+use lib.Seq.{length-take-le}
 use Rattle.rules.specs.Lists.{Words}
 use Rattle.rules.specs.Layout.{header·impls}
 use Rattle.rules.specs.Sheet.{many}
@@ -29,6 +30,10 @@ next-impl s ws f from id r few g e = record { up = λ h. g .up id e; found = λ 
 
 pub next-none : (s ws : Words) (f : Sets) (from : ℕ) (r : Candidate) → Gives s ws f from r → r ≡ End → NextId s ws f from 384
 next-none s ws f from r g e = record { up = λ h. absurd (omega arith); found = λ h. absurd (omega arith); none = λ h. g .none e }
+
+-- The part of the sets.
+pub sets-length : (xs : Words) → 34948 ≤ length xs → 34948 ≡ length (take 34948 xs)
+sets-length xs h = sym (length-take-le 34948 xs h)
 
 -- A question's words are at most four.
 pub four-few : (xs : Words) (n : ℕ) → n ≤ 4 → length (take n (four xs)) ≤ 4

@@ -9,6 +9,7 @@ use native.Mathlib.Omega.{arith}
 use borrow.Author.Tests.{lt-ltb, le-ltb}
 use lib.Dec.{ltb}
 use lib.ListN.{length, getD, drop}
+use lib.Seq.{getD-drop}
 use Rattle.rules.specs.Lists.{Words}
 use Rattle.rules.specs.Limits.{limit·nodes}
 use Rattle.rules.specs.Layout.{tree·param}
@@ -32,6 +33,7 @@ use Rattle.queries.specs.declared.Queries.{Queries}
 use Rattle.queries.specs.Queries.{query-of, query-in, queries-of, queries-length, queries-next, queries-none}
 use Rattle.queries.specs.Few.{Few, few-params}
 use Rattle.queries.specs.Gathering.{WithinFour}
+use Rattle.queries.specs.Takes.{ParamTakes, Taken}
 use Rattle.opening.specs.declared.Signed.{Signed}
 use Rattle.opening.specs.declared.Signed.the-variants.{Full, Unfit, Fits}
 use Rattle.clash.specs.Params.{ParamClashes}
@@ -206,6 +208,14 @@ module _ (s : Words) (f : Finder) (ps : Queries) (k : ℕ) (p : Query) (sound : 
         (subst (λ (xs : List ImplType). QueriesIn (length ((impl-params s (f .generics)) .0)) xs) (sym is) (impl-params-in (finder-of s f) (sound .question) (sound .ready) (f .generics) (sound .ready .generics)))
         (omega (arith, queries-length ps)));
   }
+
+  -- Its word, behind the candidate sets.
+  pub param-takes : (sets : Words) → Taken s (f .generics) (drop 34948 sets) → ParamTakes s (f .generics) (query-of p) (at sets (35076 + k))
+  param-takes sets t =
+      subst (λ (x : ImplType). ParamTakes s (f .generics) x (at sets (35076 + k))) (ap (λ (xs : List ImplType). getD xs k (0, [])) (sym is) ∙ place)
+      (subst (ParamTakes s (f .generics) (getD ((impl-params s (f .generics)) .1) k (0, [])))
+      (getD-drop 34948 sets (128 + k) 0 ∙ ap (at sets) (let z : 34948 + (128 + k) ≡ 35076 + k = omega arith in z))
+      (t .params k (omega (arith, queries-length ps, ap length is))))
 
 -- A turn of the loop, and its end.
 module _ (s : Words) (f : Finder) (q : Query) (ps : Queries) (n₀ c₀ : ℕ) (ws₀ ws : Words) (k n c : ℕ) (packed : Packed ws₀) (g : ParamsDone s f q ps n₀ c₀ ws₀ ws k n c) where

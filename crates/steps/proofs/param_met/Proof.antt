@@ -6,6 +6,9 @@ use borrow.Author.Needs.{needs}
 use Rattle.steps.proofs.param_met.Statement.{statement}
 use Rattle.steps.proofs.param_met.Tie as tie
 
+wide-offset-requires : tie.Need-wide-offset-requires
+wide-offset-requires c κs = search needs
+
 param-clashes-requires : tie.Need-param-clashes-requires
 param-clashes-requires c κs = (search (needs, calling-of), (search needs, (search needs, (search needs, (search needs, (search needs, search needs))))))
 
@@ -37,6 +40,7 @@ pub param-met-spec : {M : Type 1} → statement M
 param-met-spec =
     tie.close
     (tie.spec
+    wide-offset-requires
     param-clashes-requires
     same-length
     same-length-2
