@@ -38,12 +38,19 @@ pub record Sound (a : rules.Finder) : Type 0 where
   pub question : Words
   pub ready : Ready a question
 
+-- The words of candidate sets, and those behind them.
+unfoldable pub sets-of : Words → Words
+sets-of ws = take 34948 ws
+
+unfoldable pub takes-of : Words → Words
+takes-of ws = drop 34948 ws
+
 -- And the sets of its source stand; behind them, what signatures and impl parameters take.
 pub record Searching (s sets : Words) (f : Finder) : Type 0 where
   pub sound : Sound (finder-of s f)
-  pub stands : Stands s (f .source) (take 34948 sets)
+  pub stands : Stands s (f .source) (sets-of sets)
   pub low : f .limit ≤ 4000000000
-  pub taken : Taken s (f .generics) (drop 34948 sets)
+  pub taken : Taken s (f .generics) (takes-of sets)
   pub long : 34948 ≤ length sets
 
 -- Slices lent for imports from s: a table of a checked sheet has at most a fifth as many nodes as the sheet has words.

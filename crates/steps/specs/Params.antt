@@ -38,7 +38,7 @@ use Rattle.opening.specs.declared.Signed.{Signed}
 use Rattle.opening.specs.declared.Signed.the-variants.{Full, Unfit, Fits}
 use Rattle.clash.specs.Params.{ParamClashes}
 use Rattle.steps.specs.declared.Finder.{Finder}
-use Rattle.steps.specs.Asking.{finder-of, Sound, Asking, Front, front-table, asking-table}
+use Rattle.steps.specs.Asking.{finder-of, takes-of, Sound, Asking, Front, front-table, asking-table}
 use Rattle.steps.specs.Loops.{Stepping, stepping-start, stepping-few, stepping-low, stepping-same, stepping-end, stepping-on, stepping-refused}
 use Rattle.steps.specs.Built.{LeafStep}
 use Rattle.steps.specs.Behind.{brought, Behind, ParamIn}
@@ -210,7 +210,8 @@ module _ (s : Words) (f : Finder) (ps : Queries) (k : ℕ) (p : Query) (sound : 
   }
 
   -- Its word, behind the candidate sets.
-  pub param-takes : (sets : Words) → Taken s (f .generics) (drop 34948 sets) → ParamTakes s (f .generics) (query-of p) (at sets (35076 + k))
+  pub param-takes : (sets : Words) → Taken s (f .generics) (takes-of sets) → ParamTakes s (f .generics) (query-of p) (at sets (35076 + k))
+  unfolding takes-of
   param-takes sets t =
       subst (λ (x : ImplType). ParamTakes s (f .generics) x (at sets (35076 + k))) (ap (λ (xs : List ImplType). getD xs k (0, [])) (sym is) ∙ place)
       (subst (ParamTakes s (f .generics) (getD ((impl-params s (f .generics)) .1) k (0, [])))

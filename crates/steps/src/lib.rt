@@ -5,7 +5,7 @@ ghost use mathlib.Core.Bool.{true};
 ghost use mathlib.Core.List.{[]};
 ghost use Prim.Native.Nat.{_+_, _<_, _≤_};
 ghost use lib.Dec.{eqb};
-ghost use lib.ListN.{length, take, drop};
+ghost use lib.ListN.{length, drop};
 ghost use Rattle.rules.specs.Layout.{header·impls};
 ghost use Rattle.rules.specs.Sheet.{at, many};
 ghost use Rattle.rules.specs.Types.{approx-eq};
@@ -19,7 +19,7 @@ ghost use Rattle.admitted.specs.Found.{Stands, Finds};
 ghost use Rattle.queries.specs.Queries.{query-of};
 ghost use Rattle.queries.specs.Takes.{SignatureTakes, ParamTakes, Taken};
 ghost use Rattle.opening.specs.Sound.{Sound as SoundSheet};
-ghost use Rattle.steps.specs.Asking.{finder-of, Sound, Scratch, Asking, Begins, Opens};
+ghost use Rattle.steps.specs.Asking.{finder-of, Sound, sets-of, takes-of, Scratch, Asking, Begins, Opens};
 ghost use Rattle.steps.specs.Behind.{brought, Behind, ParamIn};
 ghost use Rattle.steps.specs.Built.{NoneLeft, LeafStep, SmallIds, Autos};
 ghost use Rattle.steps.specs.Params.{ParamStep, ParamsStep};
@@ -251,7 +251,7 @@ fn add_params(
     requires { ⌜ Row (now ws) 1282 n ⌝ }
     requires { ⌜ n ≤ 4 ⌝ }
     requires { ⌜ count ≤ 4000000000 ⌝ }
-    requires { ⌜ Taken (now sheet) (f .generics) (drop 34948 (now sets)) ⌝ }
+    requires { ⌜ Taken (now sheet) (f .generics) (takes-of (now sets)) ⌝ }
     ensures { λ r. ⌜ ParamsStep (finder-of (now (sheet .entry)) f) (now (ws .entry)) (query-of q) n count r (now (ws .exit)) ⌝ }
 {
     let ps = queries::read_params(sheet, f.generics);
@@ -296,7 +296,7 @@ pub fn before_candidates(
     requires { ⌜ 7692 ≤ length (now ws) ⌝ }
     requires { ⌜ basic < 2 ⌝ }
     requires { ⌜ count ≤ 4000000000 ⌝ }
-    requires { ⌜ Taken (now sheet) (f .generics) (drop 34948 (now sets)) ⌝ }
+    requires { ⌜ Taken (now sheet) (f .generics) (takes-of (now sets)) ⌝ }
     ensures { λ r. ⌜ Begins (finder-of (now (sheet .entry)) f) (eqb basic 1) (now (ws .entry)) (query-of q) count r (now (ws .exit)) ⌝ }
 {
     if basic == 1 {
@@ -484,7 +484,7 @@ pub fn find_candidates(
     basic: u32,
     q: Query,
 ) -> Found
-    requires { ⌜ Stands (now sheet) (f .source) (take 34948 (now sets)) ⌝ }
+    requires { ⌜ Stands (now sheet) (f .source) (sets-of (now sets)) ⌝ }
     requires { ⌜ 34948 ≤ length (now sets) ⌝ }
     requires { ⌜ q .n ≤ 4 ⌝ }
     ensures { λ r. ⌜ Finds (now (sheet .entry)) (f .source) (types-of (now (ws .entry))) (query-of q) basic r ⌝ }
@@ -496,12 +496,12 @@ pub fn find_candidates(
 
 // The next candidate from an id on, or NONE.
 pub fn next_id(s: &[u32], sets: &[u32], f: Found, from: usize) -> usize
-    requires { ⌜ Indexes (now s) (take 34948 (now sets)) ⌝ }
+    requires { ⌜ Indexes (now s) (sets-of (now sets)) ⌝ }
     requires { ⌜ 34948 ≤ length (now sets) ⌝ }
     requires { ⌜ many (now s) header·impls ≤ 384 ⌝ }
     requires { ⌜ f .n ≤ 6 ⌝ }
     requires { ⌜ f .basic < 2 ⌝ }
-    ensures { λ r. ⌜ NextId (now (s .entry)) (take 34948 (now (sets .entry))) f from r ⌝ }
+    ensures { λ r. ⌜ NextId (now (s .entry)) (sets-of (now (sets .entry))) f from r ⌝ }
 {
     let one = admitted::next(s, &sets[..SETS], f, from);
     match one {

@@ -1,6 +1,6 @@
 -- `find_candidates`: the question's words.
 use Rattle.steps.specs.Built.{four-length}
-use Rattle.steps.specs.Next.{sets-length, four-few, finds-query}
+use Rattle.steps.specs.Next.{sets-length, sets-stand, four-few, finds-query}
 use borrow.Author.Needs.{needs}
 use Rattle.steps.proofs.find_candidates.Statement.{statement}
 use Rattle.steps.proofs.find_candidates.Tie as tie
@@ -27,7 +27,7 @@ slice-aggregate-find-impl-candidates-2 : tie.Need-slice-aggregate-find-impl-cand
 slice-aggregate-find-impl-candidates-2 c = search (needs, four-length)
 
 find-impl-candidates-requires : tie.Need-find-impl-candidates-requires
-find-impl-candidates-requires c κs = (search needs, search (needs, four-few))
+find-impl-candidates-requires c κs = (search (needs, sets-stand, c .before .before .before .before .before .before .before .before .before .pre .0), search (needs, four-few))
 
 returns : tie.Need-returns
 returns c = search (needs, finds-query)

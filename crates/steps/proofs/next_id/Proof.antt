@@ -1,5 +1,5 @@
 -- `next_id`: by what `next` answered.
-use Rattle.steps.specs.Next.{sets-length, next-impl, next-none}
+use Rattle.steps.specs.Next.{sets-length, sets-index, next-impl, next-none}
 use borrow.Author.Needs.{needs}
 use Rattle.steps.proofs.next_id.Statement.{statement}
 use Rattle.steps.proofs.next_id.Tie as tie
@@ -8,7 +8,7 @@ slice-aggregate-next : tie.Need-slice-aggregate-next
 slice-aggregate-next c = search (needs, sets-length)
 
 next-requires : tie.Need-next-requires
-next-requires c κs = search needs
+next-requires c κs = (search (needs, sets-index), (search needs, search needs))
 
 enum-known-one : tie.Need-enum-known-one
 enum-known-one c = search needs
