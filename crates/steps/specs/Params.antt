@@ -96,6 +96,10 @@ module _ (a : rules.Finder) (ts : Types) (q : ImplType) where
           (ap (λ m. add-results fs (((met-with p) .1, leaf tree·param k) ∷ []) >>= λ gs. from-impl-params a ts q m ps gs) (sym (add-one k))
           ∙ sym (bind-assoc (add-results fs (((met-with p) .1, leaf tree·param k) ∷ [])) (λ gs. done gs) (λ gs. from-impl-params a ts q (k + 1) ps gs)))
 
+-- The word that was read is what the impl parameter takes.
+pub param-read : (s sets : Words) (g k n : ℕ) (p : ImplType) → ParamTakes s g p (at sets (35076 + k)) → n ≡ at sets (35076 + k) → ParamTakes s g p n
+param-read s sets g k n p h e = subst (ParamTakes s g p) (sym e) h
+
 -- Impl parameter k is looked at, and added behind n where it unifies with the question.
 pub record ParamStep (a : rules.Finder) (ws : Words) (q p : ImplType) (k n count : ℕ) (r : Asked) (out : Words) : Type 0 where
   pub front : Front ws out

@@ -194,7 +194,7 @@ fn param_met(
     ensures { λ r. ⌜ ParamStep (finder-of (now (sheet .entry)) f) (now (ws .entry)) (query-of q) (query-of p) k n count r (now (ws .exit)) ⌝ }
 {
     let takes = wide_offset(sets, SETS_PARAMS, k);
-    if clash::param_clashes(sheet, ws, places, f.generics, p, q) {
+    if clash::param_clashes(sheet, ws, places, f.generics, p, q, takes) {
         return Asked::Found { count, n };
     }
     param_opened(sheet, ws, places, map, f, q, p, k, n, count)
@@ -469,7 +469,7 @@ pub fn open_candidate(
     ensures { λ r. ⌜ Opens (now (sheet .entry)) (now (ws .entry)) (query-of q) i r (now (ws .exit)) ⌝ }
 {
     let takes = wide_offset(sets, SETS, i);
-    if clash::clashes(sheet, ws, places, q, i) {
+    if clash::clashes(sheet, ws, places, q, i, takes) {
         return no_questions(UNFIT);
     }
     open_copy(sheet, ws, places, map, f, q, i)
