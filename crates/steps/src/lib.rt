@@ -49,6 +49,8 @@ pub const SETS: usize = 34948;
 
 const SETS_PARAMS: usize = 35076;
 
+pub const SETS_END: usize = 35080;
+
 // The kind of an impl parameter's tree.
 const PARAM: u32 = 1;
 
