@@ -7,12 +7,9 @@ use mathlib.Core.List.{List, [], _∷_, _++_}
 use mathlib.Core.Option.{Option, none, some, Option·some-ne-none}
 use native.Mathlib.Omega.{arith}
 use lib.Dec.{eqb, ltb}
-use lib.ListN.{length, replicate, length-replicate}
-use native.Mathlib.Nat.{le-refl}
+use lib.ListN.{length}
 use Rattle.rules.specs.Lists.{Words}
 use Rattle.rules.specs.Limits.{limit·sheet, limit·question, limit·answer, limit·workspace, limit·count, limit·steps}
-use Rattle.rules.specs.Layout.{header·definitions}
-use Rattle.rules.specs.Sheet.{many}
 use Rattle.rules.specs.Run.{Out, got, refused}
 use Rattle.rules.specs.RunLaws.{Between}
 use Rattle.rules.specs.Check.{Checks, refusal, of-sheet, of-ids, of-impl-question, of-flex-question, impl-checks, flex-checks}
@@ -22,7 +19,6 @@ use Rattle.rules.specs.CheckedTables.{Ready, impl-ready, flex-ready}
 use Rattle.rules.specs.Calls.{impl-within, answer-after}
 use Rattle.words.specs.Buffers.{cleared}
 use Rattle.checks.specs.Numbers.{number, finder}
-use Rattle.candidates.specs.Build.{Candidates}
 use Rattle.steps.specs.declared.Finder.{Finder}
 use Rattle.steps.specs.Asking.{finder-of, Searching}
 use Rattle.asking.specs.Impls.{Impls}
@@ -30,6 +26,7 @@ use Rattle.flexing.specs.Asked.{Flexing}
 use Rattle.closing.specs.declared.Ended.{Ended}
 use Rattle.closing.specs.Impl.{Closed}
 use Rattle.closing.specs.Ended.{Ends}
+use Rattle.calls.specs.Prepared.{Passed, Prepared}
 
 -- The lengths and the count that entry has tested; the workspace's part has exactly its words.
 pub record Entered (s q : Words) (answer work count : ℕ) : Type 0 where
@@ -62,20 +59,30 @@ refusal-first (x ∷ xs) ys e = go (x .1) refl e (refusal-first xs ys)
     go true p f ih = absurd (Option·some-ne-none (x .0) (rw (p, refusal) at f))
     go false p f ih = rw (p, refusal) (ih (rw (p, refusal) at f))
 
+-- The search, once its sets are prepared.
+searching : (s : Words) (source generics : ℕ) (sets : Words) → Passed s source generics → Prepared s source generics sets → Searching s sets (record { source = source; generics = generics; limit = 2000 })
+searching s source generics sets h p = record {
+  sound = record { question = h .question; ready = h .ready };
+  stands = record { checked = h .checked; source = h .ready .source; sets = p .candidates };
+  low = omega arith;
+  taken = p .taken;
+  long = p .long;
+}
+
 module _ (s q : Words) (source generics basic : ℕ) (h : ImplPassed s q source generics basic) where
   ready : Ready (finder s source generics) q
   ready = impl-ready (finder s source generics) basic q (h .sheet-short) (h .passed)
 
-  pub impl-checked : Checked s
+  impl-checked : Checked s
   unfolding impl-checks
   impl-checked = refusal-first (of-sheet s) (of-ids (finder s source generics) basic) (refusal-first (of-sheet s ++ of-ids (finder s source generics) basic) (of-impl-question (finder s source generics) q) (h .passed))
 
-  pub impl-source : source < many s header·definitions
-  impl-source = ready .source
+  pub impl-prepares : Passed s source generics
+  impl-prepares = record { question = q; ready = ready; checked = impl-checked }
 
-  pub impl-call : (sets : Words) → Candidates s source sets → Impls s sets q (record { source = source; generics = generics; limit = 2000 }) basic
+  pub impl-call : (sets : Words) → Prepared s source generics sets → Impls s sets q (record { source = source; generics = generics; limit = 2000 }) basic
   impl-call sets c = record {
-    searching = record { sound = record { question = q; ready = ready }; stands = record { checked = impl-checked; source = impl-source; sets = c }; low = omega arith };
+    searching = searching s source generics sets impl-prepares c;
     passed = h .passed;
     sheet-short = h .sheet-short;
     short = h .short;
@@ -85,24 +92,21 @@ module _ (s q : Words) (source generics : ℕ) (h : FlexPassed s q source generi
   flex-ready′ : Ready (finder s source generics) q
   flex-ready′ = flex-ready (finder s source generics) q (h .sheet-short) (h .passed)
 
-  pub flex-checked : Checked s
+  flex-checked : Checked s
   unfolding flex-checks
   flex-checked = refusal-first (of-sheet s) (of-ids (finder s source generics) 0) (refusal-first (of-sheet s ++ of-ids (finder s source generics) 0) (of-flex-question (finder s source generics) q) (h .passed))
 
-  pub flex-source : source < many s header·definitions
-  flex-source = flex-ready′ .source
+  pub flex-prepares : Passed s source generics
+  flex-prepares = record { question = q; ready = flex-ready′; checked = flex-checked }
 
-  pub flex-call : (sets : Words) → Candidates s source sets → Flexing s sets q (record { source = source; generics = generics; limit = 2000 })
+  pub flex-call : (sets : Words) → Prepared s source generics sets → Flexing s sets q (record { source = source; generics = generics; limit = 2000 })
   flex-call sets c = record {
-    searching = record { sound = record { question = q; ready = flex-ready′ }; stands = record { checked = flex-checked; source = flex-source; sets = c }; low = omega arith };
+    searching = searching s source generics sets flex-prepares c;
     passed = h .passed;
     sheet-short = h .sheet-short;
     short = h .short;
     low = omega arith;
   }
-
-pub new-sets : 34948 ≤ length (replicate {A = ℕ} 34948 0)
-new-sets = subst (λ n. 34948 ≤ n) (sym (length-replicate {0} {A = ℕ} 34948 0)) (le-refl 34948)
 
 -- What a call behind entry comes to: the number of its checks, or what it is once they have passed.
 unfoldable pub behind : Option ℕ → Out Words × ℕ → ℕ → Out Words × ℕ
@@ -180,12 +184,6 @@ unfolding limit·workspace
 words-are = refl
 
 -- Lengths.
-pub flex-short-sheet : (s q : Words) (source generics : ℕ) → FlexPassed s q source generics → length s ≤ 4096
-flex-short-sheet s q source generics h = h .sheet-short
-
-pub short-sheet : (s q : Words) (source generics basic : ℕ) → ImplPassed s q source generics basic → length s ≤ 4096
-short-sheet s q source generics basic h = h .sheet-short
-
 module _ (s q : Words) (answer work count : ℕ) (h : Entered s q answer work count) where
   pub entered-sheet : 0 < length s
   entered-sheet = h .sheet-some

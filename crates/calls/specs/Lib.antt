@@ -1,4 +1,5 @@
 pub mod Outcomes
+pub mod Prepared
 pub mod Behind
 pub mod Whole
 pub mod Demand

@@ -9,6 +9,7 @@ ghost use Rattle.rules.specs.Check.{refusal, impl-checks, flex-checks};
 ghost use Rattle.rules.specs.Calls.{impl-within, flex-within, try-find-impl, find-flex};
 ghost use Rattle.checks.specs.Numbers.{finder};
 ghost use Rattle.closing.specs.Ended.{Ends};
+ghost use Rattle.calls.specs.Prepared.{Passed, Prepared};
 ghost use Rattle.calls.specs.Outcomes.{ended-of, Calls, packed-of, PackedCalls};
 ghost use Rattle.calls.specs.Behind.{ImplPassed, FlexPassed, Entered, behind, Behind};
 use closing::Ended;
@@ -25,9 +26,6 @@ pub const WORKSPACE: usize = 662794;
 
 // The step limit.
 const STEPS: u32 = 2000;
-
-// The words of the candidate sets of a source.
-const SETS: usize = 34948;
 
 // The constant.
 pub fn workspace_words() -> usize
@@ -49,6 +47,16 @@ fn as_outcome(r: Ended) -> Outcome
     }
 }
 
+// The candidate sets of a source, and behind them what the imports of a call with these generics take.
+fn prepare(sheet: &[u32], sets: &mut [u32], source: usize, generics: usize)
+    requires { ⌜ Passed (now sheet) source generics ⌝ }
+    requires { ⌜ 35080 ≤ length (now sets) ⌝ }
+    ensures { λ _. ⌜ Prepared (now (sheet .entry)) source generics (now (sets .exit)) ⌝ }
+{
+    candidates::build(sheet, &mut sets[..steps::SETS], source);
+    reach::fill(sheet, generics, &mut sets[steps::SETS..]);
+}
+
 // The impl call once its checks have passed: the candidate sets of its source stand in its own frame.
 fn impl_with_sets(
     sheet: &[u32],
@@ -66,8 +74,8 @@ fn impl_with_sets(
     requires { ⌜ count ≤ 1000000 ⌝ }
     ensures { λ r. ⌜ Ends (impl-within (ltb limit·steps) (finder (now (sheet .entry)) source generics) (eqb basic 1) (now (question .entry)) count) (now (answer .entry)) (now (answer .exit)) r ⌝ }
 {
-    let mut sets = [0u32; SETS];
-    candidates::build(sheet, &mut sets, source);
+    let mut sets = [0u32; steps::SETS_END];
+    prepare(sheet, &mut sets, source, generics);
     let f = Finder {
         source,
         generics,
@@ -140,8 +148,8 @@ fn flex_with_sets(
     requires { ⌜ count ≤ 1000000 ⌝ }
     ensures { λ r. ⌜ Ends (flex-within (ltb limit·steps) (finder (now (sheet .entry)) source generics) (now (question .entry)) count) (now (answer .entry)) (now (answer .exit)) r ⌝ }
 {
-    let mut sets = [0u32; SETS];
-    candidates::build(sheet, &mut sets, source);
+    let mut sets = [0u32; steps::SETS_END];
+    prepare(sheet, &mut sets, source, generics);
     let f = Finder {
         source,
         generics,

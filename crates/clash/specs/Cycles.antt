@@ -31,7 +31,7 @@ roots-param s ps ls t y p x f a g = record { same = λ m w l. f .at s m l ∙ a 
 
 -- Type t is smaller than every open ref, one that is marked 1.
 pub record Below (m : SignedSol) (ms : Words) (t : ℕ) : Type 0 where
-  pub less : (y : ℕ) → at ms (y % 512) ≡ 1 → size m (t / 2) < size m y
+  pub less : (y : ℕ) → at ms (y % 2048) ≡ 1 → size m (t / 2) < size m y
 
 -- What is open in us was open in ms.
 pub record Kept (ms us : Words) : Type 0 where
@@ -41,7 +41,7 @@ pub kept-same : (ms : Words) → Kept ms ms
 kept-same ms = record { was = λ y e. e }
 
 kept-below : (m : SignedSol) (ms us : Words) (t : ℕ) → Kept ms us → Below m ms t → Below m us t
-kept-below m ms us t k b = record { less = λ y e. b .less y (k .was (y % 512) e) }
+kept-below m ms us t k b = record { less = λ y e. b .less y (k .was (y % 2048) e) }
 
 -- A walk down from t. true: nothing gives meanings in which t is smaller than every open ref.
 pub record Within (s ps ws ls ms : Words) (t : ℕ) (us : Words) (b : Bool) : Type 0 where
@@ -59,11 +59,11 @@ not-false e = let z : _≡_ {A = ℕ} 0 1 = cc in omega arith
 not-true : false ≡ true → ⊥
 not-true e = let z : _≡_ {A = ℕ} 0 1 = cc in omega arith
 
--- Marks are read and written modulo 512.
-pub mark-read : (ms : Words) (x w k : ℕ) → w ≡ x % 512 → k ≡ at ms w → k ≡ at ms (x % 512)
+-- Marks are read and written modulo 2048.
+pub mark-read : (ms : Words) (x w k : ℕ) → w ≡ x % 2048 → k ≡ at ms w → k ≡ at ms (x % 2048)
 mark-read ms x w k e q = q ∙ ap (at ms) e
 
-pub mark-set : (ms : Words) (x w k : ℕ) → w ≡ x % 512 → set ms w k ≡ set ms (x % 512) k
+pub mark-set : (ms : Words) (x w k : ℕ) → w ≡ x % 2048 → set ms w k ≡ set ms (x % 2048) k
 mark-set ms x w k e = ap (λ v. set ms v k) e
 
 -- What is open after place x is marked k.
@@ -83,21 +83,21 @@ pub within-not : (s ps ws ls ms : Words) (t : ℕ) → Within s ps ws ls ms t ms
 within-not s ps ws ls ms t = record { cycle = λ e. absurd (not-true e); kept = λ e. kept-same ms }
 
 -- Its root is open.
-pub within-open : (s ps ws ls ms : Words) (t x k : ℕ) → Roots s ps ls t x → k ≡ at ms (x / 2 % 512) → k ≡ 1 → Within s ps ws ls ms t ms true
+pub within-open : (s ps ws ls ms : Words) (t x k : ℕ) → Roots s ps ls t x → k ≡ at ms (x / 2 % 2048) → k ≡ 1 → Within s ps ws ls ms t ms true
 within-open s ps ws ls ms t x k r e q = record {
   cycle = λ y m w l b. omega (arith, b .less (x / 2) (sym e ∙ q), size-same s m t x (r .same m (w .records) l));
   kept = λ y. absurd (not-false y);
 }
 
 -- Its root x is opened.
-module _ (s ps ws ls ms : Words) (t x : ℕ) (o : Row) (r : Roots s ps ls t x) (g : Gathers s ps ws (x / 2) o) (z : o .n ≢ 9) (ns : Words) (en : ns ≡ set ms (x / 2 % 512) 1) (us : Words) (b : Bool) (a : Among s ps ws ls ns (o .n) (o .types) us b) where
+module _ (s ps ws ls ms : Words) (t x : ℕ) (o : Row) (r : Roots s ps ls t x) (g : Gathers s ps ws (x / 2) o) (z : o .n ≢ 9) (ns : Words) (en : ns ≡ set ms (x / 2 % 2048) 1) (us : Words) (b : Bool) (a : Among s ps ws ls ns (o .n) (o .types) us b) where
   children-below : (m : SignedSol) → Meaning s ps ws m → Linked s m ls → Below m ms t → (j : ℕ) → j < o .n → Below m ns (at (o .types) j)
-  children-below m w l c j h = record { less = λ y e. one y (newly ms (x / 2 % 512) 1 (y % 512) (sym (ap (λ (us′ : Words). at us′ (y % 512)) en) ∙ e)) }
+  children-below m w l c j h = record { less = λ y e. one y (newly ms (x / 2 % 2048) 1 (y % 2048) (sym (ap (λ (us′ : Words). at us′ (y % 2048)) en) ∙ e)) }
     where
       small : size m (at (o .types) j / 2) < size m (x / 2)
       small = child-smaller s ps ws m (x / 2) o g z w j h
 
-      one : (y : ℕ) → ((y % 512 ≡ x / 2 % 512) × (_≡_ {A = ℕ} 1 1)) ⊎ ((y % 512 ≢ x / 2 % 512) × (at ms (y % 512) ≡ 1)) → size m (at (o .types) j / 2) < size m y
+      one : (y : ℕ) → ((y % 2048 ≡ x / 2 % 2048) × (_≡_ {A = ℕ} 1 1)) ⊎ ((y % 2048 ≢ x / 2 % 2048) × (at ms (y % 2048) ≡ 1)) → size m (at (o .types) j / 2) < size m y
       one y (inl p) = omega (arith, small, size-mod m y (x / 2) (p .0))
       one y (inr p) = omega (arith, small, c .less y (p .1), size-same s m t x (r .same m (w .records) l))
 
@@ -107,19 +107,19 @@ module _ (s ps ws ls ms : Words) (t x : ℕ) (o : Row) (r : Roots s ps ls t x) (
     kept = λ y. absurd (not-false y);
   }
 
-  pub within-done : b ≡ false → (vs : Words) → vs ≡ set us (x / 2 % 512) 2 → Within s ps ws ls ms t vs false
+  pub within-done : b ≡ false → (vs : Words) → vs ≡ set us (x / 2 % 2048) 2 → Within s ps ws ls ms t vs false
   within-done e vs ev = record {
     cycle = λ y. absurd (not-true y);
-    kept = λ y. record { was = λ v q. late v (newly us (x / 2 % 512) 2 v (sym (ap (λ (us′ : Words). at us′ v) ev) ∙ q)) };
+    kept = λ y. record { was = λ v q. late v (newly us (x / 2 % 2048) 2 v (sym (ap (λ (us′ : Words). at us′ v) ev) ∙ q)) };
   }
     where
-      early : (v : ℕ) → v ≢ x / 2 % 512 → ((v ≡ x / 2 % 512) × (_≡_ {A = ℕ} 1 1)) ⊎ ((v ≢ x / 2 % 512) × (at ms v ≡ 1)) → at ms v ≡ 1
+      early : (v : ℕ) → v ≢ x / 2 % 2048 → ((v ≡ x / 2 % 2048) × (_≡_ {A = ℕ} 1 1)) ⊎ ((v ≢ x / 2 % 2048) × (at ms v ≡ 1)) → at ms v ≡ 1
       early v d (inl p) = absurd (d (p .0))
       early v d (inr p) = p .1
 
-      late : (v : ℕ) → ((v ≡ x / 2 % 512) × (_≡_ {A = ℕ} 2 1)) ⊎ ((v ≢ x / 2 % 512) × (at us v ≡ 1)) → at ms v ≡ 1
+      late : (v : ℕ) → ((v ≡ x / 2 % 2048) × (_≡_ {A = ℕ} 2 1)) ⊎ ((v ≢ x / 2 % 2048) × (at us v ≡ 1)) → at ms v ≡ 1
       late v (inl p) = absurd (let q = p .1 in omega arith)
-      late v (inr p) = early v (p .0) (newly ms (x / 2 % 512) 1 v (sym (ap (λ (us′ : Words). at us′ v) en) ∙ a .kept e .was v (p .1)))
+      late v (inr p) = early v (p .0) (newly ms (x / 2 % 2048) 1 v (sym (ap (λ (us′ : Words). at us′ v) en) ∙ a .kept e .was v (p .1)))
 
 -- Those of a row in turn.
 module _ (s ps ws ls ms : Words) (n : ℕ) (xs ns : Words) (k : Kept ms ns) where
@@ -139,14 +139,28 @@ kept-on s ps ws ls ms ns t us b k w e = record { was = λ y q. k .was y (w .kept
 pub record Cyclic (s ps ws ls : Words) (b : Bool) : Type 0 where
   pub cycle : b ≡ true → (m : SignedSol) → Meaning s ps ws m → Linked s m ls → ⊥
 
-pub cyclic-not : (s ps ws ls : Words) → Cyclic s ps ws ls false
-cyclic-not s ps ws ls = record { cycle = λ e. absurd (not-true e) }
-
 blank : (n y : ℕ) → at (replicate n 0) y ≡ 1 → ⊥
 blank zero y e = omega arith
 blank (suc n) zero e = omega arith
 blank (suc n) (suc y) e = blank n y e
 
+-- Walks down from some refs. true: nothing gives meanings in which links are true, where no ref was open before.
+pub record Cycling (s ps ws ls ms us : Words) (b : Bool) : Type 0 where
+  pub cycle : b ≡ true → (m : SignedSol) → Meaning s ps ws m → Linked s m ls → ((y : ℕ) → at ms y ≢ 1) → ⊥
+  pub kept : b ≡ false → Kept ms us
+
+pub cycling-not : (s ps ws ls ms us : Words) → Kept ms us → Cycling s ps ws ls ms us false
+cycling-not s ps ws ls ms us k = record { cycle = λ e. absurd (not-true e); kept = λ e. k }
+
+pub cycling-found : (s ps ws ls ms ns : Words) (t : ℕ) (us : Words) (b : Bool) → Kept ms ns → Within s ps ws ls ns t us b → b ≡ true → Cycling s ps ws ls ms us true
+cycling-found s ps ws ls ms ns t us b k w e = record {
+  cycle = λ y m v l z. w .cycle e m v l (record { less = λ x q. absurd (z (x % 2048) (k .was (x % 2048) q)) });
+  kept = λ y. absurd (not-false y);
+}
+
 -- At the start no ref is open.
-pub cyclic-found : (s ps ws ls : Words) (n : ℕ) (ms : Words) (t : ℕ) (us : Words) (b : Bool) → Kept (replicate n 0) ms → Within s ps ws ls ms t us b → b ≡ true → Cyclic s ps ws ls true
-cyclic-found s ps ws ls n ms t us b k w e = record { cycle = λ y m v l. w .cycle e m v l (record { less = λ x q. absurd (blank n (x % 512) (k .was (x % 512) q)) }) }
+pub cyclic-first : (s ps ws ls : Words) (n : ℕ) (us : Words) (b : Bool) → Cycling s ps ws ls (replicate n 0) us b → b ≡ true → Cyclic s ps ws ls true
+cyclic-first s ps ws ls n us b c e = record { cycle = λ y m v l. c .cycle e m v l (λ x q. blank n x q) }
+
+pub cyclic-then : (s ps ws ls : Words) (n : ℕ) (us : Words) (b : Bool) (vs : Words) (d : Bool) → Cycling s ps ws ls (replicate n 0) us b → b ≡ false → Cycling s ps ws ls us vs d → Cyclic s ps ws ls d
+cyclic-then s ps ws ls n us b vs d c e a = record { cycle = λ y m v l. a .cycle y m v l (λ x q. blank n x (c .kept e .was x q)) }

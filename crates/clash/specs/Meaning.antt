@@ -1,5 +1,5 @@
--- What types mean. A type is a number: twice a ref, and one more if it is inverted. Refs are read modulo 512: up to 255 a node of the question's table, from 256 on a node of the signature's table by its record,
--- from 504 on a type parameter. A meaning gives every ref a term with sides, such that both tables are read alike.
+-- What types mean. A type is a number: twice a ref, and one more if it is inverted. Refs are read modulo 2,048: up to 255 a node of the question's table, from 256 on a type parameter,
+-- from 1,024 on a node of the signature's table by its record. A meaning gives every ref a term with sides, such that both tables are read alike.
 use Prim.Native.Nat.{ℕ, _+_, _*_, _/_, _%_, _≤_, _<_}
 use mathlib.Core.Path.{_≡_, refl, sym, _∙_, ap, ap₂}
 use mathlib.Core.Bool.{Bool, true, false}
@@ -25,7 +25,7 @@ odd t = eqb (t % 2) 1
 
 -- The term of a type, and of some types.
 unfoldable pub means : Words → SignedSol → ℕ → Signed
-means s m t = turned s (odd t) (m (t / 2 % 512))
+means s m t = turned s (odd t) (m (t / 2 % 2048))
 
 unfoldable pub row : Words → SignedSol → Words → Signed
 row s m [] = snil
@@ -35,17 +35,17 @@ row s m (t ∷ ts) = scons (means s m t) (row s m ts)
 abbrev pub turn : ℕ → ℕ → ℕ
 turn b t = t / 2 * 2 + (t + b) % 2
 
-low-part : (q r : ℕ) → r < 512 → (512 * q + r) % 512 ≡ r
+low-part : (q r : ℕ) → r < 2048 → (2048 * q + r) % 2048 ≡ r
 low-part q r h = omega arith
 
-pub means-mod : (s : Words) (m : SignedSol) (t : ℕ) → means s m (t % 1024) ≡ means s m t
+pub means-mod : (s : Words) (m : SignedSol) (t : ℕ) → means s m (t % 4096) ≡ means s m t
 unfolding means odd
 means-mod s m t =
-    let a : t % 1024 % 2 ≡ t % 2 = omega arith in
-    let c : t / 2 ≡ 512 * (t / 1024) + t % 1024 / 2 = omega arith in
-    let l : t % 1024 / 2 < 512 = omega arith in
-    let d : t % 1024 / 2 % 512 ≡ t % 1024 / 2 = omega arith in
-    let b : t % 1024 / 2 % 512 ≡ t / 2 % 512 = d ∙ sym (low-part (t / 1024) (t % 1024 / 2) l) ∙ ap (λ k. k % 512) (sym c) in
+    let a : t % 4096 % 2 ≡ t % 2 = omega arith in
+    let c : t / 2 ≡ 2048 * (t / 4096) + t % 4096 / 2 = omega arith in
+    let l : t % 4096 / 2 < 2048 = omega arith in
+    let d : t % 4096 / 2 % 2048 ≡ t % 4096 / 2 = omega arith in
+    let b : t % 4096 / 2 % 2048 ≡ t / 2 % 2048 = d ∙ sym (low-part (t / 4096) (t % 4096 / 2) l) ∙ ap (λ k. k % 2048) (sym c) in
     ap₂ (λ (i j : ℕ). turned s (eqb i 1) (m j)) a b
 
 pub means-turn : (s : Words) (m : SignedSol) (b t : ℕ) → means s m (turn b t) ≡ turned s (odd b) (means s m t)
@@ -53,14 +53,14 @@ unfolding means odd
 means-turn s m b t =
     let a : turn b t % 2 ≡ (b + t) % 2 = omega arith in
     let c : turn b t / 2 ≡ t / 2 = omega arith in
-    ap₂ (λ (i j : ℕ). turned s (eqb i 1) (m (j % 512))) a c
-    ∙ ap (λ i. turned s i (m (t / 2 % 512))) (sym (odd-sum b t))
-    ∙ sym (turned-twice s (odd b) (odd t) (m (t / 2 % 512)))
+    ap₂ (λ (i j : ℕ). turned s (eqb i 1) (m (j % 2048))) a c
+    ∙ ap (λ i. turned s i (m (t / 2 % 2048))) (sym (odd-sum b t))
+    ∙ sym (turned-twice s (odd b) (odd t) (m (t / 2 % 2048)))
 
 -- The ref of a type has the term of the type, turned back.
-pub means-ref : (s : Words) (m : SignedSol) (t : ℕ) → m (t / 2 % 512) ≡ turned s (odd t) (means s m t)
+pub means-ref : (s : Words) (m : SignedSol) (t : ℕ) → m (t / 2 % 2048) ≡ turned s (odd t) (means s m t)
 unfolding means
-means-ref s m t = sym (turned-back s (odd t) (m (t / 2 % 512)))
+means-ref s m t = sym (turned-back s (odd t) (m (t / 2 % 2048)))
 
 -- A term of a side, a kind and an id.
 pub record Sort (s : Words) (t : Signed) (i : Bool) (k d : ℕ) : Type 0 where
@@ -133,7 +133,7 @@ module _ (s : Words) where
       record { kinds = a; ids = b; sides = made-sides i j k d t u z; below = made-below i j k d t u z }
 
   -- A type is of a sort as its ref is, turned.
-  pub type-sort : (m : SignedSol) (t : ℕ) (i : Bool) (k d : ℕ) (u : Signed) → m (t / 2 % 512) ≡ made s i k d u → means s m t ≡ made s (xor (odd t) i) k d u
+  pub type-sort : (m : SignedSol) (t : ℕ) (i : Bool) (k d : ℕ) (u : Signed) → m (t / 2 % 2048) ≡ made s i k d u → means s m t ≡ made s (xor (odd t) i) k d u
   unfolding means
   type-sort m t i k d u e = ap (turned s (odd t)) e ∙ turned-made s (odd t) i k d u
 
@@ -142,7 +142,7 @@ abbrev pub node-types : Words → ℕ → Words
 node-types ws n = map (λ (c : Ty). word-of-type (type-in ws c)) (children-at (types-of ws) n)
 
 abbrev pub record-types : Words → ℕ → Words
-record-types s h = map (λ (c : Ty). 512 + word-of-type c % 512) (cell-types s h)
+record-types s h = map (λ (c : Ty). 2048 + word-of-type c % 2048) (cell-types s h)
 
 -- Known nodes of the question's table are of their side, kind and id, and known roots over what their children mean.
 pub record Nodes (s ws : Words) (m : SignedSol) : Type 0 where
@@ -155,9 +155,9 @@ record-side s p = eqb (at s (p + 2)) 1
 
 -- A Param of the signature's table, whose records stand at places ps, means its type parameter, inverted as it is, and any other known node is over what its children mean.
 pub record Records (s ps : Words) (m : SignedSol) : Type 0 where
-  pub few : length ps ≤ 248
-  pub param : (k : ℕ) → k < length ps → at s (at ps k + 1) ≡ 1 → at s (at ps k + 3) < 8 → m (256 + k) ≡ turned s (record-side s (at ps k)) (m (504 + at s (at ps k + 3)))
-  pub plain : (k : ℕ) → k < length ps → at s (at ps k + 1) ≢ 0 → at s (at ps k + 1) ≢ 1 → m (256 + k) ≡ made s (record-side s (at ps k)) (at s (at ps k + 1)) (at s (at ps k + 3)) (row s m (record-types s (at s (at ps k + 4))))
+  pub few : length ps ≤ 1024
+  pub param : (k : ℕ) → k < length ps → at s (at ps k + 1) ≡ 1 → at s (at ps k + 3) < 8 → m (1024 + k) ≡ turned s (record-side s (at ps k)) (m (256 + at s (at ps k + 3)))
+  pub plain : (k : ℕ) → k < length ps → at s (at ps k + 1) ≢ 0 → at s (at ps k + 1) ≢ 1 → m (1024 + k) ≡ made s (record-side s (at ps k)) (at s (at ps k + 1)) (at s (at ps k + 3)) (row s m (record-types s (at s (at ps k + 4))))
 
 pub record Meaning (s ps ws : Words) (m : SignedSol) : Type 0 where
   pub nodes : Nodes s ws m

@@ -20,49 +20,43 @@ use Rattle.clash.specs.Links.{Linked, Finds, Links, Settles}
 -- What is kept while types are met: the links, and the pairs before place e of the queue, are of types that mean the same; 1000 is said where that cannot be.
 pub record Holds (s : Words) (m : SignedSol) (ls qs : Words) (e : ℕ) : Type 0 where
   pub linked : Linked s m ls
-  pub queued : (k : ℕ) → k < e → means s m (at qs k) ≡ means s m (at qs k / 1024)
+  pub queued : (k : ℕ) → k < e → means s m (at qs k) ≡ means s m (at qs k / 4096)
   pub free : e ≢ 1000
 
 -- A pair is put.
 pub record Puts (ls qs : Words) (e x y : ℕ) (ks rs : Words) (r : ℕ) : Type 0 where
   pub at : (s : Words) (m : SignedSol) → Holds s m ls qs e → means s m x ≡ means s m y → Holds s m ks rs r
 
-pub puts-none : (ls qs : Words) (e x y : ℕ) → Puts ls qs e x y ls qs e
-puts-none ls qs e x y = record { at = λ s m h q. h }
-
-pub puts-pair : (ls qs : Words) (e x y : ℕ) (ks : Words) → e < 512 → Links ls x y ks → Puts ls qs e x y ks (set qs e (x % 1024 + 1024 * (y % 1024))) (e + 1)
+pub puts-pair : (ls qs : Words) (e x y : ℕ) (ks : Words) → e < 256 → Links ls x y ks → Puts ls qs e x y ks (set qs e (x % 4096 + 4096 * (y % 4096))) (e + 1)
 puts-pair ls qs e x y ks l k = record {
   at = λ s m h q. record {
     linked = k .at s m (h .linked) q;
-    queued = λ i j. ⊎-elim (last s m q i) (λ o. rw (getD-set-other qs e i (x % 1024 + 1024 * (y % 1024)) 0 (omega arith)) (h .queued i o)) (eq-or-lt-of-le (let z : i ≤ e = omega arith in z));
+    queued = λ i j. ⊎-elim (last s m q i) (λ o. rw (getD-set-other qs e i (x % 4096 + 4096 * (y % 4096)) 0 (omega arith)) (h .queued i o)) (eq-or-lt-of-le (let z : i ≤ e = omega arith in z));
     free = omega arith;
   };
 }
   where
     pair : ℕ
-    pair = x % 1024 + 1024 * (y % 1024)
+    pair = x % 4096 + 4096 * (y % 4096)
 
-    here : (s : Words) (m : SignedSol) → means s m x ≡ means s m y → means s m pair ≡ means s m (pair / 1024)
+    here : (s : Words) (m : SignedSol) → means s m x ≡ means s m y → means s m pair ≡ means s m (pair / 4096)
     here s m q =
         sym (means-mod s m pair)
-        ∙ ap (means s m) (let z : pair % 1024 ≡ x % 1024 = omega arith in z)
+        ∙ ap (means s m) (let z : pair % 4096 ≡ x % 4096 = omega arith in z)
         ∙ means-mod s m x
         ∙ q
         ∙ sym (means-mod s m y)
-        ∙ ap (means s m) (let z : y % 1024 ≡ pair / 1024 = omega arith in z)
+        ∙ ap (means s m) (let z : y % 4096 ≡ pair / 4096 = omega arith in z)
 
-    last : (s : Words) (m : SignedSol) → means s m x ≡ means s m y → (i : ℕ) → i ≡ e → means s m (at (set qs e pair) i) ≡ means s m (at (set qs e pair) i / 1024)
+    last : (s : Words) (m : SignedSol) → means s m x ≡ means s m y → (i : ℕ) → i ≡ e → means s m (at (set qs e pair) i) ≡ means s m (at (set qs e pair) i / 4096)
     last s m q i o = ⊎-elim
-        (λ h. subst (λ v. means s m v ≡ means s m (v / 1024)) (sym (ap (at (set qs e pair)) o ∙ getD-set-same qs e pair 0 h)) (here s m q))
-        (λ h. subst (λ v. means s m v ≡ means s m (v / 1024)) (ap (at (set qs e pair)) (sym o) ∙ refl) (subst (λ v. means s m v ≡ means s m (v / 1024)) (word-past (set qs e pair) e (omega (arith, length-set qs e pair))) refl))
+        (λ h. subst (λ v. means s m v ≡ means s m (v / 4096)) (sym (ap (at (set qs e pair)) o ∙ getD-set-same qs e pair 0 h)) (here s m q))
+        (λ h. subst (λ v. means s m v ≡ means s m (v / 4096)) (ap (at (set qs e pair)) (sym o) ∙ refl) (subst (λ v. means s m v ≡ means s m (v / 4096)) (word-past (set qs e pair) e (omega (arith, length-set qs e pair))) refl))
         (lt-or e (length qs))
 
 -- Types a and b are met.
 pub record Meets (s ps ws ls qs : Words) (e a b : ℕ) (ks rs : Words) (r : ℕ) : Type 0 where
   pub at : (m : SignedSol) → Meaning s ps ws m → Holds s m ls qs e → means s m a ≡ means s m b → Holds s m ks rs r
-
-pub meets-none : (s ps ws ls qs : Words) (e a b : ℕ) → Meets s ps ws ls qs e a b ls qs e
-meets-none s ps ws ls qs e a b = record { at = λ m w h q. h }
 
 -- The difference of the sides of two types.
 abbrev pub apart : Words → Words → Words → ℕ → ℕ → Bool

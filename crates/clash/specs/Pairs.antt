@@ -18,7 +18,7 @@ use Rattle.table.specs.declared.Row.{Row}
 use Rattle.table.specs.Packing.{types-of}
 use Rattle.queries.specs.declared.Query.{Query}
 use Rattle.clash.specs.Meaning.{means, means-mod, means-turn, turn, row, Meaning, made-parts, type-sort}
-use Rattle.clash.specs.Refs.{KindOf, IdOf, Bit, type-side, side-of}
+use Rattle.clash.specs.Refs.{KindOf, IdOf, Bit, bits-apart, Sided, type-side, side-of}
 use Rattle.clash.specs.Children.{Gathers}
 use Rattle.clash.specs.Links.{Linked, linked-none}
 use Rattle.clash.specs.Cycles.{Cyclic}
@@ -40,7 +40,7 @@ turned-cons s true t u = refl
 turned-cons s false t u = refl
 
 module _ (s : Words) (m : SignedSol) (b : Bool) where
-  row-length : (xs ys : Words) → row s m xs ≡ turned s b (row s m ys) → length xs ≡ length ys
+  pub row-length : (xs ys : Words) → row s m xs ≡ turned s b (row s m ys) → length xs ≡ length ys
   unfolding row
   row-length [] [] e = refl
   row-length [] (y ∷ ys) e = let z : snil ≡ scons (turned s b (means s m y)) (turned s b (row s m ys)) = e ∙ turned-cons s b (means s m y) (row s m ys) in let z : _≡_ {A = ℕ} 0 1 = cc in absurd (omega arith)
@@ -50,7 +50,7 @@ module _ (s : Words) (m : SignedSol) (b : Bool) where
       let z : row s m xs ≡ turned s b (row s m ys) = cc in
       ap suc (row-length xs ys z)
 
-  row-same : (xs ys : Words) → row s m xs ≡ turned s b (row s m ys) → (j : ℕ) → j < length xs → means s m (at xs j) ≡ turned s b (means s m (at ys j))
+  pub row-same : (xs ys : Words) → row s m xs ≡ turned s b (row s m ys) → (j : ℕ) → j < length xs → means s m (at xs j) ≡ turned s b (means s m (at ys j))
   unfolding row
   row-same [] ys e j h = absurd (not-suc-le-zero h)
   row-same (x ∷ xs) [] e j h = let z : scons (means s m x) (row s m xs) ≡ snil = e ∙ turned-nil s b in let z : _≡_ {A = ℕ} 0 1 = cc in absurd (omega arith)
@@ -61,6 +61,12 @@ module _ (s : Words) (m : SignedSol) (b : Bool) where
       let q : scons (means s m x) (row s m xs) ≡ scons (turned s b (means s m y)) (turned s b (row s m ys)) = e ∙ turned-cons s b (means s m y) (row s m ys) in
       let z : row s m xs ≡ turned s b (row s m ys) = cc in
       row-same xs ys z j (le-of-suc-le-suc h)
+
+  pub row-rest : (x y : ℕ) (xs ys : Words) → row s m (x ∷ xs) ≡ turned s b (row s m (y ∷ ys)) → row s m xs ≡ turned s b (row s m ys)
+  unfolding row
+  row-rest x y xs ys e =
+      let q : scons (means s m x) (row s m xs) ≡ scons (turned s b (means s m y)) (turned s b (row s m ys)) = e ∙ turned-cons s b (means s m y) (row s m ys) in
+      cc
 
 -- The first n of xs and ys are met.
 pub record Goes (s ps ws ls qs : Words) (e n b : ℕ) (xs ys ks rs : Words) (r : ℕ) : Type 0 where
@@ -109,7 +115,7 @@ pub record Ran (s ps ws ls qs : Words) (e : ℕ) (ks rs : Words) (r : ℕ) : Typ
 pub ran-start : (s ps ws ls qs : Words) (e : ℕ) → Ran s ps ws ls qs e ls qs e
 ran-start s ps ws ls qs e = record { at = λ m w h. h }
 
-pub ran-on : (s ps ws ls qs : Words) (e : ℕ) (ks rs : Words) (r k : ℕ) (is ts : Words) (u : ℕ) → Ran s ps ws ls qs e ks rs r → k < r → Meets s ps ws ks rs r (at rs k % 1024) (at rs k / 1024) is ts u → Ran s ps ws ls qs e is ts u
+pub ran-on : (s ps ws ls qs : Words) (e : ℕ) (ks rs : Words) (r k : ℕ) (is ts : Words) (u : ℕ) → Ran s ps ws ls qs e ks rs r → k < r → Meets s ps ws ks rs r (at rs k % 4096) (at rs k / 4096) is ts u → Ran s ps ws ls qs e is ts u
 ran-on s ps ws ls qs e ks rs r k is ts u g h t = record { at = λ m w l. t .at m w (g .at m w l) (means-mod s m (at rs k) ∙ (g .at m w l) .queued k h) }
 
 -- true: nothing gives such meanings. false: the links after it are of types that mean the same.
@@ -117,7 +123,7 @@ pub record Ends (s ps ws ls qs : Words) (e : ℕ) (ks : Words) (b : Bool) : Type
   pub clash : b ≡ true → (m : SignedSol) → Meaning s ps ws m → Holds s m ls qs e → ⊥
   pub links : b ≡ false → (m : SignedSol) → Meaning s ps ws m → Holds s m ls qs e → Linked s m ks
 
-pub ends-clash : (s ps ws ls qs : Words) (e : ℕ) (ks rs : Words) (r k : ℕ) (is ts : Words) (u : ℕ) → Ran s ps ws ls qs e ks rs r → k < r → Meets s ps ws ks rs r (at rs k % 1024) (at rs k / 1024) is ts u → u ≡ 1000 → Ends s ps ws ls qs e is true
+pub ends-clash : (s ps ws ls qs : Words) (e : ℕ) (ks rs : Words) (r k : ℕ) (is ts : Words) (u : ℕ) → Ran s ps ws ls qs e ks rs r → k < r → Meets s ps ws ks rs r (at rs k % 4096) (at rs k / 4096) is ts u → u ≡ 1000 → Ends s ps ws ls qs e is true
 ends-clash s ps ws ls qs e ks rs r k is ts u g h t q = record {
   clash = λ b m w l. ((ran-on s ps ws ls qs e ks rs r k is ts u g h t) .at m w l) .free q;
   links = λ b. let z : _≡_ {A = ℕ} 0 1 = cc in absurd (omega arith);
@@ -131,7 +137,7 @@ ends-not s ps ws ls qs e ks rs r g = record {
 
 -- The type of argument k of a signature, in its own table, and of the question.
 abbrev pub own-type : Query → ℕ → ℕ
-own-type p k = 512 + at (p .args) k % 512
+own-type p k = 2048 + at (p .args) k % 2048
 
 abbrev pub asked-type : Words → Query → ℕ → ℕ
 asked-type ws q k = word-of-type (find (types-of ws) (type-of-word (at (q .args) k)))
@@ -146,7 +152,7 @@ pub record ArgsMet (s ps ws ls qs : Words) (p q : Query) (ks rs : Words) (r : �
 pub args-start : (s ps ws ls qs : Words) (p q : Query) → ArgsMet s ps ws ls qs p q ls qs 0
 args-start s ps ws ls qs p q = record { at = λ m w h a. h }
 
-pub args-on : (s ps ws ls qs : Words) (p q : Query) (ks rs : Words) (r k a b : ℕ) (is ts : Words) (u : ℕ) → ArgsMet s ps ws ls qs p q ks rs r → k < q .n → a ≡ 512 + at (p .args) k % 512 → b ≡ asked-type ws q k → Meets s ps ws ks rs r a b is ts u → ArgsMet s ps ws ls qs p q is ts u
+pub args-on : (s ps ws ls qs : Words) (p q : Query) (ks rs : Words) (r k a b : ℕ) (is ts : Words) (u : ℕ) → ArgsMet s ps ws ls qs p q ks rs r → k < q .n → a ≡ 2048 + at (p .args) k % 2048 → b ≡ asked-type ws q k → Meets s ps ws ks rs r a b is ts u → ArgsMet s ps ws ls qs p q is ts u
 args-on s ps ws ls qs p q ks rs r k a b is ts u g h ea eb t = record { at = λ m w l x. t .at m w (g .at m w l x) (ap (means s m) ea ∙ x .same k h ∙ ap (means s m) (sym eb)) }
 
 -- At the start there are no links and no pairs.
@@ -183,7 +189,10 @@ root-kinds s ps ws a b k j ek ej zk zj n = record { clash = λ e m w q. n (kinds
 pub root-ids : (s ps ws : Words) (a b k j c d : ℕ) → KindOf s ps ws (a / 2) k → KindOf s ps ws (b / 2) j → k ≢ 0 → j ≢ 0 → IdOf s ps ws (a / 2) c → IdOf s ps ws (b / 2) d → c ≢ d → RootClash s ps ws a b true
 root-ids s ps ws a b k j c d ek ej zk zj ec ed n = record { clash = λ e m w q. n ((known-parts s ps ws a b k j c d ek ej zk zj ec ed m w q) .ids) }
 
-pub clashing-root : (s ps ws : Words) (p q : Query) (k a b : ℕ) (r : Bool) → k < q .n → a ≡ 512 + at (p .args) k % 512 → b ≡ asked-type ws q k → RootClash s ps ws a b r → r ≡ true → Clashing s ps ws p q true
+pub root-sides : (s ps ws : Words) (a b k j c d r : ℕ) (o : Bool) → KindOf s ps ws (a / 2) k → KindOf s ps ws (b / 2) j → k ≢ 0 → j ≢ 0 → IdOf s ps ws (a / 2) c → IdOf s ps ws (b / 2) d → Bit (apart s ps ws a b) r → r ≡ 1 → Sided s k c o → RootClash s ps ws a b o
+root-sides s ps ws a b k j c d r o ek ej zk zj ec ed t er f = record { clash = λ e m w q. bits-apart (type-side s ps ws a) (type-side s ps ws b) r t er ((known-parts s ps ws a b k j c d ek ej zk zj ec ed m w q) .sides (f .is e)) }
+
+pub clashing-root : (s ps ws : Words) (p q : Query) (k a b : ℕ) (r : Bool) → k < q .n → a ≡ 2048 + at (p .args) k % 2048 → b ≡ asked-type ws q k → RootClash s ps ws a b r → r ≡ true → Clashing s ps ws p q true
 clashing-root s ps ws p q k a b r h ea eb o e = record { clash = λ y m w x. o .clash e m w (ap (means s m) ea ∙ x .same k h ∙ ap (means s m) (sym eb)) }
 
 pub clashing-not : (s ps ws : Words) (p q : Query) → Clashing s ps ws p q false

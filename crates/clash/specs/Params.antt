@@ -14,15 +14,15 @@ use Rattle.rules.specs.Types.{Types, ImplType, success, unify-impl-type}
 use Rattle.rules.specs.Transfer.{table, import-impl-type}
 use Rattle.rules.specs.Search.{Finder, impl-params}
 use Rattle.rules.specs.Solutions.{AllIn, WellFormed}
-use Rattle.rules.specs.CheckedTables.{Ready, table-length}
+use Rattle.rules.specs.CheckedTables.{Ready}
 use Rattle.rules.specs.Neat.{Neat, impl-params-neat}
-use Rattle.rules.specs.CommonTerms.{param-most}
 use Rattle.rules.specs.SignedTerms.{SignedCommon, param-signed}
 use Rattle.table.specs.Packing.{types-of}
 use Rattle.chart.specs.Index.{Indexed}
 use Rattle.queries.specs.declared.Query.{Query}
 use Rattle.queries.specs.Queries.{query-of}
 use Rattle.queries.specs.Sizes.{generics-few}
+use Rattle.queries.specs.Takes.{ParamTakes}
 use Rattle.clash.specs.Pairs.{Clashing}
 use Rattle.clash.specs.Readings.{never-common}
 use Rattle.clash.specs.Places.{places-room, places-few, places-length, places-are}
@@ -71,16 +71,16 @@ module _ (s : Words) (g : ℕ) (call : Calling s g) (head : ℕ) (eh : head ≡ 
       pub param-length : n ≡ length (take n us)
       param-length = places-length s head few ws l us n x long
 
-      module _ (ts : Words) (p q : Query) (neat : Neat (types-of ts)) (inside : AllIn (length (types-of ts)) ((query-of q) .1)) (most : q .n ≤ 4) (into : AllIn (length ((impl-params s g) .0)) ((query-of p) .1)) (same : p .n ≡ q .n) (small : length (types-of ts) + n ≤ 248) where
+      module _ (ts : Words) (p q : Query) (neat : Neat (types-of ts)) (inside : AllIn (length (types-of ts)) ((query-of q) .1)) (most : q .n ≤ 4) (into : AllIn (length ((impl-params s g) .0)) ((query-of p) .1)) (same : p .n ≡ q .n) (t : ℕ) (takes : ParamTakes s g (query-of p) t) (small : length (types-of ts) + t ≤ limit·nodes) where
         its-room : length ((brought s g (query-of p) (types-of ts)) .1) ≤ limit·nodes
-        its-room = omega (arith, param-most finder (call .question) (call .ready) (types-of ts) (query-of p) into, ap length its-table, table-length s head, x .count)
+        its-room = omega (arith, takes .most (types-of ts))
 
         its-types : AllIn (length (table s head)) ((query-of p) .1)
         its-types = subst (λ (src : Types). AllIn (length src) ((query-of p) .1)) (sym its-table) into
 
         never-met : Clashing s (take n us) ts p q true → (unify-impl-type s ((brought s g (query-of p) (types-of ts)) .1) ((brought s g (query-of p) (types-of ts)) .0) (query-of q)) .0 ≢ success
         never-met k = λ won.
-            never-common s ts head (omega (arith, x .count)) formed (neat .proper .formed) p q same most its-types inside
+            never-common s ts head (omega (arith, few, call .ready .short)) formed (neat .proper .formed) p q same most its-types inside
             (subst (λ (ps : Words). Clashing s ps ts p q true) (places-are s head few ws l us n x long) k)
             (subst (λ (src : Types). SignedCommon s (types-of ts) src ((query-of p) .1) ((query-of q) .1)) (sym its-table)
             (param-signed finder (call .question) (call .ready) (types-of ts) (query-of q) neat inside (query-of p) into won))

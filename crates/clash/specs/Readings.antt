@@ -38,20 +38,20 @@ node-term s σ n (known i k d cs) = made s i k d (values s σ cs)
 
 -- The terms of all refs: σ solves the question's table, and τ reads the signature's by π.
 unfoldable pub reading : Words → Words → SignedSol → SignedSol → SignedSol → SignedSol
-reading s ws σ π τ r = elim (ltb r 256) [ true ↦ node-term s σ r (state-at (types-of ws) r) | false ↦ elim (ltb r 504) [ true ↦ τ (r - 256) | false ↦ π (r - 504) ] ]
+reading s ws σ π τ r = elim (ltb r 256) [ true ↦ node-term s σ r (state-at (types-of ws) r) | false ↦ elim (ltb r 1024) [ true ↦ π (r - 256) | false ↦ τ (r - 1024) ] ]
 
 module _ (s ws : Words) (σ π τ : SignedSol) where
   reading-node : (n : ℕ) → n < 256 → reading s ws σ π τ n ≡ node-term s σ n (state-at (types-of ws) n)
   unfolding reading
   reading-node n h = rw (lt-ltb n 256 h, reading)
 
-  reading-record : (k : ℕ) → k < 248 → reading s ws σ π τ (256 + k) ≡ τ k
+  reading-record : (k : ℕ) → reading s ws σ π τ (1024 + k) ≡ τ k
   unfolding reading
-  reading-record k h = rw (le-ltb (256 + k) 256 (omega arith), lt-ltb (256 + k) 504 (omega arith), reading) (ap τ (let z : 256 + k - 256 ≡ k = omega arith in z))
+  reading-record k = rw (le-ltb (1024 + k) 256 (omega arith), le-ltb (1024 + k) 1024 (omega arith), reading) (ap τ (let z : 1024 + k - 1024 ≡ k = omega arith in z))
 
-  reading-param : (d : ℕ) → reading s ws σ π τ (504 + d) ≡ π d
+  reading-param : (d : ℕ) → d < 8 → reading s ws σ π τ (256 + d) ≡ π d
   unfolding reading
-  reading-param d = rw (le-ltb (504 + d) 256 (omega arith), le-ltb (504 + d) 504 (omega arith), reading) (ap π (let z : 504 + d - 504 ≡ d = omega arith in z))
+  reading-param d h = rw (le-ltb (256 + d) 256 (omega arith), lt-ltb (256 + d) 1024 (omega arith), reading) (ap π (let z : 256 + d - 256 ≡ d = omega arith in z))
 
 fits-term : (s : Words) (σ : SignedSol) (n : ℕ) (st : TypeState) → SignedFits s σ n st → node-term s σ n st ≡ σ n
 unfolding node-term
@@ -104,20 +104,20 @@ values-at s τ σ (x ∷ xs) (y ∷ ys) e zero h = cc
 values-at s τ σ (x ∷ xs) (y ∷ ys) e (suc k) h = let z : values s τ xs ≡ values s σ ys = cc in values-at s τ σ xs ys z k (le-of-suc-le-suc h)
 
 -- What the word of a type means.
-means-type : (s : Words) (m : SignedSol) (t : Ty) → t .1 < 512 → means s m (word-of-type t) ≡ turned s (t .0) (m (t .1))
+means-type : (s : Words) (m : SignedSol) (t : Ty) → t .1 < 2048 → means s m (word-of-type t) ≡ turned s (t .0) (m (t .1))
 unfolding means odd type-of-word
 means-type s m t h =
     let e = type-word t in
     let n : word-of-type t / 2 ≡ t .1 = ap (λ (u : Ty). u .1) e in
-    (λ i. turned s ((e i) .0) (m ((e i) .1 % 512))) ∙ ap (λ k. turned s (t .0) (m k)) (let z : t .1 % 512 ≡ t .1 = omega arith in z)
+    (λ i. turned s ((e i) .0) (m ((e i) .1 % 2048))) ∙ ap (λ k. turned s (t .0) (m k)) (let z : t .1 % 2048 ≡ t .1 = omega arith in z)
 
 -- The type of a record's ref.
-record-word : (t : Ty) → t .1 < 248 → 512 + word-of-type t % 512 ≡ word-of-type (t .0, 256 + t .1)
+record-word : (t : Ty) → t .1 < 1024 → 2048 + word-of-type t % 2048 ≡ word-of-type (t .0, 1024 + t .1)
 unfolding word-of-type
 record-word (true, n) h = omega arith
 record-word (false, n) h = omega arith
 
-module _ (s ws : Words) (h : ℕ) (short : length (chain s h) ≤ 248) (formed : WellFormed (table s h)) (whole : WellFormed (types-of ws)) (σ π τ : SignedSol) (solves : SignedSolves s (types-of ws) σ) (reads : SignedReads s (table s h) π τ) where
+module _ (s ws : Words) (h : ℕ) (short : length (chain s h) ≤ 1024) (formed : WellFormed (table s h)) (whole : WellFormed (types-of ws)) (σ π τ : SignedSol) (solves : SignedSolves s (types-of ws) σ) (reads : SignedReads s (table s h) π τ) where
   abbrev m : SignedSol
   m = reading s ws σ π τ
 
@@ -142,14 +142,14 @@ module _ (s ws : Words) (h : ℕ) (short : length (chain s h) ≤ 248) (formed :
   node-over n (known i k d cs) a z = ap (made s i k d) (node-rows cs a)
 
   -- and a type of the signature's what its record says.
-  record-value : (t : Ty) → t .1 < 248 → value s τ t ≡ means s m (512 + word-of-type t % 512)
+  record-value : (t : Ty) → t .1 < 1024 → value s τ t ≡ means s m (2048 + word-of-type t % 2048)
   unfolding value
-  record-value t l = ap (turned s (t .0)) (sym (reading-record s ws σ π τ (t .1) l)) ∙ sym (means-type s m (t .0, 256 + t .1) (omega arith)) ∙ ap (means s m) (sym (record-word t l))
+  record-value t l = ap (turned s (t .0)) (sym (reading-record s ws σ π τ (t .1))) ∙ sym (means-type s m (t .0, 1024 + t .1) (omega arith)) ∙ ap (means s m) (sym (record-word t l))
 
   size : length (table s h) ≡ length (chain s h)
   size = table-length s h
 
-  record-rows : (cs : List Ty) → AllIn (length (table s h)) cs → values s τ cs ≡ row s m (map (λ (c : Ty). 512 + word-of-type c % 512) cs)
+  record-rows : (cs : List Ty) → AllIn (length (table s h)) cs → values s τ cs ≡ row s m (map (λ (c : Ty). 2048 + word-of-type c % 2048) cs)
   unfolding values row
   record-rows [] a = refl
   record-rows (c ∷ cs) a = ap₂ scons (record-value c (omega (arith, a .0, size))) (record-rows cs (a .1))
@@ -177,11 +177,11 @@ module _ (s ws : Words) (h : ℕ) (short : length (chain s h) ≤ 248) (formed :
     records = record {
       few = short;
       param = λ k l e d.
-          reading-record s ws σ π τ k (omega arith)
+          reading-record s ws σ π τ k
           ∙ suits-param s π τ k (eqb (at s (at (chain s h) k + 2)) 1) _ _ _ (suits k l (omega arith)) e
-          ∙ ap (turned s (eqb (at s (at (chain s h) k + 2)) 1)) (sym (reading-param s ws σ π τ (at s (at (chain s h) k + 3))));
+          ∙ ap (turned s (eqb (at s (at (chain s h) k + 2)) 1)) (sym (reading-param s ws σ π τ (at s (at (chain s h) k + 3)) d));
       plain = λ k l z y.
-          reading-record s ws σ π τ k (omega arith)
+          reading-record s ws σ π τ k
           ∙ suits-plain s π τ k (eqb (at s (at (chain s h) k + 2)) 1) _ _ _ (suits k l z) y
           ∙ ap (made s (eqb (at s (at (chain s h) k + 2)) 1) (at s (at (chain s h) k + 1)) (at s (at (chain s h) k + 3))) (record-rows (cell-types s (at s (at (chain s h) k + 4))) (cells-in k l z));
     };
@@ -195,7 +195,7 @@ module _ (s ws : Words) (h : ℕ) (short : length (chain s h) ≤ 248) (formed :
         let y = type-of-word (at (q .args) k) in
         let u : x .1 < length (table s h) = query-in p (omega arith) (length (table s h)) k a (omega arith) in
         let v : y .1 < length (types-of ws) = query-in q few (length (types-of ws)) k b l in
-        ap (λ w. means s m (512 + w % 512)) (sym (word-type (at (p .args) k)))
+        ap (λ w. means s m (2048 + w % 2048)) (sym (word-type (at (p .args) k)))
         ∙ sym (record-value x (omega (arith, u, size)))
         ∙ ap (value s τ) (sym (query-type p (omega arith) k (omega arith)))
         ∙ values-at s τ σ ((query-of p) .1) ((query-of q) .1) e k (omega (arith, query-length p (omega arith)))
@@ -204,7 +204,7 @@ module _ (s ws : Words) (h : ℕ) (short : length (chain s h) ≤ 248) (formed :
   }
 
 -- Where the arguments clash there are no terms that they have in common.
-pub never-common : (s ws : Words) (h : ℕ) → length (chain s h) ≤ 248 → WellFormed (table s h) → WellFormed (types-of ws) → (p q : Query) → p .n ≡ q .n → q .n ≤ 4 → AllIn (length (table s h)) ((query-of p) .1) → AllIn (length (types-of ws)) ((query-of q) .1) →
+pub never-common : (s ws : Words) (h : ℕ) → length (chain s h) ≤ 1024 → WellFormed (table s h) → WellFormed (types-of ws) → (p q : Query) → p .n ≡ q .n → q .n ≤ 4 → AllIn (length (table s h)) ((query-of p) .1) → AllIn (length (types-of ws)) ((query-of q) .1) →
     Clashing s (chain s h) ws p q true → SignedCommon s (types-of ws) (table s h) ((query-of p) .1) ((query-of q) .1) → ⊥
 never-common s ws h short formed whole p q en few a b k c =
     k .clash refl (reading s ws (c .σ) (c .π) (c .τ))

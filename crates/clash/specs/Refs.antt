@@ -1,6 +1,6 @@
 -- What is read of a ref: the place of its record, its kind, its id and its side, and the type parameter that it is.
 use Prim.Native.Nat.{ℕ, _+_, _-_, _*_, _/_, _%_, _≤_, _<_}
-use mathlib.Core.Path.{_≡_, refl, sym, _∙_, ap, ap₂}
+use mathlib.Core.Path.{_≡_, refl, sym, _∙_, ap, ap₂, subst}
 use mathlib.Core.Bool.{Bool, true, false}
 use mathlib.Core.Logic.{_≢_, ⊎-elim}
 use native.Mathlib.Omega.{arith}
@@ -17,18 +17,33 @@ use Rattle.table.specs.Packing.{types-of, kind-at, id-at, inverted-at}
 use Rattle.table.specs.ChildTypes.{odd-sum}
 use Rattle.clash.specs.Meaning.{odd, means, means-turn, turn, Sort, type-sort, Records, Meaning, row, record-side, record-types}
 
--- A place that is not 0 is that of a record.
-pub place-in : (ps : Words) (k p : ℕ) → p ≡ at ps k → p ≢ 0 → k < length ps
-place-in ps k p e z = ⊎-elim (λ h. h) (λ h. absurd (z (e ∙ sym (word-past ps k h)))) (lt-or k (length ps))
+-- The place of the record of a ref; 0 where it has none.
+unfoldable pub place : Words → ℕ → ℕ
+place ps r = elim (ltb r 1024) [ true ↦ 0 | false ↦ at ps (r - 1024) ]
 
-pub place-word : (ps : Words) (r w p : ℕ) → w ≡ r - 256 → p ≡ at ps w → p ≡ at ps (r - 256)
-place-word ps r w p e q = q ∙ ap (at ps) e
+pub place-none : (ps : Words) (r : ℕ) → r < 1024 → 0 ≡ place ps r
+unfolding place
+place-none ps r h = sym (rw (lt-ltb r 1024 h, place))
+
+place-at : (ps : Words) (r : ℕ) → 1024 ≤ r → place ps r ≡ at ps (r - 1024)
+unfolding place
+place-at ps r h = rw (le-ltb r 1024 h, place)
+
+pub place-word : (ps : Words) (r w p : ℕ) → 1024 ≤ r → w ≡ r - 1024 → p ≡ at ps w → p ≡ place ps r
+place-word ps r w p h e q = q ∙ ap (at ps) e ∙ sym (place-at ps r h)
+
+-- A place that is not 0 is that of a record.
+pub place-high : (ps : Words) (r : ℕ) → place ps r ≢ 0 → 1024 ≤ r
+place-high ps r z = ⊎-elim (λ h. absurd (z (sym (place-none ps r h)))) (λ h. h) (lt-or r 1024)
+
+place-in : (ps : Words) (r : ℕ) → place ps r ≢ 0 → r - 1024 < length ps
+place-in ps r z = ⊎-elim (λ h. h) (λ h. absurd (z (place-at ps r (place-high ps r z) ∙ sym (word-past ps (r - 1024) h)))) (lt-or (r - 1024) (length ps))
 
 -- The kind of a ref; 0 where it has none, and for a Param of the signature.
 pub record KindOf (s ps ws : Words) (r k : ℕ) : Type 0 where
   pub node : r < 256 → k ≡ kind-at (types-of ws) r
-  pub inside : 256 ≤ r → k ≢ 0 → r - 256 < length ps
-  pub is : 256 ≤ r → k ≢ 0 → at s (at ps (r - 256) + 1) ≡ k
+  pub inside : 256 ≤ r → k ≢ 0 → place ps r ≢ 0
+  pub is : 256 ≤ r → k ≢ 0 → at s (place ps r + 1) ≡ k
   pub plain : 256 ≤ r → k ≢ 1
 
 pub kind-node : (s ps ws : Words) (r k : ℕ) → r < 256 → k ≡ kind-at (types-of ws) r → KindOf s ps ws r k
@@ -37,10 +52,10 @@ kind-node s ps ws r k h e = record { node = λ l. e; inside = λ l. absurd (omeg
 pub kind-none : (s ps ws : Words) (r : ℕ) → 256 ≤ r → KindOf s ps ws r 0
 kind-none s ps ws r h = record { node = λ l. absurd (omega arith); inside = λ l z. absurd (z refl); is = λ l z. absurd (z refl); plain = λ l. omega arith }
 
-pub kind-record : (s ps ws : Words) (r p k : ℕ) → 256 ≤ r → p ≡ at ps (r - 256) → p ≢ 0 → k ≡ at s (p + 1) → k ≢ 1 → KindOf s ps ws r k
-kind-record s ps ws r p k h e z q n = record {
-  node = λ l. absurd (omega arith);
-  inside = λ l y. place-in ps (r - 256) p e z;
+pub kind-record : (s ps ws : Words) (r p k : ℕ) → p ≡ place ps r → p ≢ 0 → k ≡ at s (p + 1) → k ≢ 1 → KindOf s ps ws r k
+kind-record s ps ws r p k e z q n = record {
+  node = λ l. absurd (omega (arith, place-high ps r (λ y. z (e ∙ y))));
+  inside = λ l y o. z (e ∙ o);
   is = λ l y. sym (q ∙ ap (λ j. at s (j + 1)) e);
   plain = λ l. n;
 }
@@ -48,30 +63,30 @@ kind-record s ps ws r p k h e z q n = record {
 -- The id of a ref that has a kind.
 pub record IdOf (s ps ws : Words) (r d : ℕ) : Type 0 where
   pub node : r < 256 → d ≡ id-at (types-of ws) r
-  pub is : 256 ≤ r → d ≡ at s (at ps (r - 256) + 3)
+  pub is : 256 ≤ r → d ≡ at s (place ps r + 3)
 
 pub id-node : (s ps ws : Words) (r d : ℕ) → r < 256 → d ≡ id-at (types-of ws) r → IdOf s ps ws r d
 id-node s ps ws r d h e = record { node = λ l. e; is = λ l. absurd (omega arith) }
 
-pub id-record : (s ps ws : Words) (r p d : ℕ) → 256 ≤ r → p ≡ at ps (r - 256) → d ≡ at s (p + 3) → IdOf s ps ws r d
+pub id-record : (s ps ws : Words) (r p d : ℕ) → 256 ≤ r → p ≡ place ps r → d ≡ at s (p + 3) → IdOf s ps ws r d
 id-record s ps ws r p d h e q = record { node = λ l. absurd (omega arith); is = λ l. q ∙ ap (λ j. at s (j + 3)) e }
 
 -- Its kind alone.
 pub id-any : (s ps ws : Words) (r : ℕ) → (d : ℕ) × IdOf s ps ws r d
 id-any s ps ws r = ⊎-elim
     (λ h. (id-at (types-of ws) r, record { node = λ l. refl; is = λ l. absurd (omega arith) }))
-    (λ h. (at s (at ps (r - 256) + 3), record { node = λ l. absurd (omega arith); is = λ l. refl }))
+    (λ h. (at s (place ps r + 3), record { node = λ l. absurd (omega arith); is = λ l. refl }))
     (lt-or r 256)
 
 -- The side of what a ref is.
 unfoldable pub side-of : Words → Words → Words → ℕ → Bool
-side-of s ps ws r = elim (ltb r 256) [ true ↦ inverted-at (types-of ws) r | false ↦ record-side s (at ps (r - 256)) ]
+side-of s ps ws r = elim (ltb r 256) [ true ↦ inverted-at (types-of ws) r | false ↦ record-side s (place ps r) ]
 
 pub side-node : (s ps ws : Words) (r : ℕ) → r < 256 → side-of s ps ws r ≡ inverted-at (types-of ws) r
 unfolding side-of
 side-node s ps ws r h = rw (lt-ltb r 256 h, side-of)
 
-pub side-record : (s ps ws : Words) (r : ℕ) → 256 ≤ r → side-of s ps ws r ≡ record-side s (at ps (r - 256))
+pub side-record : (s ps ws : Words) (r : ℕ) → 256 ≤ r → side-of s ps ws r ≡ record-side s (place ps r)
 unfolding side-of
 side-record s ps ws r h = rw (le-ltb r 256 h, side-of)
 
@@ -100,7 +115,7 @@ node-inverted s ps ws r b h e q = bit-yes (side-of s ps ws r) (side-node s ps ws
 pub node-upright : (s ps ws : Words) (r : ℕ) (b : Bool) → r < 256 → b ≡ inverted-at (types-of ws) r → b ≡ false → Bit (side-of s ps ws r) 0
 node-upright s ps ws r b h e q = bit-no (side-of s ps ws r) (side-node s ps ws r h ∙ sym e ∙ q)
 
-pub side-place : (s ps ws : Words) (r p b : ℕ) → 256 ≤ r → p ≡ at ps (r - 256) → Bit (record-side s p) b → Bit (side-of s ps ws r) b
+pub side-place : (s ps ws : Words) (r p b : ℕ) → 256 ≤ r → p ≡ place ps r → Bit (record-side s p) b → Bit (side-of s ps ws r) b
 side-place s ps ws r p b h e o = record { small = o .small; is = o .is ∙ ap (record-side s) e ∙ sym (side-record s ps ws r h) }
 
 -- The side of what a type is.
@@ -115,8 +130,11 @@ pub bit-sum : (a b : Bool) (x y : ℕ) → Bit a x → Bit b y → Bit (xor a b)
 unfolding odd
 bit-sum a b x y p q = record { small = omega arith; is = ap (λ k. eqb k 1) (let z : (x + y) % 2 % 2 ≡ (x + y) % 2 = omega arith in z) ∙ sym (odd-sum x y) ∙ ap₂ xor (p .is) (q .is) }
 
+pub bit-odd : (t : ℕ) → Bit (odd t) (t % 2)
+bit-odd t = record { small = omega arith; is = odd-rest t }
+
 pub bit-type : (s ps ws : Words) (t b : ℕ) → Bit (side-of s ps ws (t / 2)) b → Bit (type-side s ps ws t) ((t % 2 + b) % 2)
-bit-type s ps ws t b o = bit-sum (odd t) (side-of s ps ws (t / 2)) (t % 2) b (record { small = omega arith; is = odd-rest t }) o
+bit-type s ps ws t b o = bit-sum (odd t) (side-of s ps ws (t / 2)) (t % 2) b (bit-odd t) o
 
 pub bits-apart : (a b : Bool) (r : ℕ) → Bit (xor a b) r → r ≡ 1 → a ≡ b → ⊥
 unfolding odd
@@ -140,27 +158,48 @@ pub sided-flag : (s : Words) (k d i j : ℕ) (b : Bool) → i ≡ k → j ≡ d 
 sided-flag s k d i j b ei ej e q = record { is = λ z. sym (sym q ∙ e ∙ ap₂ (kind-flag s 2) ei ej) }
 
 -- What has a kind is of that kind, and of its id and side.
-pub ref-low : (m : SignedSol) (r : ℕ) → r < 512 → m (r % 512) ≡ m r
-ref-low m r h = ap m (let z : r % 512 ≡ r = omega arith in z)
+pub ref-low : (m : SignedSol) (r : ℕ) → r < 2048 → m (r % 2048) ≡ m r
+ref-low m r h = ap m (let z : r % 2048 ≡ r = omega arith in z)
 
-pub ref-record : (ps : Words) (m : SignedSol) (r : ℕ) → length ps ≤ 248 → 256 ≤ r → r - 256 < length ps → m (r % 512) ≡ m (256 + (r - 256))
-ref-record ps m r l h i = ap m (let z : r % 512 ≡ 256 + (r - 256) = omega arith in z)
+module _ (s ps : Words) (m : SignedSol) (w : Records s ps m) (r : ℕ) (z : place ps r ≢ 0) where
+  high : 1024 ≤ r
+  high = place-high ps r z
 
-sort-of : (s ps ws : Words) (m : SignedSol) (r k d : ℕ) → Meaning s ps ws m → KindOf s ps ws r k → IdOf s ps ws r d → k ≢ 0 → Sort s (m (r % 512)) (side-of s ps ws r) k d
+  is-at : place ps r ≡ at ps (r - 1024)
+  is-at = place-at ps r high
+
+  inside : r - 1024 < length ps
+  inside = place-in ps r z
+
+  ref-record : m (r % 2048) ≡ m (1024 + (r - 1024))
+  ref-record = ap m (let e : r % 2048 ≡ 1024 + (r - 1024) = omega (arith, high, inside, w .few) in e)
+
+  pub record-plain : at s (place ps r + 1) ≢ 0 → at s (place ps r + 1) ≢ 1 → m (r % 2048) ≡ made s (record-side s (place ps r)) (at s (place ps r + 1)) (at s (place ps r + 3)) (row s m (record-types s (at s (place ps r + 4))))
+  record-plain y n =
+      ref-record
+      ∙ w .plain (r - 1024) inside (λ q. y (ap (λ p. at s (p + 1)) is-at ∙ q)) (λ q. n (ap (λ p. at s (p + 1)) is-at ∙ q))
+      ∙ ap (λ p. made s (record-side s p) (at s (p + 1)) (at s (p + 3)) (row s m (record-types s (at s (p + 4))))) (sym is-at)
+
+  record-param : at s (place ps r + 1) ≡ 1 → at s (place ps r + 3) < 8 → m (r % 2048) ≡ turned s (record-side s (place ps r)) (m (256 + at s (place ps r + 3)))
+  record-param y n =
+      ref-record
+      ∙ w .param (r - 1024) inside (sym (ap (λ p. at s (p + 1)) is-at) ∙ y) (subst (λ p. at s (p + 3) < 8) is-at n)
+      ∙ ap (λ p. turned s (record-side s p) (m (256 + at s (p + 3)))) (sym is-at)
+
+sort-of : (s ps ws : Words) (m : SignedSol) (r k d : ℕ) → Meaning s ps ws m → KindOf s ps ws r k → IdOf s ps ws r d → k ≢ 0 → Sort s (m (r % 2048)) (side-of s ps ws r) k d
 sort-of s ps ws m r k d w e q z = ⊎-elim low high (lt-or r 256)
   where
-    low : r < 256 → Sort s (m (r % 512)) (side-of s ps ws r) k d
+    low : r < 256 → Sort s (m (r % 2048)) (side-of s ps ws r) k d
     low h =
         let o = w .nodes .known r h (λ y. z (e .node h ∙ y)) in
         record { over = o .over; is = ref-low m r (omega arith) ∙ o .is ∙ (λ t. made s (sym (side-node s ps ws r h) t) (sym (e .node h) t) (sym (q .node h) t) (o .over)) }
 
-    high : 256 ≤ r → Sort s (m (r % 512)) (side-of s ps ws r) k d
+    high : 256 ≤ r → Sort s (m (r % 2048)) (side-of s ps ws r) k d
     high h = record {
-      over = row s m (record-types s (at s (at ps (r - 256) + 4)));
+      over = row s m (record-types s (at s (place ps r + 4)));
       is =
-          ref-record ps m r (w .records .few) h (e .inside h z)
-          ∙ w .records .plain (r - 256) (e .inside h z) (λ y. z (sym (e .is h z) ∙ y)) (λ y. e .plain h (sym (e .is h z) ∙ y))
-          ∙ (λ t. made s (sym (side-record s ps ws r h) t) (e .is h z t) (sym (q .is h) t) (row s m (record-types s (at s (at ps (r - 256) + 4)))));
+          record-plain s ps m (w .records) r (e .inside h z) (λ y. z (sym (e .is h z) ∙ y)) (λ y. e .plain h (sym (e .is h z) ∙ y))
+          ∙ (λ t. made s (sym (side-record s ps ws r h) t) (e .is h z t) (sym (q .is h) t) (row s m (record-types s (at s (place ps r + 4)))));
     }
 
 pub sort-type : (s ps ws : Words) (m : SignedSol) (t k d : ℕ) → Meaning s ps ws m → KindOf s ps ws (t / 2) k → IdOf s ps ws (t / 2) d → k ≢ 0 → Sort s (means s m t) (type-side s ps ws t) k d
@@ -170,35 +209,28 @@ sort-type s ps ws m t k d w e q z = let o = sort-of s ps ws m (t / 2) k d w e q 
 pub record Alike (s ps : Words) (x r : ℕ) : Type 0 where
   pub at : (m : SignedSol) → Records s ps m → means s m x ≡ means s m r
 
-pub alike-same : (s ps : Words) (x : ℕ) → Alike s ps x x
-alike-same s ps x = record { at = λ m w. refl }
-
 odd-low : (n b : ℕ) → odd b ≡ odd (2 * n + b)
 unfolding odd
 odd-low n b = ap (λ k. eqb k 1) (let z : b % 2 ≡ (2 * n + b) % 2 = omega arith in z)
 
-pub alike-param : (s ps : Words) (x p k d b r : ℕ) → 256 ≤ x / 2 → p ≡ at ps (x / 2 - 256) → p ≢ 0 → k ≡ at s (p + 1) → k ≡ 1 → d ≡ at s (p + 3) → d < 8 → Bit (record-side s p) b → r ≡ turn x (2 * (504 + d) + b) → Alike s ps x r
+pub alike-param : (s ps : Words) (x p k d b r : ℕ) → p ≡ place ps (x / 2) → p ≢ 0 → k ≡ at s (p + 1) → k ≡ 1 → d ≡ at s (p + 3) → d < 8 → Bit (record-side s p) b → r ≡ turn x (2 * (256 + d) + b) → Alike s ps x r
 unfolding means
-alike-param s ps x p k d b r h e z ek q ed l o er = record { at = λ m w. one m w }
+alike-param s ps x p k d b r e z ek q ed l o er = record { at = λ m w. one m w }
   where
-    id : at s (at ps (x / 2 - 256) + 3) ≡ d
+    id : at s (place ps (x / 2) + 3) ≡ d
     id = sym (ed ∙ ap (λ j. at s (j + 3)) e)
 
-    inside : x / 2 - 256 < length ps
-    inside = place-in ps (x / 2 - 256) p e z
-
-    param : (m : SignedSol) → turned s (record-side s p) (m (504 + d)) ≡ means s m (2 * (504 + d) + b)
+    param : (m : SignedSol) → turned s (record-side s p) (m (256 + d)) ≡ means s m (2 * (256 + d) + b)
     param m =
-        let c : (2 * (504 + d) + b) / 2 ≡ 504 + d = omega (arith, o .small) in
-        let a : 504 + d ≡ (2 * (504 + d) + b) / 2 % 512 = omega (arith, c) in
-        (λ t. turned s (sym (o .is) t) (m (a t))) ∙ ap (λ i. turned s i (m ((2 * (504 + d) + b) / 2 % 512))) (odd-low (504 + d) b)
+        let c : (2 * (256 + d) + b) / 2 ≡ 256 + d = omega (arith, o .small) in
+        let a : 256 + d ≡ (2 * (256 + d) + b) / 2 % 2048 = omega (arith, c) in
+        (λ t. turned s (sym (o .is) t) (m (a t))) ∙ ap (λ i. turned s i (m ((2 * (256 + d) + b) / 2 % 2048))) (odd-low (256 + d) b)
 
     one : (m : SignedSol) → Records s ps m → means s m x ≡ means s m r
     one m w =
         ap (turned s (odd x))
-        (ref-record ps m (x / 2) (w .few) h inside
-        ∙ w .param (x / 2 - 256) inside (sym (ek ∙ ap (λ j. at s (j + 1)) e) ∙ q) (omega (arith, id))
-        ∙ (λ t. turned s (record-side s (sym e t)) (m (504 + id t)))
+        (record-param s ps m w (x / 2) (λ y. z (e ∙ y)) (sym (ek ∙ ap (λ j. at s (j + 1)) e) ∙ q) (omega (arith, id))
+        ∙ (λ t. turned s (record-side s (sym e t)) (m (256 + id t)))
         ∙ param m)
-        ∙ sym (means-turn s m x (2 * (504 + d) + b))
+        ∙ sym (means-turn s m x (2 * (256 + d) + b))
         ∙ ap (means s m) (sym er)

@@ -15,10 +15,8 @@ use Rattle.rules.specs.Types.{Ty, Types, ImplType, success}
 use Rattle.rules.specs.Transfer.{cell-types, table}
 use Rattle.rules.specs.Search.{impl-signature}
 use Rattle.rules.specs.Solutions.{AllIn, WellFormed}
-use Rattle.rules.specs.CheckedTables.{table-length}
 use Rattle.rules.specs.Neat.{Neat}
 use Rattle.rules.specs.SearchKeeps.{signed, met}
-use Rattle.rules.specs.CommonTerms.{signed-most, fresh-most}
 use Rattle.rules.specs.SignedTerms.{SignedCommon, candidate-signed}
 use Rattle.table.specs.Packing.{types-of}
 use Rattle.chart.specs.Fields.{field-found}
@@ -26,6 +24,7 @@ use Rattle.chart.specs.Index.{Indexed}
 use Rattle.queries.specs.declared.Query.{Query}
 use Rattle.queries.specs.Queries.{query-of}
 use Rattle.queries.specs.Sizes.{impl-few}
+use Rattle.queries.specs.Takes.{SignatureTakes}
 use Rattle.opening.specs.Sound.{Sound, finder}
 use Rattle.opening.specs.Signing.{signature-few, table-neat, signature-inside}
 use Rattle.clash.specs.Pairs.{Clashing}
@@ -56,15 +55,15 @@ against-args s ps ws q p tr args v a r et ea ev eq en k = record { signature = �
 pub args-read : (s : Words) (p args v : ℕ) → length (cell-types s (at s (p + 5))) ≤ 4 → args ≡ at s (p + 5) → v ≡ args → length (cell-types s v) ≤ 4
 args-read s p args v h ea ev = subst (λ k. length (cell-types s k) ≤ 4) (sym (ev ∙ ea)) h
 
--- true: a table of n nodes and eight unknowns more are no more than the most.
+-- true: n nodes more are no more than the most.
 pub record Room (ts : Types) (n : ℕ) (r : Bool) : Type 0 where
-  pub room : r ≡ true → length ts + n ≤ 248
+  pub room : r ≡ true → length ts + n ≤ limit·nodes
 
 pub room-none : (ts : Types) (n : ℕ) → Room ts n false
 room-none ts n = record { room = λ e. absurd (never e) }
 
-pub room-count : (ts : Types) (n c w : ℕ) → n ≤ 248 → c ≡ length ts → w ≡ c → Room ts n (leb w (248 - n))
-room-count ts n c w h ec ew = record { room = λ e. omega (arith, leb→le w (248 - n) (subst T (sym e) tt)) }
+pub room-count : (ts : Types) (n c w : ℕ) → n ≤ 256 → c ≡ length ts → w ≡ c → Room ts n (leb w (256 - n))
+room-count ts n c w h ec ew = record { room = λ e. omega (arith, leb→le w (256 - n) (subst T (sym e) tt)) }
 
 -- The record of impl i is at p.
 pub record ImplAt (s : Words) (i p : ℕ) : Type 0 where
@@ -98,16 +97,15 @@ module _ (s : Words) (sound : Sound s) (i : ℕ) (h : i < many s header·impls) 
         places : take n us ≡ chain s head
         places = places-are s head few ws l us n x long
 
-        module _ (ts : Words) (q : Query) (neat : Neat (types-of ts)) (inside : AllIn (length (types-of ts)) ((query-of q) .1)) (most : q .n ≤ 4) (small : length (types-of ts) + n ≤ 248) where
-          short : length (chain s head) ≤ 248
-          short = omega (arith, x .count)
+        module _ (ts : Words) (q : Query) (neat : Neat (types-of ts)) (inside : AllIn (length (types-of ts)) ((query-of q) .1)) (most : q .n ≤ 4) (t : ℕ) (takes : SignatureTakes s i t) (small : length (types-of ts) + t ≤ limit·nodes) where
+          short : length (chain s head) ≤ 1024
+          short = omega (arith, few, sound .short)
 
           formed : WellFormed (table s head)
           formed = table-neat s sound i h head found .proper .formed
 
           room : length ((signed s (types-of ts) i) .1) ≤ limit·nodes
-          unfolding impl-signature impl-table
-          room = omega (arith, signed-most (finder s sound) (sound .question) (sound .ready) (types-of ts) i h, fresh-most (finder s sound) (sound .question) (sound .ready) i h, table-length s head, x .count, ap (λ j. length (table s j)) found)
+          room = omega (arith, takes .most (types-of ts))
 
           common : (a : Query) → query-of a ≡ (at s (p + 3), cell-types s (at s (p + 5))) → (met s (types-of ts) (query-of q) i) .0 ≡ success → SignedCommon s (types-of ts) (table s head) ((query-of a) .1) ((query-of q) .1)
           unfolding impl-signature impl-table impl-args

@@ -56,11 +56,11 @@ module _ (s : Words) where
 
 -- The size of what a ref means. What is known of it: refs of types that mean the same are of one size,
 unfoldable pub size : SignedSol → ℕ → ℕ
-size m r = signed-size (m (r % 512))
+size m r = signed-size (m (r % 2048))
 
 means-size : (s : Words) (m : SignedSol) (t : ℕ) → signed-size (means s m t) ≡ size m (t / 2)
 unfolding size means
-means-size s m t = turned-size s (odd t) (m (t / 2 % 512))
+means-size s m t = turned-size s (odd t) (m (t / 2 % 2048))
 
 pub size-same : (s : Words) (m : SignedSol) (a b : ℕ) → means s m a ≡ means s m b → size m (a / 2) ≡ size m (b / 2)
 size-same s m a b e = sym (means-size s m a) ∙ ap signed-size e ∙ means-size s m b
@@ -84,7 +84,7 @@ child-smaller s ps ws m r o g z w j h =
       ap (λ t. size m (t / 2)) (getD-take (o .n) (o .types) j 0 h),
     )
 
--- Refs are read modulo 512.
-pub size-mod : (m : SignedSol) (a b : ℕ) → a % 512 ≡ b % 512 → size m a ≡ size m b
+-- Refs are read modulo 2048.
+pub size-mod : (m : SignedSol) (a b : ℕ) → a % 2048 ≡ b % 2048 → size m a ≡ size m b
 unfolding size
 size-mod m a b e = ap (λ k. signed-size (m k)) e

@@ -1,11 +1,11 @@
 // Whether a class of types would contain itself, by its links: a type is larger than its children, so that nothing is such a type. Where none is found nothing is said.
 // A walk from each unknown and type parameter that is linked goes down by classes; `marks` has for each ref 0, 1 on the way down to where the walk is, and 2 once it is done.
 ghost use mathlib.Core.Path.{_≡_};
-ghost use Prim.Native.Nat.{_*_, _%_, _<_, _≤_};
+ghost use Prim.Native.Nat.{_+_, _*_, _%_, _<_, _≤_};
 ghost use lib.ListN.{set};
 ghost use Rattle.rules.specs.Sheet.{at};
 ghost use Rattle.table.specs.Packing.{Packed};
-ghost use Rattle.clash.specs.Cycles.{Roots, Within, Among, Cyclic};
+ghost use Rattle.clash.specs.Cycles.{Roots, Within, Among, Cycling, Cyclic};
 use crate::UNTOLD;
 use crate::children;
 use crate::find;
@@ -18,21 +18,21 @@ const OPEN: u32 = 1;
 const DONE: u32 = 2;
 
 // The mark of a ref.
-fn mark_of(marks: &[u32; 512], r: u32) -> u32
-    ensures { λ k. ⌜ k ≡ at (now (marks .entry)) (r % 512) ⌝ }
+fn mark_of(marks: &[u32; 2048], r: u32) -> u32
+    ensures { λ k. ⌜ k ≡ at (now (marks .entry)) (r % 2048) ⌝ }
 {
-    marks[words::wide(r % 512)]
+    marks[words::wide(r % 2048)]
 }
 
 // Marks a ref.
-fn mark(marks: &mut [u32; 512], r: u32, k: u32)
-    ensures { λ _. ⌜ now (marks .exit) ≡ set (now (marks .entry)) (r % 512) k ⌝ }
+fn mark(marks: &mut [u32; 2048], r: u32, k: u32)
+    ensures { λ _. ⌜ now (marks .exit) ≡ set (now (marks .entry)) (r % 2048) k ⌝ }
 {
-    marks[words::wide(r % 512)] = k;
+    marks[words::wide(r % 2048)] = k;
 }
 
 // The type of a root that a type is; of a Param of the signature, that its type parameter is.
-fn root(sheet: &[u32], places: &[u32], links: &[u32; 512], t: u32) -> u32
+fn root(sheet: &[u32], places: &[u32], links: &[u32; 2048], t: u32) -> u32
     ensures { λ x. ⌜ Roots (now (sheet .entry)) (now (places .entry)) (now (links .entry)) t x ⌝ }
 {
     let y = find(links, t);
@@ -48,8 +48,8 @@ fn within(
     sheet: &[u32],
     places: &[u32],
     ws: &[u32],
-    links: &[u32; 512],
-    marks: &mut [u32; 512],
+    links: &[u32; 2048],
+    marks: &mut [u32; 2048],
     t: u32,
     left: usize,
 ) -> bool
@@ -84,8 +84,8 @@ fn among(
     sheet: &[u32],
     places: &[u32],
     ws: &[u32],
-    links: &[u32; 512],
-    marks: &mut [u32; 512],
+    links: &[u32; 2048],
+    marks: &mut [u32; 2048],
     row: Row,
     left: usize,
 ) -> bool
@@ -108,12 +108,12 @@ fn within_linked(
     sheet: &[u32],
     places: &[u32],
     ws: &[u32],
-    links: &[u32; 512],
-    marks: &mut [u32; 512],
+    links: &[u32; 2048],
+    marks: &mut [u32; 2048],
     r: u32,
 ) -> bool
     requires { ⌜ Packed (now ws) ⌝ }
-    requires { ⌜ r < 512 ⌝ }
+    requires { ⌜ r < 2048 ⌝ }
     ensures { λ b. ⌜ Within (now (sheet .entry)) (now (places .entry)) (now (ws .entry)) (now (links .entry)) (now (marks .entry)) (2 * r) (now (marks .exit)) b ⌝ }
 {
     if kind(sheet, places, ws, r) != 0 {
@@ -122,21 +122,51 @@ fn within_linked(
     within(sheet, places, ws, links, marks, 2 * r, 512)
 }
 
-// Whether a class contains itself.
-pub fn cyclic(sheet: &[u32], places: &[u32], ws: &[u32], links: &[u32; 512]) -> bool
+// Whether a class that a ref of n from one on is of contains itself.
+fn cyclic_among(
+    sheet: &[u32],
+    places: &[u32],
+    ws: &[u32],
+    links: &[u32; 2048],
+    marks: &mut [u32; 2048],
+    from: u32,
+    n: u32,
+) -> bool
     requires { ⌜ Packed (now ws) ⌝ }
-    ensures { λ r. ⌜ Cyclic (now (sheet .entry)) (now (places .entry)) (now (ws .entry)) (now (links .entry)) r ⌝ }
+    requires { ⌜ from + n ≤ 2048 ⌝ }
+    ensures { λ r. ⌜ Cycling (now (sheet .entry)) (now (places .entry)) (now (ws .entry)) (now (links .entry)) (now (marks .entry)) (now (marks .exit)) r ⌝ }
 {
-    let mut marks = [0u32; 512];
-    let mut next: u32 = 0;
-    while next < 512 {
-        let r = next;
-        next += 1;
-        if links[words::wide(r)] != 0 {
-            if within_linked(sheet, places, ws, links, &mut marks, r) {
+    let mut k: u32 = 0;
+    while k < n {
+        let r = from + k;
+        k += 1;
+        if links[words::wide(r % 2048)] != 0 {
+            if within_linked(sheet, places, ws, links, marks, r) {
                 return true;
             }
         }
     }
     false
+}
+
+// How many records there are, or 1,024.
+fn records(places: &[u32]) -> u32
+    ensures { λ n. ⌜ n ≤ 1024 ⌝ }
+{
+    if places.len() > 1024 {
+        return 1024;
+    }
+    places.len() as u32
+}
+
+// Whether a class contains itself.
+pub fn cyclic(sheet: &[u32], places: &[u32], ws: &[u32], links: &[u32; 2048]) -> bool
+    requires { ⌜ Packed (now ws) ⌝ }
+    ensures { λ r. ⌜ Cyclic (now (sheet .entry)) (now (places .entry)) (now (ws .entry)) (now (links .entry)) r ⌝ }
+{
+    let mut marks = [0u32; 2048];
+    if cyclic_among(sheet, places, ws, links, &mut marks, 0, 264) {
+        return true;
+    }
+    cyclic_among(sheet, places, ws, links, &mut marks, 1024, records(places))
 }

@@ -1,7 +1,7 @@
 // Whether a candidate's signature, or an impl parameter of the caller's generics, and the question cannot unify: a test made before it is opened.
 // It goes by classes of types that have to be the same, and finds a clash: two types of one class that differ in kind, id or number of children, or in side where the kind is not its own inverse,
 // so that a type is met inverted that may not be; or a class that would contain itself, which is the occurs check (`cycles`). Where it finds none nothing is said.
-// A type is twice a ref, and one more if it is inverted. Refs are read modulo 512: up to 255 roots of the question's table, from 256 on nodes of the signature's table by their records, from 504 on type parameters.
+// A type is twice a ref, and one more if it is inverted. Refs are read modulo 2,048: up to 255 roots of the question's table, from 256 on type parameters, from 1,024 on nodes of the signature's table by their records.
 // `links` has for each ref 0, or 1 and the type that the ref is, of the same class; `queue` has pairs of types that are the same and whose children are to be met.
 ghost use mathlib.Core.Path.{_≡_};
 ghost use Prim.Native.Nat.{_+_, _-_, _*_, _/_, _%_, _<_, _≤_};
@@ -13,15 +13,17 @@ ghost use Rattle.rules.specs.Search.{impl-params};
 ghost use Rattle.rules.specs.Transfer.{cell-types};
 ghost use Rattle.rules.specs.Solutions.{AllIn};
 ghost use Rattle.rules.specs.Neat.{Neat};
-ghost use Rattle.table.specs.Packing.{types-of, Packed};
+ghost use Rattle.table.specs.Packing.{types-of, kind-at, Packed};
 ghost use Rattle.queries.specs.Queries.{query-of};
+ghost use Rattle.queries.specs.Takes.{SignatureTakes, ParamTakes};
 ghost use Rattle.opening.specs.Sound.{Sound};
-ghost use Rattle.clash.specs.Refs.{KindOf, IdOf, side-of, type-side, Bit, Sided, Alike};
+ghost use Rattle.clash.specs.Refs.{place, KindOf, IdOf, side-of, type-side, Bit, Sided, Alike};
 ghost use Rattle.clash.specs.Meaning.{turn as turn-of, record-side};
 ghost use Rattle.clash.specs.Links.{Finds, Links, Settles};
 ghost use Rattle.clash.specs.Meeting.{Puts, Meets, apart as apart-of};
 ghost use Rattle.clash.specs.Children.{Cells, Gathers};
 ghost use Rattle.clash.specs.Pairs.{Goes, Ends, ArgsMet, RootClash, Clashing};
+ghost use Rattle.clash.specs.Across.{sides-across, RecordMet, CellsMet};
 ghost use Rattle.clash.specs.Signatures.{Against, Room, ImplAt, Clashes};
 ghost use Rattle.clash.specs.Params.{Calling, ParamClashes};
 use chart::kinds;
@@ -31,11 +33,13 @@ use table::Row;
 
 mod cycles;
 
-const RECORDS: u32 = 256;
+const NODES: u32 = 256;
 
-const PARAMS: u32 = 504;
+const PARAMS: u32 = 256;
 
-const REFS: usize = 512;
+const RECORDS: u32 = 1024;
+
+const QUEUE: usize = 256;
 
 // What a clash is told by, in place of the queue's end.
 const CLASH: usize = 1000;
@@ -51,17 +55,22 @@ const SMALL_SHEET: usize = 320;
 
 const SMALL_TABLE: u32 = 64;
 
+// How far down its chain the self-dual mark of a struct or union is looked for.
+const NEAR: u32 = 256;
+
 // A row that is not told.
 const UNTOLD: usize = 9;
 
-// The most nodes that a table has, but for eight.
-const ROOM: usize = 248;
+// The most nodes that a table has.
+const ROOM: usize = 256;
 
 // The place of the record of a ref; 0 where there is none.
 fn place_of(places: &[u32], r: u32) -> usize
-    requires { ⌜ 256 ≤ r ⌝ }
-    ensures { λ p. ⌜ p ≡ at (now (places .entry)) (r - 256) ⌝ }
+    ensures { λ p. ⌜ p ≡ place (now (places .entry)) r ⌝ }
 {
+    if r < RECORDS {
+        return 0;
+    }
     words::next(places, words::wide(r - RECORDS))
 }
 
@@ -69,7 +78,7 @@ fn place_of(places: &[u32], r: u32) -> usize
 fn kind(sheet: &[u32], places: &[u32], ws: &[u32], r: u32) -> u32
     ensures { λ k. ⌜ KindOf (now (sheet .entry)) (now (places .entry)) (now (ws .entry)) r k ⌝ }
 {
-    if r < RECORDS {
+    if r < NODES {
         return table::kind_of(ws, r);
     }
     let p = place_of(places, r);
@@ -87,7 +96,7 @@ fn kind(sheet: &[u32], places: &[u32], ws: &[u32], r: u32) -> u32
 fn id(sheet: &[u32], places: &[u32], ws: &[u32], r: u32) -> u32
     ensures { λ d. ⌜ IdOf (now (sheet .entry)) (now (places .entry)) (now (ws .entry)) r d ⌝ }
 {
-    if r < RECORDS {
+    if r < NODES {
         return table::id_of(ws, r);
     }
     let p = place_of(places, r);
@@ -109,7 +118,7 @@ fn record_inverted(sheet: &[u32], p: usize) -> u32
 fn inverted(sheet: &[u32], places: &[u32], ws: &[u32], r: u32) -> u32
     ensures { λ b. ⌜ Bit (side-of (now (sheet .entry)) (now (places .entry)) (now (ws .entry)) r) b ⌝ }
 {
-    if r < RECORDS {
+    if r < NODES {
         if table::inverted_of(ws, r) {
             return 1;
         }
@@ -168,9 +177,9 @@ fn parameter(sheet: &[u32], places: &[u32], x: u32) -> u32
 
 // A type of the signature.
 fn own_type(t: u32) -> u32
-    ensures { λ r. ⌜ r ≡ 512 + t % 512 ⌝ }
+    ensures { λ r. ⌜ r ≡ 2048 + t % 2048 ⌝ }
 {
-    2 * RECORDS + t % 512
+    2 * RECORDS + t % 2048
 }
 
 // A row that is not told.
@@ -213,7 +222,7 @@ fn children(sheet: &[u32], places: &[u32], ws: &[u32], r: u32) -> Row
     if kind(sheet, places, ws, r) == 0 {
         return untold();
     }
-    if r < RECORDS {
+    if r < NODES {
         return table::child_types(ws, r);
     }
     let p = place_of(places, r);
@@ -222,13 +231,13 @@ fn children(sheet: &[u32], places: &[u32], ws: &[u32], r: u32) -> Row
 }
 
 // The last of at most 16 links from a type.
-fn find_far(links: &[u32; 512], t: u32) -> u32
+fn find_far(links: &[u32; 2048], t: u32) -> u32
     ensures { λ x. ⌜ Finds (now (links .entry)) t x ⌝ }
 {
     let mut x = t;
     let mut left: usize = 16;
     while left > 0 {
-        let up = links[words::wide(x / 2 % 512)];
+        let up = links[words::wide(x / 2 % 2048)];
         if up == 0 {
             return x;
         }
@@ -239,10 +248,10 @@ fn find_far(links: &[u32; 512], t: u32) -> u32
 }
 
 // The type of a root that a type is, or of a ref near it.
-fn find(links: &[u32; 512], t: u32) -> u32
+fn find(links: &[u32; 2048], t: u32) -> u32
     ensures { λ x. ⌜ Finds (now (links .entry)) t x ⌝ }
 {
-    let up = links[words::wide(t / 2 % 512)];
+    let up = links[words::wide(t / 2 % 2048)];
     if up == 0 {
         return t;
     }
@@ -250,15 +259,15 @@ fn find(links: &[u32; 512], t: u32) -> u32
 }
 
 // Links the ref of x, so that x is y.
-fn link(links: &mut [u32; 512], x: u32, y: u32)
+fn link(links: &mut [u32; 2048], x: u32, y: u32)
     ensures { λ _. ⌜ Links (now (links .entry)) x y (now (links .exit)) ⌝ }
 {
     let v = turn(x % 2, y);
-    links[words::wide(x / 2 % 512)] = v % 1024 + 1;
+    links[words::wide(x / 2 % 2048)] = v % 4096 + 1;
 }
 
 // The same, unless it is the ref of y.
-fn link_apart(links: &mut [u32; 512], x: u32, y: u32)
+fn link_apart(links: &mut [u32; 2048], x: u32, y: u32)
     ensures { λ _. ⌜ Links (now (links .entry)) x y (now (links .exit)) ⌝ }
 {
     if x / 2 != y / 2 {
@@ -267,7 +276,7 @@ fn link_apart(links: &mut [u32; 512], x: u32, y: u32)
 }
 
 // A root: a Param of the signature is linked to its type parameter, and the root of that is found.
-fn settle(sheet: &[u32], places: &[u32], links: &mut [u32; 512], x: u32) -> u32
+fn settle(sheet: &[u32], places: &[u32], links: &mut [u32; 2048], x: u32) -> u32
     ensures { λ r. ⌜ Settles (now (sheet .entry)) (now (places .entry)) (now (links .entry)) x (now (links .exit)) r ⌝ }
 {
     let p = parameter(sheet, places, x);
@@ -279,14 +288,14 @@ fn settle(sheet: &[u32], places: &[u32], links: &mut [u32; 512], x: u32) -> u32
 }
 
 // Links x to y, and queues the pair; nothing where the queue is full.
-fn put(links: &mut [u32; 512], queue: &mut [u32; 512], end: usize, x: u32, y: u32) -> usize
+fn put(links: &mut [u32; 2048], queue: &mut [u32; 256], end: usize, x: u32, y: u32) -> usize
     ensures { λ r. ⌜ Puts (now (links .entry)) (now (queue .entry)) end x y (now (links .exit)) (now (queue .exit)) r ⌝ }
 {
-    if end >= REFS {
+    if end >= QUEUE {
         return end;
     }
     link(links, x, y);
-    queue[end] = x % 1024 + 1024 * (y % 1024);
+    queue[end] = x % 4096 + 4096 * (y % 4096);
     end + 1
 }
 
@@ -311,13 +320,31 @@ fn sided(sheet: &[u32], k: u32, d: u32) -> bool
     true
 }
 
+// Whether a kind and id is surely not its own inverse; of Structs and Unions, nothing is said where the self-dual mark would have to be looked for far down their chain.
+fn sided_near(sheet: &[u32], k: u32, d: u32) -> bool
+    ensures { λ r. ⌜ Sided (now (sheet .entry)) k d r ⌝ }
+{
+    if d >= NEAR {
+        return sided(sheet, k, d);
+    }
+    if kinds::kind_flag(
+        sheet,
+        layout::ROW_OWN_INVERSE,
+        words::wide(k),
+        words::wide(d),
+    ) {
+        return false;
+    }
+    true
+}
+
 // Meets two types of kind k.
 fn meet_known(
     sheet: &[u32],
     places: &[u32],
     ws: &[u32],
-    links: &mut [u32; 512],
-    queue: &mut [u32; 512],
+    links: &mut [u32; 2048],
+    queue: &mut [u32; 256],
     end: usize,
     x: u32,
     y: u32,
@@ -348,8 +375,8 @@ fn meet_roots(
     sheet: &[u32],
     places: &[u32],
     ws: &[u32],
-    links: &mut [u32; 512],
-    queue: &mut [u32; 512],
+    links: &mut [u32; 2048],
+    queue: &mut [u32; 256],
     end: usize,
     x: u32,
     y: u32,
@@ -377,8 +404,8 @@ fn meet_found(
     sheet: &[u32],
     places: &[u32],
     ws: &[u32],
-    links: &mut [u32; 512],
-    queue: &mut [u32; 512],
+    links: &mut [u32; 2048],
+    queue: &mut [u32; 256],
     end: usize,
     a: u32,
     b: u32,
@@ -398,8 +425,8 @@ fn meet(
     sheet: &[u32],
     places: &[u32],
     ws: &[u32],
-    links: &mut [u32; 512],
-    queue: &mut [u32; 512],
+    links: &mut [u32; 2048],
+    queue: &mut [u32; 256],
     end: usize,
     a: u32,
     b: u32,
@@ -419,8 +446,8 @@ fn meet_all(
     sheet: &[u32],
     places: &[u32],
     ws: &[u32],
-    links: &mut [u32; 512],
-    queue: &mut [u32; 512],
+    links: &mut [u32; 2048],
+    queue: &mut [u32; 256],
     end: usize,
     xs: Row,
     ys: Row,
@@ -435,7 +462,7 @@ fn meet_all(
         let x = xs.types[j];
         let y = turn(b, ys.types[j]);
         j += 1;
-        if links[words::wide(x / 2 % 512)] != turn(x % 2, y) % 1024 + 1 {
+        if links[words::wide(x / 2 % 2048)] != turn(x % 2, y) % 4096 + 1 {
             e = meet(sheet, places, ws, links, queue, e, x, y);
             if e == CLASH {
                 return e;
@@ -445,13 +472,188 @@ fn meet_all(
     e
 }
 
-// Meets the children of two types.
-fn meet_children(
+// Whether a type of the signature, whose record is at p, and a type of the question differ in side: 1 or 0.
+fn across(sheet: &[u32], p: usize, ws: &[u32], x: u32, y: u32) -> u32
+    ensures { λ b. ⌜ Bit (sides-across (now (sheet .entry)) p (now (ws .entry)) x y) b ⌝ }
+{
+    let a = record_inverted(sheet, p);
+    if table::inverted_of(ws, y / 2) {
+        return (x % 2 + y % 2 + a + 1) % 2;
+    }
+    (x % 2 + y % 2 + a) % 2
+}
+
+// Meets a type of the signature that has kind k, and whose record is at p, with a type of the question of a root.
+fn meet_record(
+    sheet: &[u32],
+    ws: &[u32],
+    links: &mut [u32; 2048],
+    queue: &mut [u32; 256],
+    end: usize,
+    x: u32,
+    y: u32,
+    p: usize,
+    k: u32,
+) -> usize
+    requires { ⌜ p ≢ 0 ⌝ }
+    requires { ⌜ k ≡ at (now sheet) (p + 1) ⌝ }
+    requires { ⌜ 1 < k ⌝ }
+    requires { ⌜ kind-at (types-of (now ws)) (y / 2) ≢ 0 ⌝ }
+    ensures { λ r. ⌜ RecordMet (now (sheet .entry)) (now (ws .entry)) (now (links .entry)) (now (queue .entry)) end x y p (now (links .exit)) (now (queue .exit)) r ⌝ }
+{
+    if table::kind_of(ws, y / 2) != k {
+        return CLASH;
+    }
+    let d = words::offset(sheet, p, layout::NODE_ID);
+    if d != table::id_of(ws, y / 2) {
+        return CLASH;
+    }
+    if across(sheet, p, ws, x, y) == 1 {
+        if sided(sheet, k, d) {
+            return CLASH;
+        }
+    }
+    put(links, queue, end, x, y)
+}
+
+// Meets a type of the signature whose ref has no link with a type of the question of a root.
+fn meet_new(
     sheet: &[u32],
     places: &[u32],
     ws: &[u32],
-    links: &mut [u32; 512],
-    queue: &mut [u32; 512],
+    links: &mut [u32; 2048],
+    queue: &mut [u32; 256],
+    end: usize,
+    x: u32,
+    y: u32,
+) -> usize
+    ensures { λ r. ⌜ Meets (now (sheet .entry)) (now (places .entry)) (now (ws .entry)) (now (links .entry)) (now (queue .entry)) end x y (now (links .exit)) (now (queue .exit)) r ⌝ }
+{
+    let p = place_of(places, x / 2);
+    let k = words::offset(sheet, p, layout::NODE_KIND);
+    if k > PARAM {
+        if p != 0 {
+            if table::kind_of(ws, y / 2) != 0 {
+                return meet_record(sheet, ws, links, queue, end, x, y, p, k);
+            }
+        }
+    }
+    meet(sheet, places, ws, links, queue, end, x, y)
+}
+
+// Meets a type of the signature with a type of the question of a root. Most are linked to each other already.
+fn meet_cell(
+    sheet: &[u32],
+    places: &[u32],
+    ws: &[u32],
+    links: &mut [u32; 2048],
+    queue: &mut [u32; 256],
+    end: usize,
+    x: u32,
+    y: u32,
+) -> usize
+    ensures { λ r. ⌜ Meets (now (sheet .entry)) (now (places .entry)) (now (ws .entry)) (now (links .entry)) (now (queue .entry)) end x y (now (links .exit)) (now (queue .exit)) r ⌝ }
+{
+    let up = links[words::wide(x / 2 % 2048)];
+    if up == turn(x % 2, y) % 4096 + 1 {
+        return end;
+    }
+    if up == 0 {
+        return meet_new(sheet, places, ws, links, queue, end, x, y);
+    }
+    meet(sheet, places, ws, links, queue, end, x, y)
+}
+
+// Meets the types in the cells from a head with those of a row of the question, turned by b: a clash where there are more of one.
+fn meet_cells(
+    sheet: &[u32],
+    places: &[u32],
+    ws: &[u32],
+    links: &mut [u32; 2048],
+    queue: &mut [u32; 256],
+    end: usize,
+    head: usize,
+    ys: Row,
+    b: u32,
+) -> usize
+    requires { ⌜ 8 < length (now sheet) ⌝ }
+    requires { ⌜ ys .n ≤ 8 ⌝ }
+    requires { ⌜ ys .n ≤ length (ys .types) ⌝ }
+    ensures { λ r. ⌜ CellsMet (now (sheet .entry)) (now (places .entry)) (now (ws .entry)) (now (links .entry)) (now (queue .entry)) end head b ys (now (links .exit)) (now (queue .exit)) r ⌝ }
+{
+    let mut e = end;
+    let mut c = head;
+    let mut j: usize = 0;
+    while c != 0 {
+        if j >= ys.n {
+            return CLASH;
+        }
+        let x = own_type(words::offset(sheet, c, layout::CELL_TYPE));
+        e = meet_cell(sheet, places, ws, links, queue, e, x, turn(b, ys.types[j]));
+        if e == CLASH {
+            return e;
+        }
+        c = words::next(sheet, c);
+        j += 1;
+    }
+    if j != ys.n {
+        return CLASH;
+    }
+    e
+}
+
+// Meets the children of a type of the signature with those of a type of the question.
+fn meet_across(
+    sheet: &[u32],
+    places: &[u32],
+    ws: &[u32],
+    links: &mut [u32; 2048],
+    queue: &mut [u32; 256],
+    end: usize,
+    x: u32,
+    y: u32,
+) -> usize
+    requires { ⌜ Packed (now ws) ⌝ }
+    requires { ⌜ 1024 ≤ x / 2 ⌝ }
+    requires { ⌜ y / 2 < 256 ⌝ }
+    ensures { λ r. ⌜ Meets (now (sheet .entry)) (now (places .entry)) (now (ws .entry)) (now (links .entry)) (now (queue .entry)) end x y (now (links .exit)) (now (queue .exit)) r ⌝ }
+{
+    if sheet.len() <= 8 {
+        return end;
+    }
+    if kind(sheet, places, ws, x / 2) == 0 {
+        return end;
+    }
+    if table::kind_of(ws, y / 2) == 0 {
+        return end;
+    }
+    let ys = table::child_types(ws, y / 2);
+    if ys.n == UNTOLD {
+        return end;
+    }
+    let p = place_of(places, x / 2);
+    let head = words::offset(sheet, p, layout::NODE_CHILDREN);
+    let b = across(sheet, p, ws, x, y);
+    meet_cells(
+        sheet,
+        places,
+        ws,
+        links,
+        queue,
+        end,
+        words::wide(head),
+        ys,
+        b,
+    )
+}
+
+// Meets the children of two types, whichever they are.
+fn meet_rows(
+    sheet: &[u32],
+    places: &[u32],
+    ws: &[u32],
+    links: &mut [u32; 2048],
+    queue: &mut [u32; 256],
     end: usize,
     x: u32,
     y: u32,
@@ -474,13 +676,35 @@ fn meet_children(
     meet_all(sheet, places, ws, links, queue, end, xs, ys, b)
 }
 
+// Meets the children of two types.
+fn meet_children(
+    sheet: &[u32],
+    places: &[u32],
+    ws: &[u32],
+    links: &mut [u32; 2048],
+    queue: &mut [u32; 256],
+    end: usize,
+    x: u32,
+    y: u32,
+) -> usize
+    requires { ⌜ Packed (now ws) ⌝ }
+    ensures { λ r. ⌜ Meets (now (sheet .entry)) (now (places .entry)) (now (ws .entry)) (now (links .entry)) (now (queue .entry)) end x y (now (links .exit)) (now (queue .exit)) r ⌝ }
+{
+    if RECORDS <= x / 2 {
+        if y / 2 < NODES {
+            return meet_across(sheet, places, ws, links, queue, end, x, y);
+        }
+    }
+    meet_rows(sheet, places, ws, links, queue, end, x, y)
+}
+
 // Works off the queue, whose end is n: whether there is a clash.
 fn run(
     sheet: &[u32],
     places: &[u32],
     ws: &[u32],
-    links: &mut [u32; 512],
-    queue: &mut [u32; 512],
+    links: &mut [u32; 2048],
+    queue: &mut [u32; 256],
     n: usize,
 ) -> bool
     requires { ⌜ Packed (now ws) ⌝ }
@@ -489,7 +713,7 @@ fn run(
     let mut k: usize = 0;
     let mut end = n;
     while k < end {
-        if k >= REFS {
+        if k >= QUEUE {
             return false;
         }
         let pair = queue[k];
@@ -501,8 +725,8 @@ fn run(
             links,
             queue,
             end,
-            pair % 1024,
-            pair / 1024,
+            pair % 4096,
+            pair / 4096,
         );
         if end == CLASH {
             return true;
@@ -516,8 +740,8 @@ fn meet_args(
     sheet: &[u32],
     places: &[u32],
     ws: &[u32],
-    links: &mut [u32; 512],
-    queue: &mut [u32; 512],
+    links: &mut [u32; 2048],
+    queue: &mut [u32; 256],
     p: Query,
     q: Query,
 ) -> usize
@@ -544,8 +768,8 @@ fn clash_args(sheet: &[u32], places: &[u32], ws: &[u32], p: Query, q: Query) -> 
     requires { ⌜ q .n ≤ 4 ⌝ }
     ensures { λ r. ⌜ Clashing (now (sheet .entry)) (now (places .entry)) (now (ws .entry)) p q r ⌝ }
 {
-    let mut links = [0u32; 512];
-    let mut queue = [0u32; 512];
+    let mut links = [0u32; 2048];
+    let mut queue = [0u32; 256];
     let n = meet_args(sheet, places, ws, &mut links, &mut queue, p, q);
     if n == CLASH {
         return true;
@@ -571,8 +795,12 @@ fn root_clash(sheet: &[u32], places: &[u32], ws: &[u32], a: u32, b: u32) -> bool
     if k != l {
         return true;
     }
-    if id(sheet, places, ws, a / 2) != id(sheet, places, ws, b / 2) {
+    let d = id(sheet, places, ws, a / 2);
+    if d != id(sheet, places, ws, b / 2) {
         return true;
+    }
+    if apart(sheet, places, ws, a, b) == 1 {
+        return sided_near(sheet, k, d);
     }
     false
 }
@@ -633,7 +861,7 @@ fn clash_at(sheet: &[u32], places: &[u32], ws: &[u32], q: Query, p: usize) -> bo
     args_clash(sheet, places, ws, a, q)
 }
 
-// Whether a table has room for eight unknowns and n nodes besides.
+// Whether a table has room for n nodes more.
 fn has_room(ws: &[u32], n: usize) -> bool
     ensures { λ r. ⌜ Room (types-of (now (ws .entry))) n r ⌝ }
 {
@@ -651,8 +879,9 @@ fn impl_place(sheet: &[u32], i: usize) -> usize
     words::place(sheet, head, i)
 }
 
-// Whether candidate i and question q clash. The places of the nodes of its signature's table are written to `places`.
-pub fn clashes(sheet: &[u32], ws: &[u32], places: &mut [u32], q: Query, i: usize) -> bool
+// Whether candidate i, whose signature takes n nodes, and question q clash. The places of the nodes of its signature's table are written to `places`.
+pub fn clashes(sheet: &[u32], ws: &[u32], places: &mut [u32], q: Query, i: usize, n: usize) -> bool
+    requires { ⌜ SignatureTakes (now sheet) i n ⌝ }
     requires { ⌜ Sound (now sheet) ⌝ }
     requires { ⌜ i < many (now sheet) header·impls ⌝ }
     requires { ⌜ length (now sheet) ≤ 5 * length (now places) ⌝ }
@@ -662,11 +891,11 @@ pub fn clashes(sheet: &[u32], ws: &[u32], places: &mut [u32], q: Query, i: usize
     requires { ⌜ q .n ≤ 4 ⌝ }
     ensures { λ r. ⌜ Clashes (now (sheet .entry)) (types-of (now (ws .entry))) (query-of q) i r ⌝ }
 {
-    let p = impl_place(sheet, i);
-    let head = words::offset(sheet, p, layout::IMPL_TABLE);
-    let n = chart::index_chain(sheet, head, places, 0);
     if has_room(ws, n) {
-        return clash_at(sheet, &places[..n], ws, q, p);
+        let p = impl_place(sheet, i);
+        let head = words::offset(sheet, p, layout::IMPL_TABLE);
+        let m = chart::index_chain(sheet, head, places, 0);
+        return clash_at(sheet, &places[..m], ws, q, p);
     }
     false
 }
@@ -680,7 +909,7 @@ fn generics_head(sheet: &[u32], g: usize) -> u32
     words::offset(sheet, p, layout::GENERICS_TABLE)
 }
 
-// Whether impl parameter p of the caller's generics g and question q clash. The places of the nodes of the generics' table are written to `places`.
+// Whether impl parameter p of the caller's generics g, which takes n nodes, and question q clash. The places of the nodes of the generics' table are written to `places`.
 pub fn param_clashes(
     sheet: &[u32],
     ws: &[u32],
@@ -688,7 +917,9 @@ pub fn param_clashes(
     g: usize,
     p: Query,
     q: Query,
+    n: usize,
 ) -> bool
+    requires { ⌜ ParamTakes (now sheet) g (query-of p) n ⌝ }
     requires { ⌜ Calling (now sheet) g ⌝ }
     requires { ⌜ length (now sheet) ≤ 5 * length (now places) ⌝ }
     requires { ⌜ Packed (now ws) ⌝ }
@@ -701,10 +932,10 @@ pub fn param_clashes(
     if p.n != q.n {
         return false;
     }
-    let head = generics_head(sheet, g);
-    let n = chart::index_chain(sheet, head, places, 0);
     if has_room(ws, n) {
-        return args_clash(sheet, &places[..n], ws, p, q);
+        let head = generics_head(sheet, g);
+        let m = chart::index_chain(sheet, head, places, 0);
+        return args_clash(sheet, &places[..m], ws, p, q);
     }
     false
 }

@@ -8,6 +8,7 @@ use native.Mathlib.Omega.{arith}
 use lib.Dec.{eqb, ltb}
 use native.Mathlib.Nat.{le-refl}
 use lib.ListN.{length, getD, drop, replicate, length-replicate}
+use lib.Seq.{getD-drop}
 use Rattle.rules.specs.Lists.{Words}
 use Rattle.rules.specs.Layout.{header·impls}
 use Rattle.rules.specs.Sheet.{at, many}
@@ -43,8 +44,9 @@ use Rattle.admitted.specs.Found.{Stands, Finds, Gives, ids, nodes-of, found-sto
 use Rattle.queries.specs.declared.Query.{Query}
 use Rattle.queries.specs.declared.Queries.{Queries}
 use Rattle.queries.specs.Queries.{query-of, query-in, queries-of, queries-next, queries-none}
+use Rattle.queries.specs.Takes.{SignatureTakes, Taken}
 use Rattle.steps.specs.declared.Finder.{Finder}
-use Rattle.steps.specs.Asking.{finder-of, Sound, Scratch, Searching, Front, Asking, Tail, Begins, Opens, front-table, asking-table, tail-asking}
+use Rattle.steps.specs.Asking.{finder-of, sets-of, takes-of, Sound, Scratch, Searching, Front, Asking, Tail, Begins, Opens, front-table, asking-table, tail-asking}
 use Rattle.steps.specs.Loops.{Stepping, stepping-start, stepping-few, stepping-low, stepping-same, stepping-end, stepping-on, stepping-refused}
 use Rattle.finder.specs.Singles.{One, question-ones}
 use Rattle.finder.specs.Steps.{ask-below, candidates-left, question-over, question-deep, question-start}
@@ -140,11 +142,11 @@ module _ (s sets : Words) (f : Finder) (basic : ℕ) (q : Query) (d : ℕ) (x : 
   pub sets-refused : x .number ≢ 0 → Stepped (f .limit) (candidates-left d (finder-of s f) (eqb basic 1) (types-of ws₀) (query-of q)) n₀ c₀ ws₀ (Refused (x .number) c₀) ws₀
   unfolding candidates-left within _>>=_
   sets-refused z = record {
-    at = λ fs e t. answers-refused _ (x .number) c₀ ws₀ (ap (λ (m : Run Words). within (ltb (f .limit)) (m >>= λ is. collect (try-candidate (ask-below d (finder-of s f)) s (types-of ws₀) (query-of q)) is fs) c₀) (found-stops s (f .source) sets (types-of ws₀) (query-of q) basic x (search .stands) sets-are z (f .generics)));
+    at = λ fs e t. answers-refused _ (x .number) c₀ ws₀ (ap (λ (m : Run Words). within (ltb (f .limit)) (m >>= λ is. collect (try-candidate (ask-below d (finder-of s f)) s (types-of ws₀) (query-of q)) is fs) c₀) (found-stops s (f .source) (sets-of sets) (types-of ws₀) (query-of q) basic x (search .stands) sets-are z (f .generics)));
   }
 
   -- else it begins with the first,
-  pub trying-start : (id : ℕ) → x .number ≡ 0 → Asking ws₀ q → Row ws₀ 1282 n₀ → n₀ ≤ 4 → c₀ ≤ 4000000000 → NextId s sets x 0 id → Trying s sets f basic q d x n₀ c₀ ws₀ ws₀ id n₀ c₀
+  pub trying-start : (id : ℕ) → x .number ≡ 0 → Asking ws₀ q → Row ws₀ 1282 n₀ → n₀ ≤ 4 → c₀ ≤ 4000000000 → NextId s (sets-of sets) x 0 id → Trying s sets f basic q d x n₀ c₀ ws₀ ws₀ id n₀ c₀
   unfolding candidates-left _>>=_
   trying-start id z a row few low g = record {
     front = record { len = refl; at = λ i l. refl };
@@ -154,11 +156,11 @@ module _ (s sets : Words) (f : Finder) (basic : ℕ) (q : Query) (d : ℕ) (x : 
     next = λ h. g .found h (f .source) standing;
     none = λ h. g .none h (f .source) standing;
     going = stepping-same (f .limit) _ n₀ c₀ ws₀ _ n₀ c₀ ws₀ (stepping-start (f .limit) _ n₀ c₀ ws₀ ws₀ row few low (λ fs e t. t)) _
-        (λ fs. ap (λ (m : Run Words). m >>= λ is. collect (try-candidate (ask-below d (finder-of s f)) s (types-of ws₀) (query-of q)) is fs) (found-goes s (f .source) sets (types-of ws₀) (query-of q) basic x (search .stands) sets-are z (f .generics)));
+        (λ fs. ap (λ (m : Run Words). m >>= λ is. collect (try-candidate (ask-below d (finder-of s f)) s (types-of ws₀) (query-of q)) is fs) (found-goes s (f .source) (sets-of sets) (types-of ws₀) (query-of q) basic x (search .stands) sets-are z (f .generics)));
   }
     where
-      standing : Standing s (f .source) sets (nodes-of x)
-      standing = found-standing s (f .source) sets (types-of ws₀) (query-of q) basic x (search .stands) sets-are
+      standing : Standing s (f .source) (sets-of sets) (nodes-of x)
+      standing = found-standing s (f .source) (sets-of sets) (types-of ws₀) (query-of q) basic x (search .stands) sets-are
 
   module _ (ws : Words) (id n c : ℕ) (t : Trying s sets f basic q d x n₀ c₀ ws₀ ws id n c) (packed : Packed ws₀) where
     table : Table ws 0 (types-of ws₀)
@@ -175,9 +177,9 @@ module _ (s sets : Words) (f : Finder) (basic : ℕ) (q : Query) (d : ℕ) (x : 
       pub trying-refused : (k e : ℕ) → r ≡ Refused k e → Stepped (f .limit) (candidates-left d (finder-of s f) (eqb basic 1) (types-of ws₀) (query-of q)) n₀ c₀ ws₀ (Refused k e) out
       trying-refused k e p = stepping-refused (f .limit) _ n₀ c₀ ws₀ _ _ n c ws here r out one k e p
 
-      pub trying-on : (e m id′ : ℕ) → r ≡ Found e m → NextId s sets x (id + 1) id′ → Trying s sets f basic q d x n₀ c₀ ws₀ out id′ m e
+      pub trying-on : (e m id′ : ℕ) → r ≡ Found e m → NextId s (sets-of sets) x (id + 1) id′ → Trying s sets f basic q d x n₀ c₀ ws₀ out id′ m e
       trying-on e m id′ p g =
-          let st = found-standing s (f .source) sets (types-of ws₀) (query-of q) basic x (search .stands) sets-are in
+          let st = found-standing s (f .source) (sets-of sets) (types-of ws₀) (query-of q) basic x (search .stands) sets-are in
           record {
             front = record { len = o .front .len ∙ t .front .len; at = λ i l. o .front .at i l ∙ t .front .at i l };
             asking = asking-table ws out q (t .asking) (front-table ws out (o .front .len) (o .front .at) (t .asking .packed));
@@ -387,11 +389,21 @@ module _ (L d : ℕ) (a : rules.Finder) (sound : Sound a) (ws us ys back : Words
 pub searching-sound : (s sets : Words) (f : Finder) → Searching s sets f → Sound (finder-of s f)
 searching-sound s sets f h = h .sound
 
-pub searching-stands : (s sets : Words) (f : Finder) → Searching s sets f → Stands s (f .source) sets
+pub searching-stands : (s sets : Words) (f : Finder) → Searching s sets f → Stands s (f .source) (sets-of sets)
 searching-stands s sets f h = h .stands
 
-pub searching-indexed : (s sets : Words) (f : Finder) → Searching s sets f → Indexes s sets
+pub searching-long : (s sets : Words) (f : Finder) → Searching s sets f → 34948 ≤ length sets
+searching-long s sets f h = h .long
+
+pub searching-indexed : (s sets : Words) (f : Finder) → Searching s sets f → Indexes s (sets-of sets)
 searching-indexed s sets f h = h .stands .sets .indexes
+
+pub searching-taken : (s sets : Words) (f : Finder) → Searching s sets f → Taken s (f .generics) (takes-of sets)
+searching-taken s sets f h = h .taken
+
+pub searching-takes : (s sets : Words) (f : Finder) (i : ℕ) → Searching s sets f → i < many s header·impls → SignatureTakes s i (at sets (34948 + i))
+unfolding takes-of
+searching-takes s sets f i h l = subst (SignatureTakes s i) (getD-drop 34948 sets i 0) (h .taken .signatures i l)
 
 module _ (s ws us : Words) (q : ImplType) (i : ℕ) (qs : Queries) (o : Opens s ws q i qs us) where
   pub opened-full : (L n cur : ℕ) (ask : Types → ImplType → Run (List Result)) → qs .n ≡ 5 → CandidateStep L (try-candidate ask s (types-of ws) q i) n cur ws (Refused 14 cur) us

@@ -4,14 +4,15 @@ ghost use Prim.Native.Nat.{_+_, _-_, _*_, _<_, _≤_};
 ghost use lib.Dec.{eqb, ltb};
 ghost use lib.ListN.{length, drop};
 ghost use Rattle.rules.specs.Layout.{header·impls};
-ghost use Rattle.rules.specs.Sheet.{many};
+ghost use Rattle.rules.specs.Sheet.{at, many};
 ghost use Rattle.rules.specs.Run.{within};
 ghost use Rattle.rules.specs.Search.{find-subimpls, try-candidate, question as question-run};
 ghost use Rattle.table.specs.Packing.{types-of};
 ghost use Rattle.slots.specs.Gathering.{Row};
 ghost use Rattle.slots.specs.Turns.{Answers, Stepped};
 ghost use Rattle.queries.specs.Queries.{query-of, queries-of};
-ghost use Rattle.steps.specs.Asking.{finder-of, Sound, Searching, Asking, Tail, Begins, Opens};
+ghost use Rattle.queries.specs.Takes.{SignatureTakes, Taken};
+ghost use Rattle.steps.specs.Asking.{finder-of, takes-of, Sound, Searching, Asking, Tail, Begins, Opens};
 ghost use Rattle.finder.specs.Steps.{ask-below, candidates-left};
 ghost use Rattle.finder.specs.Tails.{sub-one};
 ghost use Rattle.finder.specs.Members.{CandidateStep, ResultStep};
@@ -47,108 +48,146 @@ const SMALL_SHEET: usize = 320;
 const MIDDLE_SHEET: usize = 1280;
 
 // Built-in fork and drop, then the generics' impl parameters, in slices for a sheet of middle size.
-fn begin_middle(sheet: &[u32], ws: &mut [u32], f: Finder, basic: u32, q: Query, count: u32) -> Asked
+fn begin_middle(
+    sheet: &[u32],
+    sets: &[u32],
+    ws: &mut [u32],
+    f: Finder,
+    basic: u32,
+    q: Query,
+    count: u32,
+) -> Asked
     requires { ⌜ Sound (finder-of (now sheet) f) ⌝ }
     requires { ⌜ Asking (now ws) q ⌝ }
     requires { ⌜ 7692 ≤ length (now ws) ⌝ }
     requires { ⌜ basic < 2 ⌝ }
     requires { ⌜ count ≤ 4000000000 ⌝ }
+    requires { ⌜ Taken (now sheet) (f .generics) (takes-of (now sets)) ⌝ }
     requires { ⌜ length (now sheet) ≤ 1280 ⌝ }
     ensures { λ r. ⌜ Begins (finder-of (now (sheet .entry)) f) (eqb basic 1) (now (ws .entry)) (query-of q) count r (now (ws .exit)) ⌝ }
 {
     let mut places = [0u32; MIDDLE];
     let mut map = [0u32; MARKS];
-    steps::before_candidates(sheet, ws, &mut places, &mut map, f, basic, q, count)
+    steps::before_candidates(sheet, sets, ws, &mut places, &mut map, f, basic, q, count)
 }
 
 // The same in slices for any sheet.
-fn begin_wide(sheet: &[u32], ws: &mut [u32], f: Finder, basic: u32, q: Query, count: u32) -> Asked
+fn begin_wide(
+    sheet: &[u32],
+    sets: &[u32],
+    ws: &mut [u32],
+    f: Finder,
+    basic: u32,
+    q: Query,
+    count: u32,
+) -> Asked
     requires { ⌜ Sound (finder-of (now sheet) f) ⌝ }
     requires { ⌜ Asking (now ws) q ⌝ }
     requires { ⌜ 7692 ≤ length (now ws) ⌝ }
     requires { ⌜ basic < 2 ⌝ }
     requires { ⌜ count ≤ 4000000000 ⌝ }
+    requires { ⌜ Taken (now sheet) (f .generics) (takes-of (now sets)) ⌝ }
     ensures { λ r. ⌜ Begins (finder-of (now (sheet .entry)) f) (eqb basic 1) (now (ws .entry)) (query-of q) count r (now (ws .exit)) ⌝ }
 {
     let mut places = [0u32; WIDE];
     let mut map = [0u32; WIDE];
-    steps::before_candidates(sheet, ws, &mut places, &mut map, f, basic, q, count)
+    steps::before_candidates(sheet, sets, ws, &mut places, &mut map, f, basic, q, count)
 }
 
 // Built-in fork and drop, then the generics' impl parameters, if there are any.
-fn begin(sheet: &[u32], ws: &mut [u32], f: Finder, basic: u32, q: Query, count: u32) -> Asked
+fn begin(
+    sheet: &[u32],
+    sets: &[u32],
+    ws: &mut [u32],
+    f: Finder,
+    basic: u32,
+    q: Query,
+    count: u32,
+) -> Asked
     requires { ⌜ Sound (finder-of (now sheet) f) ⌝ }
     requires { ⌜ Asking (now ws) q ⌝ }
     requires { ⌜ 7692 ≤ length (now ws) ⌝ }
     requires { ⌜ basic < 2 ⌝ }
     requires { ⌜ count ≤ 4000000000 ⌝ }
+    requires { ⌜ Taken (now sheet) (f .generics) (takes-of (now sets)) ⌝ }
     ensures { λ r. ⌜ Begins (finder-of (now (sheet .entry)) f) (eqb basic 1) (now (ws .entry)) (query-of q) count r (now (ws .exit)) ⌝ }
 {
     if steps::no_params(sheet, f) {
         return steps::built_ins(sheet, ws, f, basic, q, count);
     }
     if sheet.len() <= MIDDLE_SHEET {
-        return begin_middle(sheet, ws, f, basic, q, count);
+        return begin_middle(sheet, sets, ws, f, basic, q, count);
     }
-    begin_wide(sheet, ws, f, basic, q, count)
+    begin_wide(sheet, sets, ws, f, basic, q, count)
 }
 
 // Opens a candidate behind slot 4, in slices for a small sheet.
-fn open_small(sheet: &[u32], ws: &mut [u32], f: Finder, q: Query, i: usize) -> Queries
+fn open_small(sheet: &[u32], sets: &[u32], ws: &mut [u32], f: Finder, q: Query, i: usize) -> Queries
     requires { ⌜ Sound (finder-of (now sheet) f) ⌝ }
     requires { ⌜ Asking (now ws) q ⌝ }
     requires { ⌜ 7692 ≤ length (now ws) ⌝ }
     requires { ⌜ i < many (now sheet) header·impls ⌝ }
+    requires { ⌜ SignatureTakes (now sheet) i (at (now sets) (34948 + i)) ⌝ }
     requires { ⌜ length (now sheet) ≤ 320 ⌝ }
     ensures { λ r. ⌜ Opens (now (sheet .entry)) (now (ws .entry)) (query-of q) i r (now (ws .exit)) ⌝ }
 {
     let mut places = [0u32; SMALL];
     let mut map = [0u32; MIDDLE];
-    steps::open_candidate(sheet, ws, &mut places, &mut map, f, q, i)
+    steps::open_candidate(sheet, sets, ws, &mut places, &mut map, f, q, i)
 }
 
 // The same in slices for a sheet of middle size.
-fn open_middle(sheet: &[u32], ws: &mut [u32], f: Finder, q: Query, i: usize) -> Queries
+fn open_middle(
+    sheet: &[u32],
+    sets: &[u32],
+    ws: &mut [u32],
+    f: Finder,
+    q: Query,
+    i: usize,
+) -> Queries
     requires { ⌜ Sound (finder-of (now sheet) f) ⌝ }
     requires { ⌜ Asking (now ws) q ⌝ }
     requires { ⌜ 7692 ≤ length (now ws) ⌝ }
     requires { ⌜ i < many (now sheet) header·impls ⌝ }
+    requires { ⌜ SignatureTakes (now sheet) i (at (now sets) (34948 + i)) ⌝ }
     requires { ⌜ length (now sheet) ≤ 1280 ⌝ }
     ensures { λ r. ⌜ Opens (now (sheet .entry)) (now (ws .entry)) (query-of q) i r (now (ws .exit)) ⌝ }
 {
     let mut places = [0u32; MIDDLE];
     let mut map = [0u32; MARKS];
-    steps::open_candidate(sheet, ws, &mut places, &mut map, f, q, i)
+    steps::open_candidate(sheet, sets, ws, &mut places, &mut map, f, q, i)
 }
 
 // The same in slices for any sheet.
-fn open_wide(sheet: &[u32], ws: &mut [u32], f: Finder, q: Query, i: usize) -> Queries
+fn open_wide(sheet: &[u32], sets: &[u32], ws: &mut [u32], f: Finder, q: Query, i: usize) -> Queries
     requires { ⌜ Sound (finder-of (now sheet) f) ⌝ }
     requires { ⌜ Asking (now ws) q ⌝ }
     requires { ⌜ 7692 ≤ length (now ws) ⌝ }
     requires { ⌜ i < many (now sheet) header·impls ⌝ }
+    requires { ⌜ SignatureTakes (now sheet) i (at (now sets) (34948 + i)) ⌝ }
     ensures { λ r. ⌜ Opens (now (sheet .entry)) (now (ws .entry)) (query-of q) i r (now (ws .exit)) ⌝ }
 {
     let mut places = [0u32; WIDE];
     let mut map = [0u32; WIDE];
-    steps::open_candidate(sheet, ws, &mut places, &mut map, f, q, i)
+    steps::open_candidate(sheet, sets, ws, &mut places, &mut map, f, q, i)
 }
 
 // Opens a candidate behind slot 4: the table there is that of its sub-questions.
-fn open_one(sheet: &[u32], ws: &mut [u32], f: Finder, q: Query, i: usize) -> Queries
+fn open_one(sheet: &[u32], sets: &[u32], ws: &mut [u32], f: Finder, q: Query, i: usize) -> Queries
     requires { ⌜ Sound (finder-of (now sheet) f) ⌝ }
     requires { ⌜ Asking (now ws) q ⌝ }
     requires { ⌜ 7692 ≤ length (now ws) ⌝ }
     requires { ⌜ i < many (now sheet) header·impls ⌝ }
+    requires { ⌜ SignatureTakes (now sheet) i (at (now sets) (34948 + i)) ⌝ }
     ensures { λ r. ⌜ Opens (now (sheet .entry)) (now (ws .entry)) (query-of q) i r (now (ws .exit)) ⌝ }
 {
     if sheet.len() <= SMALL_SHEET {
-        return open_small(sheet, ws, f, q, i);
+        return open_small(sheet, sets, ws, f, q, i);
     }
     if sheet.len() <= MIDDLE_SHEET {
-        return open_middle(sheet, ws, f, q, i);
+        return open_middle(sheet, sets, ws, f, q, i);
     }
-    open_wide(sheet, ws, f, q, i)
+    open_wide(sheet, sets, ws, f, q, i)
 }
 
 // A question, with `depth` levels left for it and what it asks: `_find_impl`.
@@ -181,7 +220,7 @@ pub fn question(
             count: count + 1,
         };
     }
-    let first = begin(sheet, ws, f, basic, q, count + 1);
+    let first = begin(sheet, sets, ws, f, basic, q, count + 1);
     match first {
         Asked::Refused { number, count } => Asked::Refused { number, count },
         Asked::Found { count, n } => {
@@ -260,7 +299,7 @@ fn candidate(
     requires { ⌜ n ≤ 4 ⌝ }
     ensures { λ r. ⌜ CandidateStep (f .limit) (try-candidate (ask-below depth (finder-of (now (sheet .entry)) f)) (now (sheet .entry)) (types-of (now (ws .entry))) (query-of q) i) n count (now (ws .entry)) r (now (ws .exit)) ⌝ }
 {
-    let qs = open_one(sheet, ws, f, q, i);
+    let qs = open_one(sheet, sets, ws, f, q, i);
     if qs.n == steps::FULL {
         return Asked::Refused { number: 14, count };
     }

@@ -6,7 +6,7 @@ use mathlib.Core.List.{List, [], map}
 use mathlib.Core.Logic.{_≢_}
 use native.Mathlib.Omega.{arith}
 use lib.Dec.{ltb}
-use lib.ListN.{length, getD, drop}
+use lib.ListN.{length, getD, take, drop}
 use Rattle.rules.specs.Lists.{Words}
 use Rattle.rules.specs.Sheet.{at}
 use Rattle.rules.specs.Types.{Types, ImplType}
@@ -26,6 +26,7 @@ use Rattle.admitted.specs.Found.{Stands}
 use Rattle.queries.specs.declared.Query.{Query}
 use Rattle.queries.specs.declared.Queries.{Queries}
 use Rattle.queries.specs.Queries.{query-of, query-in, queries-of, queries-next}
+use Rattle.queries.specs.Takes.{Taken}
 use Rattle.steps.specs.declared.Finder.{Finder}
 
 -- The rules' finder.
@@ -37,11 +38,20 @@ pub record Sound (a : rules.Finder) : Type 0 where
   pub question : Words
   pub ready : Ready a question
 
--- And the sets of its source stand.
+-- The words of candidate sets, and those behind them.
+unfoldable pub sets-of : Words → Words
+sets-of ws = take 34948 ws
+
+unfoldable pub takes-of : Words → Words
+takes-of ws = drop 34948 ws
+
+-- And the sets of its source stand; behind them, what signatures and impl parameters take.
 pub record Searching (s sets : Words) (f : Finder) : Type 0 where
   pub sound : Sound (finder-of s f)
-  pub stands : Stands s (f .source) sets
+  pub stands : Stands s (f .source) (sets-of sets)
   pub low : f .limit ≤ 4000000000
+  pub taken : Taken s (f .generics) (takes-of sets)
+  pub long : 34948 ≤ length sets
 
 -- Slices lent for imports from s: a table of a checked sheet has at most a fifth as many nodes as the sheet has words.
 pub record Scratch (s places map : Words) : Type 0 where

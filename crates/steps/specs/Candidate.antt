@@ -28,6 +28,7 @@ use Rattle.queries.specs.declared.Query.{Query}
 use Rattle.queries.specs.declared.Queries.{Queries}
 use Rattle.queries.specs.Queries.{query-of, queries-of, queries-none}
 use Rattle.queries.specs.Gathering.{WithinFour, queries-four}
+use Rattle.queries.specs.Takes.{SignatureTakes}
 use Rattle.opening.specs.declared.Signed.{Signed}
 use Rattle.opening.specs.declared.Signed.the-variants.{Full, Unfit, Fits}
 use Rattle.opening.specs.Sound as opening
@@ -251,6 +252,10 @@ module _ (ws us : Words) (q : Query) (w : Written ws us 6410 (types-of ws, end))
           counts = x .counts;
         };
       }
+
+-- The word that was read is what the signature takes.
+pub signature-read : (s sets : Words) (i n : ℕ) → SignatureTakes s i (at sets (34948 + i)) → n ≡ at sets (34948 + i) → SignatureTakes s i n
+signature-read s sets i n h e = subst (SignatureTakes s i) (sym e) h
 
 -- A candidate that clashes with the question is not opened: nothing changes.
 pub opens-clash : (s ws : Words) (q : Query) (i : ℕ) (r : Bool) (o : Queries) → Clashes s (types-of ws) (query-of q) i r → r ≡ true → o .n ≡ 6 → Opens s ws (query-of q) i o ws

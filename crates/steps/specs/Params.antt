@@ -9,6 +9,7 @@ use native.Mathlib.Omega.{arith}
 use borrow.Author.Tests.{lt-ltb, le-ltb}
 use lib.Dec.{ltb}
 use lib.ListN.{length, getD, drop}
+use lib.Seq.{getD-drop}
 use Rattle.rules.specs.Lists.{Words}
 use Rattle.rules.specs.Limits.{limit·nodes}
 use Rattle.rules.specs.Layout.{tree·param}
@@ -32,11 +33,12 @@ use Rattle.queries.specs.declared.Queries.{Queries}
 use Rattle.queries.specs.Queries.{query-of, query-in, queries-of, queries-length, queries-next, queries-none}
 use Rattle.queries.specs.Few.{Few, few-params}
 use Rattle.queries.specs.Gathering.{WithinFour}
+use Rattle.queries.specs.Takes.{ParamTakes, Taken}
 use Rattle.opening.specs.declared.Signed.{Signed}
 use Rattle.opening.specs.declared.Signed.the-variants.{Full, Unfit, Fits}
 use Rattle.clash.specs.Params.{ParamClashes}
 use Rattle.steps.specs.declared.Finder.{Finder}
-use Rattle.steps.specs.Asking.{finder-of, Sound, Asking, Front, front-table, asking-table}
+use Rattle.steps.specs.Asking.{finder-of, takes-of, Sound, Asking, Front, front-table, asking-table}
 use Rattle.steps.specs.Loops.{Stepping, stepping-start, stepping-few, stepping-low, stepping-same, stepping-end, stepping-on, stepping-refused}
 use Rattle.steps.specs.Built.{LeafStep}
 use Rattle.steps.specs.Behind.{brought, Behind, ParamIn}
@@ -93,6 +95,10 @@ module _ (a : rules.Finder) (ts : Types) (q : ImplType) where
           rw (e, d, x, from-impl-params, check-nodes)
           (ap (λ m. add-results fs (((met-with p) .1, leaf tree·param k) ∷ []) >>= λ gs. from-impl-params a ts q m ps gs) (sym (add-one k))
           ∙ sym (bind-assoc (add-results fs (((met-with p) .1, leaf tree·param k) ∷ [])) (λ gs. done gs) (λ gs. from-impl-params a ts q (k + 1) ps gs)))
+
+-- The word that was read is what the impl parameter takes.
+pub param-read : (s sets : Words) (g k n : ℕ) (p : ImplType) → ParamTakes s g p (at sets (35076 + k)) → n ≡ at sets (35076 + k) → ParamTakes s g p n
+param-read s sets g k n p h e = subst (ParamTakes s g p) (sym e) h
 
 -- Impl parameter k is looked at, and added behind n where it unifies with the question.
 pub record ParamStep (a : rules.Finder) (ws : Words) (q p : ImplType) (k n count : ℕ) (r : Asked) (out : Words) : Type 0 where
@@ -206,6 +212,15 @@ module _ (s : Words) (f : Finder) (ps : Queries) (k : ℕ) (p : Query) (sound : 
         (subst (λ (xs : List ImplType). QueriesIn (length ((impl-params s (f .generics)) .0)) xs) (sym is) (impl-params-in (finder-of s f) (sound .question) (sound .ready) (f .generics) (sound .ready .generics)))
         (omega (arith, queries-length ps)));
   }
+
+  -- Its word, behind the candidate sets.
+  pub param-takes : (sets : Words) → Taken s (f .generics) (takes-of sets) → ParamTakes s (f .generics) (query-of p) (at sets (35076 + k))
+  unfolding takes-of
+  param-takes sets t =
+      subst (λ (x : ImplType). ParamTakes s (f .generics) x (at sets (35076 + k))) (ap (λ (xs : List ImplType). getD xs k (0, [])) (sym is) ∙ place)
+      (subst (ParamTakes s (f .generics) (getD ((impl-params s (f .generics)) .1) k (0, [])))
+      (getD-drop 34948 sets (128 + k) 0 ∙ ap (at sets) (let z : 34948 + (128 + k) ≡ 35076 + k = omega arith in z))
+      (t .params k (omega (arith, queries-length ps, ap length is))))
 
 -- A turn of the loop, and its end.
 module _ (s : Words) (f : Finder) (q : Query) (ps : Queries) (n₀ c₀ : ℕ) (ws₀ ws : Words) (k n c : ℕ) (packed : Packed ws₀) (g : ParamsDone s f q ps n₀ c₀ ws₀ ws k n c) where

@@ -7,7 +7,7 @@ ghost use Prim.Native.Nat.{_+_, _<_, _≤_};
 ghost use lib.Dec.{eqb};
 ghost use lib.ListN.{length, drop};
 ghost use Rattle.rules.specs.Layout.{header·impls};
-ghost use Rattle.rules.specs.Sheet.{many};
+ghost use Rattle.rules.specs.Sheet.{at, many};
 ghost use Rattle.rules.specs.Types.{approx-eq};
 ghost use Rattle.rules.specs.Search.{impl-params};
 ghost use Rattle.rules.specs.SearchKeeps.{fresh-count};
@@ -17,8 +17,9 @@ ghost use Rattle.slots.specs.Gathering.{Row};
 ghost use Rattle.candidates.specs.Index.{Indexes};
 ghost use Rattle.admitted.specs.Found.{Stands, Finds};
 ghost use Rattle.queries.specs.Queries.{query-of};
+ghost use Rattle.queries.specs.Takes.{SignatureTakes, ParamTakes, Taken};
 ghost use Rattle.opening.specs.Sound.{Sound as SoundSheet};
-ghost use Rattle.steps.specs.Asking.{finder-of, Sound, Scratch, Asking, Begins, Opens};
+ghost use Rattle.steps.specs.Asking.{finder-of, Sound, sets-of, takes-of, Scratch, Asking, Begins, Opens};
 ghost use Rattle.steps.specs.Behind.{brought, Behind, ParamIn};
 ghost use Rattle.steps.specs.Built.{NoneLeft, LeafStep, SmallIds, Autos};
 ghost use Rattle.steps.specs.Params.{ParamStep, ParamsStep};
@@ -43,6 +44,13 @@ pub struct Finder {
 // Where a question's results end: a candidate's sub-questions begin there.
 pub const SUB: usize = 6410;
 
+// The words of a source's candidate sets. Behind them is what imports take: a word for each of 128 signatures, and for each of 4 impl parameters of the generics.
+pub const SETS: usize = 34948;
+
+const SETS_PARAMS: usize = 35076;
+
+pub const SETS_END: usize = 35080;
+
 // The kind of an impl parameter's tree.
 const PARAM: u32 = 1;
 
@@ -53,6 +61,13 @@ pub const UNFIT: usize = 6;
 
 // Past every impl.
 pub const NONE: usize = 384;
+
+// The word k places past a place, as an index.
+fn wide_offset(s: &[u32], p: usize, k: usize) -> usize
+    ensures { λ r. ⌜ r ≡ at (now (s .entry)) (p + k) ⌝ }
+{
+    words::wide(words::offset(s, p, k))
+}
 
 // No sub-questions are left: the table itself, without trees.
 pub fn none_left(ws: &mut [u32], count: u32) -> Asked
@@ -157,6 +172,7 @@ fn param_opened(
 // Impl parameter k of the generics, of the question's trait: added behind n where it unifies with the question. One that clashes with the question is passed over before that.
 fn param_met(
     sheet: &[u32],
+    sets: &[u32],
     ws: &mut [u32],
     places: &mut [u32],
     map: &mut [u32],
@@ -176,9 +192,11 @@ fn param_met(
     requires { ⌜ k < 4 ⌝ }
     requires { ⌜ n ≤ 4 ⌝ }
     requires { ⌜ count ≤ 4000000000 ⌝ }
+    requires { ⌜ ParamTakes (now sheet) (f .generics) (query-of p) (at (now sets) (35076 + k)) ⌝ }
     ensures { λ r. ⌜ ParamStep (finder-of (now (sheet .entry)) f) (now (ws .entry)) (query-of q) (query-of p) k n count r (now (ws .exit)) ⌝ }
 {
-    if clash::param_clashes(sheet, ws, places, f.generics, p, q) {
+    let takes = wide_offset(sets, SETS_PARAMS, k);
+    if clash::param_clashes(sheet, ws, places, f.generics, p, q, takes) {
         return Asked::Found { count, n };
     }
     param_opened(sheet, ws, places, map, f, q, p, k, n, count)
@@ -187,6 +205,7 @@ fn param_met(
 // Impl parameter k of the generics, whatever its trait.
 fn add_param(
     sheet: &[u32],
+    sets: &[u32],
     ws: &mut [u32],
     places: &mut [u32],
     map: &mut [u32],
@@ -205,11 +224,12 @@ fn add_param(
     requires { ⌜ k < 4 ⌝ }
     requires { ⌜ n ≤ 4 ⌝ }
     requires { ⌜ count ≤ 4000000000 ⌝ }
+    requires { ⌜ ParamTakes (now sheet) (f .generics) (query-of p) (at (now sets) (35076 + k)) ⌝ }
     ensures { λ r. ⌜ ParamStep (finder-of (now (sheet .entry)) f) (now (ws .entry)) (query-of q) (query-of p) k n count r (now (ws .exit)) ⌝ }
 {
     let same = unify::approx_eq(q.tr, p.tr);
     if same {
-        return param_met(sheet, ws, places, map, f, q, p, k, n, count);
+        return param_met(sheet, sets, ws, places, map, f, q, p, k, n, count);
     }
     Asked::Found { count, n }
 }
@@ -217,6 +237,7 @@ fn add_param(
 // The generics' impl parameters: those that unify with the question are added behind n.
 fn add_params(
     sheet: &[u32],
+    sets: &[u32],
     ws: &mut [u32],
     places: &mut [u32],
     map: &mut [u32],
@@ -232,6 +253,7 @@ fn add_params(
     requires { ⌜ Row (now ws) 1282 n ⌝ }
     requires { ⌜ n ≤ 4 ⌝ }
     requires { ⌜ count ≤ 4000000000 ⌝ }
+    requires { ⌜ Taken (now sheet) (f .generics) (takes-of (now sets)) ⌝ }
     ensures { λ r. ⌜ ParamsStep (finder-of (now (sheet .entry)) f) (now (ws .entry)) (query-of q) n count r (now (ws .exit)) ⌝ }
 {
     let ps = queries::read_params(sheet, f.generics);
@@ -240,7 +262,7 @@ fn add_params(
     let mut k = 0;
     while k < ps.n {
         let p = queries::query_at(ps, k);
-        let one = add_param(sheet, ws, places, map, f, q, p, k, stand, cur);
+        let one = add_param(sheet, sets, ws, places, map, f, q, p, k, stand, cur);
         match one {
             Asked::Refused { number, count } => {
                 return Asked::Refused { number, count };
@@ -261,6 +283,7 @@ fn add_params(
 // Built-in fork and drop, then the generics' impl parameters.
 pub fn before_candidates(
     sheet: &[u32],
+    sets: &[u32],
     ws: &mut [u32],
     places: &mut [u32],
     map: &mut [u32],
@@ -275,6 +298,7 @@ pub fn before_candidates(
     requires { ⌜ 7692 ≤ length (now ws) ⌝ }
     requires { ⌜ basic < 2 ⌝ }
     requires { ⌜ count ≤ 4000000000 ⌝ }
+    requires { ⌜ Taken (now sheet) (f .generics) (takes-of (now sets)) ⌝ }
     ensures { λ r. ⌜ Begins (finder-of (now (sheet .entry)) f) (eqb basic 1) (now (ws .entry)) (query-of q) count r (now (ws .exit)) ⌝ }
 {
     if basic == 1 {
@@ -283,7 +307,7 @@ pub fn before_candidates(
     let first = add_autos(sheet, ws, q, count);
     match first {
         Asked::Refused { number, count } => Asked::Refused { number, count },
-        Asked::Found { count, n } => add_params(sheet, ws, places, map, f, q, n, count),
+        Asked::Found { count, n } => add_params(sheet, sets, ws, places, map, f, q, n, count),
     }
 }
 
@@ -430,6 +454,7 @@ fn open_copy(
 // Opens a candidate behind slot 4: the table there is that of its sub-questions. One that clashes with the question is found unfit before that.
 pub fn open_candidate(
     sheet: &[u32],
+    sets: &[u32],
     ws: &mut [u32],
     places: &mut [u32],
     map: &mut [u32],
@@ -442,9 +467,11 @@ pub fn open_candidate(
     requires { ⌜ Asking (now ws) q ⌝ }
     requires { ⌜ 7692 ≤ length (now ws) ⌝ }
     requires { ⌜ i < many (now sheet) header·impls ⌝ }
+    requires { ⌜ SignatureTakes (now sheet) i (at (now sets) (34948 + i)) ⌝ }
     ensures { λ r. ⌜ Opens (now (sheet .entry)) (now (ws .entry)) (query-of q) i r (now (ws .exit)) ⌝ }
 {
-    if clash::clashes(sheet, ws, places, q, i) {
+    let takes = wide_offset(sets, SETS, i);
+    if clash::clashes(sheet, ws, places, q, i, takes) {
         return no_questions(UNFIT);
     }
     open_copy(sheet, ws, places, map, f, q, i)
@@ -459,24 +486,26 @@ pub fn find_candidates(
     basic: u32,
     q: Query,
 ) -> Found
-    requires { ⌜ Stands (now sheet) (f .source) (now sets) ⌝ }
+    requires { ⌜ Stands (now sheet) (f .source) (sets-of (now sets)) ⌝ }
+    requires { ⌜ 34948 ≤ length (now sets) ⌝ }
     requires { ⌜ q .n ≤ 4 ⌝ }
     ensures { λ r. ⌜ Finds (now (sheet .entry)) (f .source) (types-of (now (ws .entry))) (query-of q) basic r ⌝ }
 {
     let args = [q.args[0], q.args[1], q.args[2], q.args[3]];
     let n = q.n;
-    admitted::find_impl_candidates(sheet, sets, f.source, ws, q.tr, &args[..n], basic)
+    admitted::find_impl_candidates(sheet, &sets[..SETS], f.source, ws, q.tr, &args[..n], basic)
 }
 
 // The next candidate from an id on, or NONE.
 pub fn next_id(s: &[u32], sets: &[u32], f: Found, from: usize) -> usize
-    requires { ⌜ Indexes (now s) (now sets) ⌝ }
+    requires { ⌜ Indexes (now s) (sets-of (now sets)) ⌝ }
+    requires { ⌜ 34948 ≤ length (now sets) ⌝ }
     requires { ⌜ many (now s) header·impls ≤ 384 ⌝ }
     requires { ⌜ f .n ≤ 6 ⌝ }
     requires { ⌜ f .basic < 2 ⌝ }
-    ensures { λ r. ⌜ NextId (now (s .entry)) (now (sets .entry)) f from r ⌝ }
+    ensures { λ r. ⌜ NextId (now (s .entry)) (sets-of (now (sets .entry))) f from r ⌝ }
 {
-    let one = admitted::next(s, sets, f, from);
+    let one = admitted::next(s, &sets[..SETS], f, from);
     match one {
         Candidate::Impl { id } => id,
         Candidate::End => NONE,

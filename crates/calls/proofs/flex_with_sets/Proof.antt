@@ -1,4 +1,5 @@
-use Rattle.calls.specs.Behind.{flex-call, flex-checked, flex-source, new-sets, flex-short-sheet}
+use Rattle.calls.specs.Prepared.{new-sets}
+use Rattle.calls.specs.Behind.{flex-call, flex-prepares}
 use lib.ListN.{length-replicate}
 use mathlib.Core.Path.{sym, _∙_}
 use Prim.Native.Nat.{ℕ}
@@ -8,16 +9,15 @@ use Rattle.calls.proofs.flex_with_sets.Tie as tie
 use Rattle.calls.proofs.flex_with_sets.Reads as reads
 use Rattle.calls.proofs.flex_with_sets.Lts as lts
 use Rattle.flexing.proofs.ask_flex.Reads as ask-flex-reads
-use Rattle.candidates.proofs.build.Reads as build-reads
 
-slice-aggregate-build : tie.Need-slice-aggregate-build
-slice-aggregate-build c = sym (length-replicate {0} {A = ℕ} 34948 0)
+slice-aggregate-prepare : tie.Need-slice-aggregate-prepare
+slice-aggregate-prepare c = sym (length-replicate {0} {A = ℕ} 35080 0)
 
-build-requires : tie.Need-build-requires
-build-requires c κs = (search (needs, flex-checked), search (needs, flex-short-sheet), search (needs, flex-source), new-sets)
+prepare-requires : tie.Need-prepare-requires
+prepare-requires c κs = (search (needs, flex-prepares), new-sets)
 
 slice-aggregate-ask-flex : tie.Need-slice-aggregate-ask-flex
-slice-aggregate-ask-flex c = sym (c .before .before .build .kept .1 .0 ∙ length-replicate {0} {A = ℕ} 34948 0)
+slice-aggregate-ask-flex c = sym (c .before .before .prepare .kept .1 .0 ∙ length-replicate {0} {A = ℕ} 35080 0)
 
 ask-flex-requires : tie.Need-ask-flex-requires
 ask-flex-requires c κs = (search (needs, flex-call), (search needs, (search needs, search needs)))
@@ -35,8 +35,8 @@ pub flex-with-sets-spec : {M : Type 1} → statement M
 flex-with-sets-spec =
     tie.close
     (tie.spec
-    slice-aggregate-build
-    build-requires
+    slice-aggregate-prepare
+    prepare-requires
     slice-aggregate-ask-flex
     ask-flex-requires
     same-length

@@ -1,8 +1,11 @@
--- `clashes`: the records of the signature's table are found, and there is room.
+-- `clashes`: there is room, and the records of the signature's table are found.
 use Rattle.clash.specs.Signatures.{clashes-not, args-few, index-room, index-few, index-length, clash-found}
 use borrow.Author.Needs.{needs}
 use Rattle.clash.proofs.clashes.Statement.{statement}
 use Rattle.clash.proofs.clashes.Tie as tie
+
+has-room-requires : tie.Need-has-room-requires
+has-room-requires c κs = search needs
 
 impl-place-requires : tie.Need-impl-place-requires
 impl-place-requires c κs = search needs
@@ -12,9 +15,6 @@ offset-requires c κs = search needs
 
 index-chain-requires : tie.Need-index-chain-requires
 index-chain-requires c κs = search (needs, index-room)
-
-has-room-requires : tie.Need-has-room-requires
-has-room-requires c κs = search needs
 
 slice-reshare-prefix-clash-at : tie.Need-slice-reshare-prefix-clash-at
 slice-reshare-prefix-clash-at c = search (needs, index-few)
@@ -29,10 +29,7 @@ same-length : tie.Need-same-length
 same-length c = search needs
 
 returns : tie.Need-returns
-returns c = let start = c .before .before .before .before .before .before .before .before .before .before .before .before .before in clash-found _ (start .pre .0) _ (start .pre .1 .0) _ (c .before .before .before .before .before .before .before .before .before .impl-place .ensures) _ (c .before .before .before .before .before .before .before .before .offset .ensures) _ (start .pre .1 .1 .0) _ _ (c .before .before .before .before .before .before .index-chain .ensures) (search needs) _ _ (start .pre .1 .1 .1 .1 .0) (start .pre .1 .1 .1 .1 .1 .0) (start .pre .1 .1 .1 .1 .1 .1) (c .before .before .before .has-room .ensures .room (search needs)) _ (c .clash-at .ensures)
-
-same-length-2 : tie.Need-same-length-2
-same-length-2 c = search needs
+returns c = let start = c .before .before .before .before .before .before .before .before .before .before .before .before .before in clash-found _ (start .pre .1 .0) _ (start .pre .1 .1 .0) _ (c .before .before .before .before .before .before .before .impl-place .ensures) _ (c .before .before .before .before .before .before .offset .ensures) _ (start .pre .1 .1 .1 .0) _ _ (c .before .before .before .before .index-chain .ensures) (search needs) _ _ (start .pre .1 .1 .1 .1 .1 .0) (start .pre .1 .1 .1 .1 .1 .1 .0) (start .pre .1 .1 .1 .1 .1 .1 .1) _ (start .pre .0) (c .before .before .before .before .before .before .before .before .before .has-room .ensures .room (search needs)) _ (c .clash-at .ensures)
 
 returns-2 : tie.Need-returns-2
 returns-2 c = search (needs, clashes-not)
@@ -41,14 +38,13 @@ pub clashes-spec : {M : Type 1} → statement M
 clashes-spec =
     tie.close
     (tie.spec
+    has-room-requires
     impl-place-requires
     offset-requires
     index-chain-requires
-    has-room-requires
     slice-reshare-prefix-clash-at
     slice-aggregate-clash-at
     clash-at-requires
     same-length
     returns
-    same-length-2
     returns-2)

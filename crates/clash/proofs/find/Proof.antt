@@ -1,5 +1,5 @@
 -- `find`: the first link, and on.
-use Rattle.clash.specs.Links.{finds-same, finds-far}
+use Rattle.clash.specs.Links.{finds-far}
 use borrow.Author.Needs.{needs}
 use Rattle.clash.proofs.find.Statement.{statement}
 use Rattle.clash.proofs.find.Tie as tie

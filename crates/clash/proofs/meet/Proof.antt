@@ -1,5 +1,5 @@
 -- `meet`: the roots are found, and met.
-use Rattle.clash.specs.Meeting.{meets-none, meets-found}
+use Rattle.clash.specs.Meeting.{meets-found}
 use borrow.Author.Needs.{needs}
 use Rattle.clash.proofs.meet.Statement.{statement}
 use Rattle.clash.proofs.meet.Tie as tie

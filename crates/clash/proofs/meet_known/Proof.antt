@@ -1,5 +1,5 @@
 -- `meet_known`: by the ids, then the sides.
-use Rattle.clash.specs.Meeting.{known-ids, known-sides, meets-none, roots-put}
+use Rattle.clash.specs.Meeting.{known-ids, known-sides, roots-put}
 use borrow.Author.Needs.{needs}
 use Rattle.clash.proofs.meet_known.Statement.{statement}
 use Rattle.clash.proofs.meet_known.Tie as tie

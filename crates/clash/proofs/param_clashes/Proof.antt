@@ -1,4 +1,4 @@
--- `param_clashes`: the records of the generics' table are found, and there is room.
+-- `param_clashes`: there is room, and the records of the generics' table are found.
 use Rattle.clash.specs.Params.{param-not, param-room, param-few, param-length, param-found}
 use borrow.Author.Needs.{needs}
 use Rattle.clash.proofs.param_clashes.Statement.{statement}
@@ -7,14 +7,14 @@ use Rattle.clash.proofs.param_clashes.Tie as tie
 returns : tie.Need-returns
 returns c = search (needs, param-not)
 
+has-room-requires : tie.Need-has-room-requires
+has-room-requires c κs = search needs
+
 generics-head-requires : tie.Need-generics-head-requires
 generics-head-requires c κs = search needs
 
 index-chain-requires : tie.Need-index-chain-requires
 index-chain-requires c κs = search (needs, param-room)
-
-has-room-requires : tie.Need-has-room-requires
-has-room-requires c κs = search needs
 
 slice-reshare-prefix-args-clash : tie.Need-slice-reshare-prefix-args-clash
 slice-reshare-prefix-args-clash c = search (needs, param-few)
@@ -29,10 +29,7 @@ same-length : tie.Need-same-length
 same-length c = search needs
 
 returns-2 : tie.Need-returns-2
-returns-2 c = let start = c .before .before .before .before .before .before .before .before .before .before .before .before .before .before .before in param-found _ _ (start .pre .0) _ (c .before .before .before .before .before .before .before .before .generics-head .ensures) _ (start .pre .1 .0) _ _ (c .before .before .before .before .before .before .index-chain .ensures) (search needs) _ _ _ (start .pre .1 .1 .1 .0) (start .pre .1 .1 .1 .1 .0) (start .pre .1 .1 .1 .1 .1 .0) (start .pre .1 .1 .1 .1 .1 .1) (search needs) (c .before .before .before .has-room .ensures .room (search needs)) _ (c .args-clash .ensures)
-
-same-length-2 : tie.Need-same-length-2
-same-length-2 c = search needs
+returns-2 c = let start = c .before .before .before .before .before .before .before .before .before .before .before .before .before .before .before in param-found _ _ (start .pre .1 .0) _ (c .before .before .before .before .before .before .generics-head .ensures) _ (start .pre .1 .1 .0) _ _ (c .before .before .before .before .index-chain .ensures) (search needs) _ _ _ (start .pre .1 .1 .1 .1 .0) (start .pre .1 .1 .1 .1 .1 .0) (start .pre .1 .1 .1 .1 .1 .1 .0) (start .pre .1 .1 .1 .1 .1 .1 .1) (search needs) _ (start .pre .0) (c .before .before .before .before .before .before .before .before .has-room .ensures .room (search needs)) _ (c .args-clash .ensures)
 
 returns-3 : tie.Need-returns-3
 returns-3 c = search (needs, param-not)
@@ -42,13 +39,12 @@ param-clashes-spec =
     tie.close
     (tie.spec
     returns
+    has-room-requires
     generics-head-requires
     index-chain-requires
-    has-room-requires
     slice-reshare-prefix-args-clash
     slice-aggregate-args-clash
     args-clash-requires
     same-length
     returns-2
-    same-length-2
     returns-3)

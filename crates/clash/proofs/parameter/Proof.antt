@@ -1,5 +1,5 @@
 -- `parameter`: by the kind of its record.
-use Rattle.clash.specs.Refs.{alike-same, alike-param}
+use Rattle.clash.specs.Refs.{alike-param}
 use borrow.Author.Needs.{needs}
 use Rattle.clash.proofs.parameter.Statement.{statement}
 use Rattle.clash.proofs.parameter.Tie as tie

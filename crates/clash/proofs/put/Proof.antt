@@ -1,5 +1,5 @@
 -- `put`: a link and a pair.
-use Rattle.clash.specs.Meeting.{puts-pair, puts-none}
+use Rattle.clash.specs.Meeting.{puts-pair}
 use borrow.Author.Needs.{needs}
 use Rattle.clash.proofs.put.Statement.{statement}
 use Rattle.clash.proofs.put.Tie as tie

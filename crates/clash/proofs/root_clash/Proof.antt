@@ -1,5 +1,5 @@
--- `root_clash`: by kinds and ids.
-use Rattle.clash.specs.Pairs.{root-clash-not, root-kinds, root-ids}
+-- `root_clash`: by kinds, ids and sides.
+use Rattle.clash.specs.Pairs.{root-clash-not, root-kinds, root-ids, root-sides}
 use borrow.Author.Needs.{needs}
 use Rattle.clash.proofs.root_clash.Statement.{statement}
 use Rattle.clash.proofs.root_clash.Tie as tie
@@ -28,8 +28,17 @@ id-requires-2 c κs = search needs
 returns-4 : tie.Need-returns-4
 returns-4 c = search (needs, root-ids)
 
+apart-requires : tie.Need-apart-requires
+apart-requires c κs = search needs
+
+sided-near-requires : tie.Need-sided-near-requires
+sided-near-requires c κs = search needs
+
 returns-5 : tie.Need-returns-5
-returns-5 c = search (needs, root-clash-not)
+returns-5 c = search (needs, root-sides)
+
+returns-6 : tie.Need-returns-6
+returns-6 c = search (needs, root-clash-not)
 
 pub root-clash-spec : {M : Type 1} → statement M
 root-clash-spec =
@@ -43,4 +52,7 @@ root-clash-spec =
     id-requires
     id-requires-2
     returns-4
-    returns-5)
+    apart-requires
+    sided-near-requires
+    returns-5
+    returns-6)

@@ -9,7 +9,7 @@ abbrev Inv-loop : tie.InvT-loop
 Inv-loop sheet places ws links₀ queue₀ n k₀ end₀ links queue k end = Ran sheet places ws links₀ queue₀ n links queue end
 
 abbrev μ-loop : tie.MeasureT-loop
-μ-loop sheet places ws links₀ queue₀ n k₀ end₀ links queue k end = 512 - k
+μ-loop sheet places ws links₀ queue₀ n k₀ end₀ links queue k end = 256 - k
 
 loop-holds : tie.Need-loop-holds Inv-loop μ-loop
 loop-holds c = search (needs, ran-start)

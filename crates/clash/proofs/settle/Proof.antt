@@ -1,5 +1,5 @@
 -- `settle`: by what its record is.
-use Rattle.clash.specs.Links.{settles-same, settles-param}
+use Rattle.clash.specs.Links.{settles-param}
 use borrow.Author.Needs.{needs}
 use Rattle.clash.proofs.settle.Statement.{statement}
 use Rattle.clash.proofs.settle.Tie as tie

@@ -1,4 +1,4 @@
-use Rattle.finder.specs.Cycle.{Trying, tail-asked, Collecting, few-impls, question-limit, question-depth, question-refused, begun-low, begun-few, begun-row, question-goes, begun-asking, sets-refused, trying-start, trying-refused, trying-on, trying-end, collecting-start, collecting-few, collecting-low, collecting-element, collecting-on, collecting-refused, collecting-end, element-filled, element-tail, sub-none, sub-last-of, first-asked, asked-refused, asked-low, asked-few, asked-elements, asked-goes, searching-sound, searching-stands, searching-indexed, opened-full, opened-unfit, opened-tail, opened-few, opened-sub, opened-long, opened-part, opened-steps, rest-long, rest-element, rest-sub, rest-steps, beside-rest, beside-sub, trying-asking, trying-up, trying-long, trying-low, trying-few, trying-less, begun-long, collecting-long, rest-part, first-part, sub-long}
+use Rattle.finder.specs.Cycle.{Trying, tail-asked, Collecting, few-impls, question-limit, question-depth, question-refused, begun-low, begun-few, begun-row, question-goes, begun-asking, sets-refused, trying-start, trying-refused, trying-on, trying-end, collecting-start, collecting-few, collecting-low, collecting-element, collecting-on, collecting-refused, collecting-end, element-filled, element-tail, sub-none, sub-last-of, first-asked, asked-refused, asked-low, asked-few, asked-elements, asked-goes, searching-sound, searching-long, searching-taken, searching-takes, searching-stands, searching-indexed, opened-full, opened-unfit, opened-tail, opened-few, opened-sub, opened-long, opened-part, opened-steps, rest-long, rest-element, rest-sub, rest-steps, beside-rest, beside-sub, trying-asking, trying-up, trying-long, trying-low, trying-few, trying-less, begun-long, collecting-long, rest-part, first-part, sub-long}
 use Rattle.finder.specs.Tails.{sub-one}
 use Rattle.finder.specs.Steps.{ask-below}
 use Rattle.steps.specs.Asking.{finder-of}
@@ -129,7 +129,7 @@ sub-questions-calls t = (none-left-reads.Asked, none-left-reads.Learnt, query-at
 
 -- src/lib.rt:273:9
 candidate-open-one-requires : (t : ℕ) → candidate-lts.Need-open-one-requires (candidate-calls t) (candidate-at t) candidate.Post
-candidate-open-one-requires t c κs = (search (needs, searching-sound), (search needs, (omega arith, search needs)))
+candidate-open-one-requires t c κs = (search (needs, searching-sound), (search needs, (omega arith, (search needs, search (needs, searching-takes)))))
 
 -- src/lib.rt:275:9
 candidate-same-length : (t : ℕ) → candidate-lts.Need-same-length (candidate-calls t) (candidate-at t) candidate.Post
@@ -189,7 +189,7 @@ candidates-μ-loop sheet sets ws₀ f basic q depth n count found stand₀ cur�
 
 -- src/lib.rt:224:9
 candidates-find-candidates-requires : (t : ℕ) → candidates-lts.Need-find-candidates-requires (candidates-calls t) (candidates-at t) candidates.Post candidates-Inv-loop candidates-μ-loop
-candidates-find-candidates-requires t c κs = (search (needs, searching-stands), search needs)
+candidates-find-candidates-requires t c κs = (search (needs, searching-stands), (search (needs, searching-long), search needs))
 
 -- src/lib.rt:226:9
 candidates-same-length : (t : ℕ) → candidates-lts.Need-same-length (candidates-calls t) (candidates-at t) candidates.Post candidates-Inv-loop candidates-μ-loop
@@ -201,7 +201,7 @@ candidates-returns t c = search (needs, sets-refused)
 
 -- src/lib.rt:233:9
 candidates-next-id-requires : (t : ℕ) → candidates-lts.Need-next-id-requires (candidates-calls t) (candidates-at t) candidates.Post candidates-Inv-loop candidates-μ-loop
-candidates-next-id-requires t c κs = (search (needs, searching-indexed), (search (needs, few-impls), search needs))
+candidates-next-id-requires t c κs = (search (needs, searching-indexed), (search (needs, searching-long), (search (needs, few-impls), search needs)))
 
 -- src/lib.rt:234:5
 candidates-loop-holds : (t : ℕ) → candidates-lts.Need-loop-holds (candidates-calls t) (candidates-at t) candidates.Post candidates-Inv-loop candidates-μ-loop
@@ -233,7 +233,7 @@ candidates-add-next-id t c = omega arith
 
 -- src/lib.rt:245:9
 candidates-next-id-requires-2 : (t : ℕ) → candidates-lts.Need-next-id-requires-2 (candidates-calls t) (candidates-at t) candidates.Post candidates-Inv-loop candidates-μ-loop
-candidates-next-id-requires-2 t c κs = (search (needs, searching-indexed, c .before .before .before .before .before .before .before .before .before .before .before .before .before .before .before .before .before .pre), (search (needs, few-impls, c .before .before .before .before .before .before .before .before .before .before .before .before .before .before .before .before .before .pre), (omega (arith, c .before .before .before .before .before .before .before .before .before .before .before .before .find-candidates .ensures .few), omega (arith, c .before .before .before .before .before .before .before .before .before .before .before .before .find-candidates .ensures .flag, c .before .before .before .before .before .before .before .before .before .before .before .before .before .before .before .before .before .pre))))
+candidates-next-id-requires-2 t c κs = (search (needs, searching-indexed, c .before .before .before .before .before .before .before .before .before .before .before .before .before .before .before .before .before .pre), (search (needs, searching-long, c .before .before .before .before .before .before .before .before .before .before .before .before .before .before .before .before .before .pre), (search (needs, few-impls, c .before .before .before .before .before .before .before .before .before .before .before .before .before .before .before .before .before .pre), (omega (arith, c .before .before .before .before .before .before .before .before .before .before .before .before .find-candidates .ensures .few), omega (arith, c .before .before .before .before .before .before .before .before .before .before .before .before .find-candidates .ensures .flag, c .before .before .before .before .before .before .before .before .before .before .before .before .before .before .before .before .before .pre)))))
 
 -- src/lib.rt:234:5
 candidates-loop-less : (t : ℕ) → candidates-lts.Need-loop-less (candidates-calls t) (candidates-at t) candidates.Post candidates-Inv-loop candidates-μ-loop
@@ -273,7 +273,7 @@ question-add-begin t c = omega arith
 
 -- src/lib.rt:194:9
 question-begin-requires : (t : ℕ) → question-lts.Need-begin-requires (question-calls t) (question-at t) question.Post
-question-begin-requires t c κs = (search (needs, searching-sound), (search needs, (omega arith, (search needs, omega arith))))
+question-begin-requires t c κs = (search (needs, searching-sound), (search needs, (omega arith, (search needs, (omega arith, search (needs, searching-taken))))))
 
 -- src/lib.rt:196:26
 question-enum-known-first : (t : ℕ) → question-lts.Need-enum-known-first (question-calls t) (question-at t) question.Post

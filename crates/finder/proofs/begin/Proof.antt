@@ -15,7 +15,7 @@ returns : tie.Need-returns
 returns c = search needs
 
 begin-middle-requires : tie.Need-begin-middle-requires
-begin-middle-requires c κs = (search needs, (search needs, (search needs, (search needs, (search needs, search needs)))))
+begin-middle-requires c κs = (search needs, (search needs, (search needs, (search needs, (search needs, (search needs, search needs))))))
 
 same-length-2 : tie.Need-same-length-2
 same-length-2 c = search needs

@@ -3,7 +3,7 @@ use Rattle.finder.proofs.open_one.Statement.{statement}
 use Rattle.finder.proofs.open_one.Tie as tie
 
 open-small-requires : tie.Need-open-small-requires
-open-small-requires c κs = (search needs, (search needs, (search needs, (search needs, search needs))))
+open-small-requires c κs = (search needs, (search needs, (search needs, (search needs, (search needs, search needs)))))
 
 same-length : tie.Need-same-length
 same-length c = search needs
@@ -12,7 +12,7 @@ returns : tie.Need-returns
 returns c = search needs
 
 open-middle-requires : tie.Need-open-middle-requires
-open-middle-requires c κs = (search needs, (search needs, (search needs, (search needs, search needs))))
+open-middle-requires c κs = (search needs, (search needs, (search needs, (search needs, (search needs, search needs)))))
 
 same-length-2 : tie.Need-same-length-2
 same-length-2 c = search needs

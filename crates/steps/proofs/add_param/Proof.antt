@@ -8,7 +8,7 @@ approx-eq-requires : tie.Need-approx-eq-requires
 approx-eq-requires c κs = search needs
 
 param-met-requires : tie.Need-param-met-requires
-param-met-requires c κs = (search needs, (search needs, (search needs, (search needs, (search needs, (search (needs, param-same), (search needs, (search needs, search needs))))))))
+param-met-requires c κs = (search needs, (search needs, (search needs, (search needs, (search needs, (search (needs, param-same), (search needs, (search needs, (search needs, search needs)))))))))
 
 same-length : tie.Need-same-length
 same-length c = search needs

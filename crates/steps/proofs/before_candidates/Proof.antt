@@ -17,7 +17,7 @@ enum-known-first-2 : tie.Need-enum-known-first-2
 enum-known-first-2 c = search needs
 
 add-params-requires : tie.Need-add-params-requires
-add-params-requires c κs = (search needs, (search needs, (search (needs, autos-asking), (search needs, (search (needs, autos-row), (search (needs, autos-few), search (needs, autos-low)))))))
+add-params-requires c κs = (search needs, (search needs, (search (needs, autos-asking), (search needs, (search (needs, autos-row), (search (needs, autos-few), (search (needs, autos-low), search needs)))))))
 
 same-length : tie.Need-same-length
 same-length c = search needs
@@ -35,7 +35,7 @@ same-length-4 : tie.Need-same-length-4
 same-length-4 c = search needs
 
 returns-3 : tie.Need-returns-3
-returns-3 c = search (needs, begins-params)
+returns-3 c = search (needs, begins-params, c .before .before .before .before .before .before .before .before .before .before .before .before .before .before .before .add-autos .ensures, c .before .before .before .before .before .before .add-params .ensures, c .before .before .before .before .before .before .before .before .before .before .before .before .before .before .before .before .before .if1 .left, c .before .before .before .before .before .before .before .before .before .before .before .before .before .before .before .before .before .before .before .before .before .before .before .pre .1 .1 .0 .packed)
 
 pub before-candidates-spec : {M : Type 1} → statement M
 before-candidates-spec =

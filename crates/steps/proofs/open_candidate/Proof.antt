@@ -1,13 +1,16 @@
 -- `open_candidate`: a clash, or a copy is opened.
 use Rattle.steps.specs.Asking.{scratch-kept}
 use Rattle.steps.specs.Behind.{sound-sheet}
-use Rattle.steps.specs.Candidate.{opens-clash}
+use Rattle.steps.specs.Candidate.{signature-read, opens-clash}
 use borrow.Author.Needs.{needs}
 use Rattle.steps.proofs.open_candidate.Statement.{statement}
 use Rattle.steps.proofs.open_candidate.Tie as tie
 
+wide-offset-requires : tie.Need-wide-offset-requires
+wide-offset-requires c κs = search needs
+
 clashes-requires : tie.Need-clashes-requires
-clashes-requires c κs = (search (needs, sound-sheet), (search needs, (search needs, (search needs, (search needs, (search needs, search needs))))))
+clashes-requires c κs = (search (needs, signature-read), (search (needs, sound-sheet), (search needs, (search needs, (search needs, (search needs, (search needs, search needs)))))))
 
 no-questions-requires : tie.Need-no-questions-requires
 no-questions-requires c κs = search needs
@@ -40,6 +43,7 @@ pub open-candidate-spec : {M : Type 1} → statement M
 open-candidate-spec =
     tie.close
     (tie.spec
+    wide-offset-requires
     clashes-requires
     no-questions-requires
     same-length

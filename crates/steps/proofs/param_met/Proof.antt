@@ -1,13 +1,16 @@
 -- `param_met`: a clash, or it is opened.
 use Rattle.steps.specs.Asking.{scratch-kept}
 use Rattle.steps.specs.Behind.{calling-of}
-use Rattle.steps.specs.Params.{met-clash}
+use Rattle.steps.specs.Params.{param-read, met-clash}
 use borrow.Author.Needs.{needs}
 use Rattle.steps.proofs.param_met.Statement.{statement}
 use Rattle.steps.proofs.param_met.Tie as tie
 
+wide-offset-requires : tie.Need-wide-offset-requires
+wide-offset-requires c κs = search needs
+
 param-clashes-requires : tie.Need-param-clashes-requires
-param-clashes-requires c κs = (search (needs, calling-of), (search needs, (search needs, (search needs, (search needs, (search needs, search needs))))))
+param-clashes-requires c κs = (search (needs, param-read), (search (needs, calling-of), (search needs, (search needs, (search needs, (search needs, (search needs, search needs)))))))
 
 same-length : tie.Need-same-length
 same-length c = search needs
@@ -37,6 +40,7 @@ pub param-met-spec : {M : Type 1} → statement M
 param-met-spec =
     tie.close
     (tie.spec
+    wide-offset-requires
     param-clashes-requires
     same-length
     same-length-2

@@ -1,9 +1,8 @@
--- `meet_children`: the rows of both, of one length.
-use Rattle.clash.specs.Meeting.{meets-none}
+-- `meet_rows`: the rows of both, of one length.
 use Rattle.clash.specs.Pairs.{children-few, children-clash, children-meet}
 use borrow.Author.Needs.{needs}
-use Rattle.clash.proofs.meet_children.Statement.{statement}
-use Rattle.clash.proofs.meet_children.Tie as tie
+use Rattle.clash.proofs.meet_rows.Statement.{statement}
+use Rattle.clash.proofs.meet_rows.Tie as tie
 
 children-requires : tie.Need-children-requires
 children-requires c κs = search needs
@@ -29,8 +28,8 @@ meet-all-requires c κs = search (needs, children-few)
 returns-4 : tie.Need-returns-4
 returns-4 c = search (needs, children-meet)
 
-pub meet-children-spec : {M : Type 1} → statement M
-meet-children-spec =
+pub meet-rows-spec : {M : Type 1} → statement M
+meet-rows-spec =
     tie.close
     (tie.spec
     children-requires

@@ -1,0 +1,50 @@
+-- `meet_record`: by the kinds, the ids, then the sides.
+use Rattle.clash.specs.Across.{record-kinds, record-ids, record-sides, record-put}
+use borrow.Author.Needs.{needs}
+use Rattle.clash.proofs.meet_record.Statement.{statement}
+use Rattle.clash.proofs.meet_record.Tie as tie
+
+kind-of-requires : tie.Need-kind-of-requires
+kind-of-requires c κs = search needs
+
+returns : tie.Need-returns
+returns c = search (needs, record-kinds)
+
+offset-requires : tie.Need-offset-requires
+offset-requires c κs = search needs
+
+id-of-requires : tie.Need-id-of-requires
+id-of-requires c κs = search needs
+
+returns-2 : tie.Need-returns-2
+returns-2 c = search (needs, record-ids)
+
+across-requires : tie.Need-across-requires
+across-requires c κs = search needs
+
+sided-requires : tie.Need-sided-requires
+sided-requires c κs = search needs
+
+returns-3 : tie.Need-returns-3
+returns-3 c = search (needs, record-sides)
+
+put-requires : tie.Need-put-requires
+put-requires c κs = search needs
+
+returns-4 : tie.Need-returns-4
+returns-4 c = search (needs, record-put)
+
+pub meet-record-spec : {M : Type 1} → statement M
+meet-record-spec =
+    tie.close
+    (tie.spec
+    kind-of-requires
+    returns
+    offset-requires
+    id-of-requires
+    returns-2
+    across-requires
+    sided-requires
+    returns-3
+    put-requires
+    returns-4)
