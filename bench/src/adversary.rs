@@ -202,12 +202,17 @@ fn meetings() -> Vec<(&'static str, Search)> {
     ("candidates with tables of 220 nodes", Search { meeting: Import, dense: 220, ..base }),
     ("types of 110 nodes alike", Search { meeting: Alike, dense: 110, ..base }),
     ("towers of 72 nodes that differ at the bottom", Search { meeting: Bottom, dense: 72, ..base }),
+    ("the same over Errors", Search { meeting: Errors, dense: 72, ..base }),
     ("the same, an unknown at the bottom bound late", Search { meeting: Bound, dense: 72, ..base }),
     (
       "types of 110 nodes alike, and one inverted",
       Search { meeting: Mirrored, dense: 110, ..base },
     ),
     ("types of 110 nodes alike, and one in itself", Search { meeting: Within, dense: 110, ..base }),
+    (
+      "a type of 72 nodes that is not its own inverse",
+      Search { meeting: Unlike, dense: 72, ..base },
+    ),
     (
       "types of 110 nodes alike, and a struct inverted",
       Search { meeting: Turned, dense: 110, ..base },

@@ -20,6 +20,8 @@ pub enum Meeting {
   Alike,
   /// Two types of one shape that differ in their last node alone: there it fails.
   Bottom,
+  /// Two types of one shape whose last nodes are Errors.
+  Errors,
   /// Two types of one shape, an unknown in place of the last node of one: what it is bound to fails at the end.
   Bound,
   /// Two types of one shape, and an argument that is inverted: there it fails.
@@ -34,6 +36,8 @@ pub enum Meeting {
   Unknowns,
   /// Places where a dense type meets its own inverse.
   Inverse,
+  /// A type meets its own inverse, which its last node is not.
+  Unlike,
 }
 
 /// A search in which `branch` candidates of a question ask a sub-question, to so many levels, and all others fail in the last
@@ -184,10 +188,12 @@ impl Search {
       Meeting::Import => (fails, self.dense(table)),
       Meeting::Alike => (self.dense(table), table.add(0, 0, &[])),
       Meeting::Bottom
+      | Meeting::Errors
       | Meeting::Bound
       | Meeting::Brought
       | Meeting::Mirrored
       | Meeting::Turned
+      | Meeting::Unlike
       | Meeting::Within => {
         return self.failing_before(impl_);
       }
@@ -208,9 +214,14 @@ impl Search {
   fn failing_before(&self, mut impl_: Impl) -> Impl {
     let table = &mut impl_.table;
     let [first, second] = match self.meeting {
-      Meeting::Bottom => {
-        let last = table.add(kind::KEY, 0, &[]);
+      Meeting::Bottom | Meeting::Errors => {
+        let errors = self.meeting == Meeting::Errors;
+        let last = table.add(if errors { kind::ERROR } else { kind::KEY }, 0, &[]);
         [tower(table, self.struct_id(), self.dense, last), table.add(0, 0, &[])]
+      }
+      Meeting::Unlike => {
+        let param = table.add(kind::PARAM, 0, &[]);
+        [param, param + 1]
       }
       Meeting::Bound | Meeting::Brought => {
         if self.found > 0 {
@@ -239,14 +250,20 @@ impl Search {
   fn asked(&self, table: &mut Table) -> [u32; 3] {
     let dense = match self.meeting {
       Meeting::Nothing | Meeting::Import | Meeting::Brought => table.add(kind::TUPLE, 0, &[]),
-      Meeting::Bottom | Meeting::Bound => {
-        let last = table.add(kind::TUPLE, 0, &[]);
+      Meeting::Bottom | Meeting::Bound | Meeting::Errors | Meeting::Unlike => {
+        let last = match self.meeting {
+          Meeting::Errors => kind::ERROR,
+          Meeting::Unlike => kind::KEY,
+          _ => kind::TUPLE,
+        };
+        let last = table.add(last, 0, &[]);
         tower(table, self.struct_id(), self.dense, last)
       }
       _ => self.dense(table),
     };
     let met = match self.meeting {
       Meeting::Unknowns | Meeting::Inverse => links(table, self.links, |_| [dense; 7]),
+      Meeting::Unlike => dense,
       Meeting::Bound => table.add(kind::NEVER, 0, &[]),
       Meeting::Mirrored => table.add(kind::ENUM, 0, &[]),
       Meeting::Turned => {
@@ -323,7 +340,8 @@ pub fn random(rng: &mut Rng) -> Search {
   use Meeting::*;
   let (levels, branch) = rng.pick(&[(2, 44), (3, 12), (3, 13), (4, 7), (5, 5), (6, 4), (10, 2)]);
   let meeting = rng.pick(&[
-    Nothing, Import, Alike, Bottom, Bound, Mirrored, Within, Turned, Brought, Unknowns, Inverse,
+    Nothing, Import, Alike, Bottom, Errors, Bound, Mirrored, Within, Turned, Brought, Unknowns,
+    Inverse, Unlike,
   ]);
   let of_structs = rng.chance(50);
   let filler = rng.range(0, 400);
