@@ -92,6 +92,7 @@ record-met s ps ws ls qs e x y p ks rs r ep t = t .at ps ep
 pub record Matches (s : Words) (m : SignedSol) (h b : ℕ) (o : Row) : Type 0 where
   pub same : row s m (record-types s h) ≡ turned s (odd b) (row s m (take (o .n) (o .types)))
 
+-- They are met one by one.
 pub record CellsMet (s ps ws ls qs : Words) (e h b : ℕ) (o : Row) (ks rs : Words) (r : ℕ) : Type 0 where
   pub at : (m : SignedSol) → Meaning s ps ws m → Holds s m ls qs e → Matches s m h b o → Holds s m ks rs r
 
@@ -163,6 +164,7 @@ module _ (s ps ws ls qs : Words) (e h b : ℕ) (o : Row) (ks rs : Words) (r c j 
           rest = λ m q. ap (λ i. row s m (map (cell-type s) (chain-of (length s - (j + 1)) s i))) en ∙ row-rest s m (odd b) _ _ _ _ (pair m q);
         }
 
+-- A row that is told has at most eight types.
 pub row-few : (ws : Words) (n : ℕ) (o : Row) → ChildTypes ws n o → o .n ≢ 9 → o .n ≤ 8
 row-few ws n o c z = c .few z
 
