@@ -18,8 +18,8 @@ use Rattle.table.specs.Packing.{types-of, kind-at, id-at, inverted-at}
 use Rattle.table.specs.Nodes.{types-few}
 use Rattle.table.specs.ChildTypes.{ChildTypes, known-in}
 use Rattle.clash.specs.Meaning.{odd, means, means-turn, turn, row, record-types, record-side, Meaning, made-parts, type-sort}
-use Rattle.clash.specs.Refs.{place, KindOf, kind-node, kind-record, id-node, id-record, side-of, side-node, side-record, type-side, Bit, bit-yes, bit-no, bit-sum, bit-odd, Sided, place-high}
-use Rattle.clash.specs.Meeting.{Holds, Meets, Puts, apart, roots-kinds, known-ids, known-sides, roots-put}
+use Rattle.clash.specs.Refs.{place, KindOf, kind-node, kind-record, id-node, id-record, side-of, side-node, side-record, type-side, Bit, bit-yes, bit-no, bit-sum, bit-odd, place-high}
+use Rattle.clash.specs.Meeting.{Holds, Inverts, Meets, Puts, apart, roots-kinds, known-ids, known-inverted, roots-put}
 use Rattle.clash.specs.Children.{cell-type, cell-types-are, cells-none, cells-more, over-record, gathers-node}
 use Rattle.clash.specs.Pairs.{row-length, row-same, row-rest}
 
@@ -79,8 +79,8 @@ module _ (s ws ls qs : Words) (e x y p k : ℕ) (zp : p ≢ 0) (ek : k ≡ at s 
     pub record-ids : c ≢ d → RecordMet s ws ls qs e x y p ls qs 1000
     record-ids n = record { at = λ ps ep. known-ids s ps ws ls qs e x y k (its-kind ps ep) (same-kind ps) (omega arith) c d (id-record s ps ws (x / 2) p c (high ps ep) ep ec) (id-node s ps ws (y / 2) d low ed) n }
 
-    pub record-sides : (r : ℕ) (b : Bool) → Bit (sides-across s p ws x y) r → r ≡ 1 → Sided s k c b → b ≡ true → RecordMet s ws ls qs e x y p ls qs 1000
-    record-sides r b o er f eb = record { at = λ ps ep. known-sides s ps ws ls qs e x y k (its-kind ps ep) (same-kind ps) (omega arith) c d (id-record s ps ws (x / 2) p c (high ps ep) ep ec) (id-node s ps ws (y / 2) d low ed) r b (across-apart s ps ws p x y r ep (high ps ep) low o) er f eb }
+    pub record-inverted : (b : ℕ) → Bit (sides-across s p ws x y) b → b ≡ 1 → (ks rs : Words) (r : ℕ) → Inverts s ls qs e x y k c ks rs r → RecordMet s ws ls qs e x y p ks rs r
+    record-inverted b o eb ks rs r f = record { at = λ ps ep. known-inverted s ps ws ls qs e x y k (its-kind ps ep) (same-kind ps) (omega arith) c d (id-record s ps ws (x / 2) p c (high ps ep) ep ec) (id-node s ps ws (y / 2) d low ed) b (across-apart s ps ws p x y b ep (high ps ep) low o) eb ks rs r f }
 
 pub record-put : (s ws ls qs : Words) (e x y p : ℕ) (ks rs : Words) (r : ℕ) → Puts ls qs e x y ks rs r → RecordMet s ws ls qs e x y p ks rs r
 record-put s ws ls qs e x y p ks rs r u = record { at = λ ps ep. roots-put s ps ws ls qs e x y ks rs r u }

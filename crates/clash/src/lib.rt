@@ -1,8 +1,9 @@
 // Whether a candidate's signature, or an impl parameter of the caller's generics, and the question cannot unify: a test made before it is opened.
 // It goes by classes of types that have to be the same, and finds a clash: two types of one class that differ in kind, id or number of children, or in side where the kind is not its own inverse,
-// so that a type is met inverted that may not be; or a class that would contain itself, which is the occurs check (`cycles`). Where it finds none nothing is said.
+// so that a type is met inverted that may not be (where a type meets its own inverse, its children meet theirs); or a class that would contain itself, which is the occurs check (`cycles`). Where it finds none nothing is said.
 // A type is twice a ref, and one more if it is inverted. Refs are read modulo 2,048: up to 255 roots of the question's table, from 256 on type parameters, from 1,024 on nodes of the signature's table by their records.
-// `links` has for each ref 0, or 1 and the type that the ref is, of the same class; `queue` has pairs of types that are the same and whose children are to be met.
+// `links` has for each ref 0, or 1 and the type that the ref is, of the same class; `queue` has pairs of types that are the same and whose children are to be met, in its first 256 words;
+// then, by refs modulo 256, 1 and the ref that was queued with its own inverse last; and in its last word how many links were gone to look for self-dual marks.
 ghost use mathlib.Core.Path.{_≡_};
 ghost use Prim.Native.Nat.{_+_, _-_, _*_, _/_, _%_, _<_, _≤_};
 ghost use mathlib.Core.Logic.{_≢_};
@@ -20,7 +21,7 @@ ghost use Rattle.opening.specs.Sound.{Sound};
 ghost use Rattle.clash.specs.Refs.{place, KindOf, IdOf, side-of, type-side, Bit, Sided, Alike};
 ghost use Rattle.clash.specs.Meaning.{turn as turn-of, record-side};
 ghost use Rattle.clash.specs.Links.{Finds, Links, Settles};
-ghost use Rattle.clash.specs.Meeting.{Puts, Meets, apart as apart-of};
+ghost use Rattle.clash.specs.Meeting.{Aside, Queues, Puts, Decides, Inverts, Meets, apart as apart-of};
 ghost use Rattle.clash.specs.Children.{Cells, Gathers};
 ghost use Rattle.clash.specs.Pairs.{Goes, Ends, ArgsMet, RootClash, Clashing};
 ghost use Rattle.clash.specs.Across.{sides-across, RecordMet, CellsMet};
@@ -40,6 +41,9 @@ const PARAMS: u32 = 256;
 const RECORDS: u32 = 1024;
 
 const QUEUE: usize = 256;
+
+// The word of the queue that counts the links gone.
+const GONE: usize = 512;
 
 // What a clash is told by, in place of the queue's end.
 const CLASH: usize = 1000;
@@ -288,7 +292,7 @@ fn settle(sheet: &[u32], places: &[u32], links: &mut [u32; 2048], x: u32) -> u32
 }
 
 // Links x to y, and queues the pair; nothing where the queue is full.
-fn put(links: &mut [u32; 2048], queue: &mut [u32; 256], end: usize, x: u32, y: u32) -> usize
+fn put(links: &mut [u32; 2048], queue: &mut [u32; 513], end: usize, x: u32, y: u32) -> usize
     ensures { λ r. ⌜ Puts (now (links .entry)) (now (queue .entry)) end x y (now (links .exit)) (now (queue .exit)) r ⌝ }
 {
     if end >= QUEUE {
@@ -338,13 +342,92 @@ fn sided_near(sheet: &[u32], k: u32, d: u32) -> bool
     true
 }
 
+// Whether the self-dual mark of id d may be looked for: as long as few links were gone in this test. They are counted.
+fn may_look(queue: &mut [u32; 513], end: usize, d: u32) -> bool
+    ensures { λ _. ⌜ Aside (now (queue .entry)) end (now (queue .exit)) ⌝ }
+{
+    if d >= NEAR {
+        return false;
+    }
+    if end >= QUEUE {
+        return false;
+    }
+    let gone = queue[GONE];
+    if gone >= NEAR {
+        return false;
+    }
+    queue[GONE] = gone + d + 1;
+    true
+}
+
+// Whether a self-dual mark tells which ids of a kind are their own inverses.
+fn is_marked(k: u32) -> bool {
+    if k == STRUCT {
+        return true;
+    }
+    k == UNION
+}
+
+// Whether a kind and id is surely not its own inverse; of Structs and Unions, nothing is said where the mark may not be looked for.
+fn sided_once(sheet: &[u32], queue: &mut [u32; 513], end: usize, k: u32, d: u32) -> bool
+    ensures { λ r. ⌜ Decides (now (sheet .entry)) (now (queue .entry)) end k d (now (queue .exit)) r ⌝ }
+{
+    if is_marked(k) {
+        if may_look(queue, end, d) {
+            return sided_near(sheet, k, d);
+        }
+        return false;
+    }
+    sided(sheet, k, d)
+}
+
+// A type and its inverse, which are the same: queued, so that its children are met with their own inverses, unless that was done.
+fn mirror(queue: &mut [u32; 513], end: usize, x: u32, y: u32) -> usize
+    ensures { λ r. ⌜ Queues (now (queue .entry)) end x y (now (queue .exit)) r ⌝ }
+{
+    if end >= QUEUE {
+        return end;
+    }
+    let r = x / 2;
+    let at = QUEUE + words::wide(r % 256);
+    if queue[at] == r + 1 {
+        return end;
+    }
+    queue[at] = r + 1;
+    let pair = x % 4096 + 4096 * (y % 4096);
+    queue[end] = pair;
+    end + 1
+}
+
+// Meets two types of kind k and id d that differ in side.
+fn meet_inverted(
+    sheet: &[u32],
+    links: &mut [u32; 2048],
+    queue: &mut [u32; 513],
+    end: usize,
+    x: u32,
+    y: u32,
+    k: u32,
+    d: u32,
+) -> usize
+    ensures { λ r. ⌜ Inverts (now (sheet .entry)) (now (links .entry)) (now (queue .entry)) end x y k d (now (links .exit)) (now (queue .exit)) r ⌝ }
+{
+    if sided_once(sheet, queue, end, k, d) {
+        return CLASH;
+    }
+    if x / 2 == y / 2 {
+        return mirror(queue, end, x, y);
+    }
+    put(links, queue, end, x, y)
+}
+
 // Meets two types of kind k.
 fn meet_known(
     sheet: &[u32],
     places: &[u32],
     ws: &[u32],
     links: &mut [u32; 2048],
-    queue: &mut [u32; 256],
+    queue: &mut [u32; 513],
     end: usize,
     x: u32,
     y: u32,
@@ -360,12 +443,7 @@ fn meet_known(
         return CLASH;
     }
     if apart(sheet, places, ws, x, y) == 1 {
-        if sided(sheet, k, d) {
-            return CLASH;
-        }
-    }
-    if x / 2 == y / 2 {
-        return end;
+        return meet_inverted(sheet, links, queue, end, x, y, k, d);
     }
     put(links, queue, end, x, y)
 }
@@ -376,7 +454,7 @@ fn meet_roots(
     places: &[u32],
     ws: &[u32],
     links: &mut [u32; 2048],
-    queue: &mut [u32; 256],
+    queue: &mut [u32; 513],
     end: usize,
     x: u32,
     y: u32,
@@ -405,7 +483,7 @@ fn meet_found(
     places: &[u32],
     ws: &[u32],
     links: &mut [u32; 2048],
-    queue: &mut [u32; 256],
+    queue: &mut [u32; 513],
     end: usize,
     a: u32,
     b: u32,
@@ -426,7 +504,7 @@ fn meet(
     places: &[u32],
     ws: &[u32],
     links: &mut [u32; 2048],
-    queue: &mut [u32; 256],
+    queue: &mut [u32; 513],
     end: usize,
     a: u32,
     b: u32,
@@ -447,7 +525,7 @@ fn meet_all(
     places: &[u32],
     ws: &[u32],
     links: &mut [u32; 2048],
-    queue: &mut [u32; 256],
+    queue: &mut [u32; 513],
     end: usize,
     xs: Row,
     ys: Row,
@@ -488,7 +566,7 @@ fn meet_record(
     sheet: &[u32],
     ws: &[u32],
     links: &mut [u32; 2048],
-    queue: &mut [u32; 256],
+    queue: &mut [u32; 513],
     end: usize,
     x: u32,
     y: u32,
@@ -509,9 +587,7 @@ fn meet_record(
         return CLASH;
     }
     if across(sheet, p, ws, x, y) == 1 {
-        if sided(sheet, k, d) {
-            return CLASH;
-        }
+        return meet_inverted(sheet, links, queue, end, x, y, k, d);
     }
     put(links, queue, end, x, y)
 }
@@ -522,7 +598,7 @@ fn meet_new(
     places: &[u32],
     ws: &[u32],
     links: &mut [u32; 2048],
-    queue: &mut [u32; 256],
+    queue: &mut [u32; 513],
     end: usize,
     x: u32,
     y: u32,
@@ -547,7 +623,7 @@ fn meet_cell(
     places: &[u32],
     ws: &[u32],
     links: &mut [u32; 2048],
-    queue: &mut [u32; 256],
+    queue: &mut [u32; 513],
     end: usize,
     x: u32,
     y: u32,
@@ -570,7 +646,7 @@ fn meet_cells(
     places: &[u32],
     ws: &[u32],
     links: &mut [u32; 2048],
-    queue: &mut [u32; 256],
+    queue: &mut [u32; 513],
     end: usize,
     head: usize,
     ys: Row,
@@ -608,7 +684,7 @@ fn meet_across(
     places: &[u32],
     ws: &[u32],
     links: &mut [u32; 2048],
-    queue: &mut [u32; 256],
+    queue: &mut [u32; 513],
     end: usize,
     x: u32,
     y: u32,
@@ -653,7 +729,7 @@ fn meet_rows(
     places: &[u32],
     ws: &[u32],
     links: &mut [u32; 2048],
-    queue: &mut [u32; 256],
+    queue: &mut [u32; 513],
     end: usize,
     x: u32,
     y: u32,
@@ -682,7 +758,7 @@ fn meet_children(
     places: &[u32],
     ws: &[u32],
     links: &mut [u32; 2048],
-    queue: &mut [u32; 256],
+    queue: &mut [u32; 513],
     end: usize,
     x: u32,
     y: u32,
@@ -704,7 +780,7 @@ fn run(
     places: &[u32],
     ws: &[u32],
     links: &mut [u32; 2048],
-    queue: &mut [u32; 256],
+    queue: &mut [u32; 513],
     n: usize,
 ) -> bool
     requires { ⌜ Packed (now ws) ⌝ }
@@ -741,7 +817,7 @@ fn meet_args(
     places: &[u32],
     ws: &[u32],
     links: &mut [u32; 2048],
-    queue: &mut [u32; 256],
+    queue: &mut [u32; 513],
     p: Query,
     q: Query,
 ) -> usize
@@ -769,7 +845,7 @@ fn clash_args(sheet: &[u32], places: &[u32], ws: &[u32], p: Query, q: Query) -> 
     ensures { λ r. ⌜ Clashing (now (sheet .entry)) (now (places .entry)) (now (ws .entry)) p q r ⌝ }
 {
     let mut links = [0u32; 2048];
-    let mut queue = [0u32; 256];
+    let mut queue = [0u32; 513];
     let n = meet_args(sheet, places, ws, &mut links, &mut queue, p, q);
     if n == CLASH {
         return true;

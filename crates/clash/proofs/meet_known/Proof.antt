@@ -1,5 +1,5 @@
 -- `meet_known`: by the ids, then the sides.
-use Rattle.clash.specs.Meeting.{known-ids, known-sides, roots-put}
+use Rattle.clash.specs.Meeting.{known-ids, known-inverted, roots-put}
 use borrow.Author.Needs.{needs}
 use Rattle.clash.proofs.meet_known.Statement.{statement}
 use Rattle.clash.proofs.meet_known.Tie as tie
@@ -16,20 +16,17 @@ returns c = search (needs, known-ids)
 apart-requires : tie.Need-apart-requires
 apart-requires c κs = search needs
 
-sided-requires : tie.Need-sided-requires
-sided-requires c κs = search needs
+meet-inverted-requires : tie.Need-meet-inverted-requires
+meet-inverted-requires c κs = search needs
 
 returns-2 : tie.Need-returns-2
-returns-2 c = search (needs, known-sides)
-
-returns-3 : tie.Need-returns-3
-returns-3 c = search needs
+returns-2 c = search (needs, known-inverted)
 
 put-requires : tie.Need-put-requires
 put-requires c κs = search needs
 
-returns-4 : tie.Need-returns-4
-returns-4 c = search (needs, roots-put)
+returns-3 : tie.Need-returns-3
+returns-3 c = search (needs, roots-put)
 
 pub meet-known-spec : {M : Type 1} → statement M
 meet-known-spec =
@@ -39,8 +36,7 @@ meet-known-spec =
     id-requires-2
     returns
     apart-requires
-    sided-requires
+    meet-inverted-requires
     returns-2
-    returns-3
     put-requires
-    returns-4)
+    returns-3)

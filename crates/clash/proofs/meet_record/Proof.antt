@@ -1,5 +1,5 @@
 -- `meet_record`: by the kinds, the ids, then the sides.
-use Rattle.clash.specs.Across.{record-kinds, record-ids, record-sides, record-put}
+use Rattle.clash.specs.Across.{record-kinds, record-ids, record-inverted, record-put}
 use borrow.Author.Needs.{needs}
 use Rattle.clash.proofs.meet_record.Statement.{statement}
 use Rattle.clash.proofs.meet_record.Tie as tie
@@ -22,11 +22,11 @@ returns-2 c = search (needs, record-ids)
 across-requires : tie.Need-across-requires
 across-requires c κs = search needs
 
-sided-requires : tie.Need-sided-requires
-sided-requires c κs = search needs
+meet-inverted-requires : tie.Need-meet-inverted-requires
+meet-inverted-requires c κs = search needs
 
 returns-3 : tie.Need-returns-3
-returns-3 c = search (needs, record-sides)
+returns-3 c = search (needs, record-inverted)
 
 put-requires : tie.Need-put-requires
 put-requires c κs = search needs
@@ -44,7 +44,7 @@ meet-record-spec =
     id-of-requires
     returns-2
     across-requires
-    sided-requires
+    meet-inverted-requires
     returns-3
     put-requires
     returns-4)
