@@ -72,6 +72,7 @@ pub mod SearchKeeps
 pub mod SubQuestions
 pub mod CommonTerms
 pub mod CommonSides
+pub mod ErrorsApart
 pub mod SignedTerms
 pub mod CallKeeps
 pub mod ResultLimits

@@ -1,5 +1,5 @@
--- Types read as terms with sides, so that inversion counts; and what a candidate's signature, or an impl parameter of the caller's generics, and the question have in common where they unify, in these words.
-use Prim.Native.Nat.{ℕ, zero, suc, _≤_, _<_}
+-- Types read as terms with sides, so that inversion counts, each Error by a name of its own; and what a candidate's signature, or an impl parameter of the caller's generics, and the question have in common where they unify, in these words.
+use Prim.Native.Nat.{ℕ, zero, suc, _+_, _≤_, _<_}
 use mathlib.Core.Path.{_≡_, refl, sym, _∙_, ap, ap₂, subst}
 use mathlib.Core.Bool.{Bool, true, false, not, _&&_, _||_, true≢false}
 use mathlib.Core.List.{List, [], _∷_, map}
@@ -12,12 +12,12 @@ use lib.Dec.{T, eqb, eqb→eq}
 use lib.ListN.{length, getD, set, length-append, length-set}
 use Rattle.rules.specs.Lists.{Words, all}
 use Rattle.rules.specs.Layout.{header·impls, kind·closure, kind·error, kind·param}
-use Rattle.rules.specs.Sheet.{many, kind-flag, row·own-inverse, row·may-meet, generics-table, impl-table}
+use Rattle.rules.specs.Sheet.{many, self-dual, kind-flag, row·own-inverse, row·may-meet, generics-table, impl-table}
 use Rattle.rules.specs.Types.{Ty, TypeState, unknown, known, TypeNode, Types, new-node, node-at, xor, invert-if, invert-state, find, state-at, kind, self-inverse-in, self-inverse, success, from-bool, larger, or-else, hang, join, Unified, occurs-in, unify-each, unify-types, unify-children, unify-known, bind-unknown, unify-states, unify-roots, unify-in, unify, ImplType, unify-impl-type}
 use Rattle.rules.specs.Transfer.{Transfer, mapped, param-for, transfer-each, transfer-in, transfer-types, import-types, import-impl-type}
 use Rattle.rules.specs.Search.{Finder, impl-signature, impl-params, fresh-params, with-fresh}
-use Rattle.rules.specs.Solutions.{term-size, Sol, terms, rep, Fits, Solves, AllIn, ChildrenIn, WellFormed, eqb-true, eqb-false, known≢, Readable}
-use Rattle.rules.specs.Joining.{hang-state, hang-top, agree, same-terms, alike, join-mates, Mates}
+use Rattle.rules.specs.Solutions.{term-size, Sol, terms, rep, Fits, Solves, AllIn, ChildrenIn, WellFormed, eqb-true, eqb-false, Readable}
+use Rattle.rules.specs.Joining.{hang-state, hang-top, After, agree, alike, join-mates, Mates}
 use Rattle.rules.specs.MostGeneral.{Won, Right, AfterAll, both-won, flip-in, each-right, known-right, join-won, states-right, unify-in-right}
 use Rattle.rules.specs.RootRank.{rank, child-in}
 use Rattle.rules.specs.Readings.{Ranked, readable-ranked, readable-most}
@@ -31,6 +31,7 @@ use Rattle.rules.specs.Neat.{Neat, Brought, Joined, in-more, low-none, q
 use Rattle.rules.specs.SearchKeeps.{fresh-count, met, signature-brought}
 use Rattle.rules.specs.CommonTerms.{Frame, frame-state, snoc-state, set-state, each-frame, past-push, in-frame, fresh-first, Bare, params-bare, impl-type-right}
 use Rattle.rules.specs.CommonSides.{xor-comm, xor-assoc, xor-none, xor-twice, same-side, side-by, up-stays, up-turns, known-met}
+use Rattle.rules.specs.ErrorsApart.{IsError, Apart, Still, known-plain, known-still, impl-type-apart, import-came, import-once}
 
 -- Terms with sides: unknowns, upright or inverted; types of a side, a kind and an id over their children; and lists of children.
 pub data Signed : Type 0 where
@@ -66,32 +67,41 @@ values s θ (c ∷ cs) = scons (value s θ c) (values s θ cs)
 unfoldable pub made : Words → Bool → ℕ → ℕ → Signed → Signed
 made s i k d t = elim (kind-flag s row·own-inverse k d) [ true ↦ scon false k d (turned s i t) | false ↦ scon i k d t ]
 
+-- The id of a known type of kind k at root r; for an Error, which never joins another, the name that ν gives its root.
+unfoldable pub label : (ℕ → ℕ) → ℕ → ℕ → ℕ → ℕ
+label ν k d r = elim (eqb k kind·error) [ true ↦ ν r | false ↦ d ]
+
 -- The term of root r is what its state says.
-abbrev pub SignedFits : Words → SignedSol → ℕ → TypeState → Type 0
-SignedFits s θ r unknown = Unit {0}
-SignedFits s θ r (known i k d cs) = θ r ≡ made s i k d (values s θ cs)
+abbrev pub SignedFits : Words → (ℕ → ℕ) → SignedSol → ℕ → TypeState → Type 0
+SignedFits s ν θ r unknown = Unit {0}
+SignedFits s ν θ r (known i k d cs) = θ r ≡ made s i k (label ν k d r) (values s θ cs)
 
 -- The solutions of a table with sides: every node has the term of the type of its root that it is, and every root that of its state.
-abbrev pub SignedSolves : Words → Types → SignedSol → Type 0
-SignedSolves s ts θ = (n : ℕ) → n < length ts → (θ n ≡ value s θ ((node-at ts n) .up)) × SignedFits s θ (rep ts n) (state-at ts (rep ts n))
+abbrev pub SignedSolves : Words → (ℕ → ℕ) → Types → SignedSol → Type 0
+SignedSolves s ν ts θ = (n : ℕ) → n < length ts → (θ n ≡ value s θ ((node-at ts n) .up)) × SignedFits s ν θ (rep ts n) (state-at ts (rep ts n))
 
 -- The term of root n of a source by its state: a Param is what π gives it, inverted as it is.
-abbrev pub SignedSuits : Words → SignedSol → SignedSol → ℕ → TypeState → Type 0
-SignedSuits s π τ n unknown = Unit {0}
-SignedSuits s π τ n (known i k d cs) = elim (eqb k kind·param) as (λ b. Type 0) [ true ↦ τ n ≡ turned s i (π d) | false ↦ τ n ≡ made s i k d (values s τ cs) ]
+abbrev pub SignedSuits : Words → (ℕ → ℕ) → SignedSol → SignedSol → ℕ → TypeState → Type 0
+SignedSuits s ν π τ n unknown = Unit {0}
+SignedSuits s ν π τ n (known i k d cs) = elim (eqb k kind·param) as (λ b. Type 0) [ true ↦ τ n ≡ turned s i (π d) | false ↦ τ n ≡ made s i k (label ν k d n) (values s τ cs) ]
 
 -- τ reads a source table whose nodes are their own roots, its Params as π says.
-abbrev pub SignedReads : Words → Types → SignedSol → SignedSol → Type 0
-SignedReads s src π τ = (n : ℕ) → n < length src → SignedSuits s π τ n (state-at src n)
+abbrev pub SignedReads : Words → (ℕ → ℕ) → Types → SignedSol → SignedSol → Type 0
+SignedReads s ν src π τ = (n : ℕ) → n < length src → SignedSuits s ν π τ n (state-at src n)
 
--- Terms with sides that the types xs of a source and the types ys of a table both are: in a solution of the table, and in a reading of the source by some choice for its Params.
+-- Terms with sides that the types xs of a source and the types ys of a table both are: in a solution of the table, and in a reading of the source by some choice for its Params. No two Errors have one name, be they of the table, of the source, or one of either.
 pub record SignedCommon (s : Words) (ts src : Types) (xs ys : List Ty) : Type 0 where
   pub σ : SignedSol
-  pub solves : SignedSolves s ts σ
+  pub name : ℕ → ℕ
+  pub solves : SignedSolves s name ts σ
   pub π : SignedSol
   pub τ : SignedSol
-  pub reads : SignedReads s src π τ
+  pub called : ℕ → ℕ
+  pub reads : SignedReads s called src π τ
   pub same : values s τ xs ≡ values s σ ys
+  pub apart : (a b : ℕ) → a < length ts → b < length ts → rep ts a ≡ a → rep ts b ≡ b → IsError (state-at ts a) → IsError (state-at ts b) → name a ≡ name b → a ≡ b
+  pub apart-source : (a b : ℕ) → a < length src → b < length src → IsError (state-at src a) → IsError (state-at src b) → called a ≡ called b → a ≡ b
+  pub apart-both : (a b : ℕ) → a < length src → b < length ts → rep ts b ≡ b → IsError (state-at src a) → IsError (state-at ts b) → called a ≢ name b
 
 not-twice : (b : Bool) → not (not b) ≡ b
 not-twice true = refl
@@ -200,6 +210,38 @@ module _ (s : Words) where
           let z : inv ≡ false = ap (λ x. xor x (xor j b)) (f q) ∙ xor-self (xor j b) in
           made-other i k d t q ∙ ap₂ (λ (x : Bool) (y : Signed). scon x k d y) (sym (side-by b a i j (f q))) (e ∙ ap (λ x. turned s x u) z) ∙ sym (made-other (xor (xor b a) j) k d u q)
 
+-- The label of what is no Error is its id,
+pub label-plain : (ν : ℕ → ℕ) (k d r : ℕ) → k ≢ kind·error → label ν k d r ≡ d
+unfolding label
+label-plain ν k d r h = rw (eqb-false k kind·error h, label)
+
+-- that of an Error its name,
+pub label-error : (ν : ℕ → ℕ) (k d r : ℕ) → k ≡ kind·error → label ν k d r ≡ ν r
+unfolding label
+label-error ν k d r h = rw (eqb-true k kind·error h, label)
+
+-- one where names are one.
+pub label-same : (ν μ : ℕ → ℕ) (k d r r′ : ℕ) → ν r ≡ μ r′ → label ν k d r ≡ label μ k d r′
+unfolding label
+label-same ν μ k d r r′ e = go (eqb k kind·error) refl
+  where
+    go : (b : Bool) → eqb k kind·error ≡ b → label ν k d r ≡ label μ k d r′
+    go true q = rw (q, label) e
+    go false q = rw (q, label)
+
+-- Flags do not depend on the name of an Error.
+pub label-flag : (s : Words) (j : ℕ) (ν : ℕ → ℕ) (k d r : ℕ) → kind-flag s j k (label ν k d r) ≡ kind-flag s j k d
+unfolding label kind-flag self-dual
+label-flag s j ν k d r = go (ℕ-discrete k kind·error)
+  where
+    go : Dec (k ≡ kind·error) → kind-flag s j k (label ν k d r) ≡ kind-flag s j k d
+    go (yes q) = subst (λ x. kind-flag s j x (label ν x d r) ≡ kind-flag s j x d) (sym q) refl
+    go (no q) = ap (kind-flag s j k) (label-plain ν k d r q)
+
+-- Nodes of one class have one name.
+abbrev pub Named : (ℕ → ℕ) → Types → Type 0
+Named ν ts = (a b : ℕ) → a < length ts → b < length ts → rep ts a ≡ rep ts b → ν a ≡ ν b
+
 -- Below a bound, if there is one.
 abbrev Under : Option ℕ → ℕ → Type 0
 Under none n = Unit {0}
@@ -210,14 +252,14 @@ under-less none m n l u = tt
 under-less (some b) m n l u = omega arith
 
 -- θ solves a table at the nodes whose terms, in the solution σ without sides, are below a bound.
-abbrev SolvesOn : Words → Sol → Option ℕ → Types → SignedSol → Type 0
-SolvesOn s σ o ts θ = (n : ℕ) → n < length ts → Under o (term-size (σ n)) → (θ n ≡ value s θ ((node-at ts n) .up)) × SignedFits s θ (rep ts n) (state-at ts (rep ts n))
+abbrev SolvesOn : Words → (ℕ → ℕ) → Sol → Option ℕ → Types → SignedSol → Type 0
+SolvesOn s ν σ o ts θ = (n : ℕ) → n < length ts → Under o (term-size (σ n)) → (θ n ≡ value s θ ((node-at ts n) .up)) × SignedFits s ν θ (rep ts n) (state-at ts (rep ts n))
 
--- The states of two roots, to be joined as types inverted as a and b say: where both are known they are of one kind and id, of one side if it is not its own inverse, and of one list of children, inverted as they met.
+-- The states of two roots, to be joined as types inverted as a and b say: where both are known they are of one kind and id, no Errors, of one side if it is not its own inverse, and of one list of children, inverted as they met.
 abbrev Agreed : Words → SignedSol → Bool → Bool → TypeState → TypeState → Type 0
 Agreed s θ a b unknown v = Unit {0}
 Agreed s θ a b (known i k d xs) unknown = Unit {0}
-Agreed s θ a b (known i k d xs) (known j k′ d′ ys) = (k ≡ k′) × (d ≡ d′) × (kind-flag s row·own-inverse k d ≡ false → xor i a ≡ xor j b) × (values s θ xs ≡ turned s (xor (xor i a) (xor j b)) (values s θ ys))
+Agreed s θ a b (known i k d xs) (known j k′ d′ ys) = (k ≡ k′) × (d ≡ d′) × (kind-flag s row·own-inverse k d ≡ false → xor i a ≡ xor j b) × (values s θ xs ≡ turned s (xor (xor i a) (xor j b)) (values s θ ys)) × (k ≢ kind·error)
 
 agreed-flip : (s : Words) (θ : SignedSol) (a b : Bool) (u v : TypeState) → Agreed s θ a b u v → Agreed s θ b a v u
 agreed-flip s θ a b unknown unknown f = tt
@@ -228,6 +270,7 @@ agreed-flip s θ a b (known i k d xs) (known j k′ d′ ys) f = (
   sym (f .1),
   λ o. sym (f .2 (ap₂ (kind-flag s row·own-inverse) (f .0) (f .1) ∙ o)),
   sym (turned-back s (xor (xor i a) (xor j b)) (values s θ ys)) ∙ ap (turned s (xor (xor i a) (xor j b))) (sym (f .3)) ∙ ap (λ x. turned s x (values s θ xs)) (xor-comm (xor i a) (xor j b)),
+  λ q. f .4 (f .0 ∙ q),
 )
 
 agreed-right : (s : Words) (θ : SignedSol) (a b : Bool) (u : TypeState) → Agreed s θ a b u unknown
@@ -235,7 +278,7 @@ agreed-right s θ a b unknown = tt
 agreed-right s θ a b (known i k d xs) = tt
 
 -- Root lo was hung under root hi: what solves the table that is left solves the one before, if what is known of them agrees.
-module _ (s : Words) (ts : Types) (lo hi : Ty) (hlo : lo .1 < length ts) (hhi : hi .1 < length ts) (rlo : rep ts (lo .1) ≡ lo .1) (rhi : rep ts (hi .1) ≡ hi .1) (ne : lo .1 ≢ hi .1) (formed : WellFormed ts) (upright : RootsUpright ts) (σ : Sol) (o : Option ℕ) (under : Under o (term-size (σ (lo .1)))) (θ : SignedSol) (sv : SolvesOn s σ o (hang ts lo hi) θ) where
+module _ (s : Words) (ν : ℕ → ℕ) (ts : Types) (lo hi : Ty) (hlo : lo .1 < length ts) (hhi : hi .1 < length ts) (rlo : rep ts (lo .1) ≡ lo .1) (rhi : rep ts (hi .1) ≡ hi .1) (ne : lo .1 ≢ hi .1) (formed : WellFormed ts) (upright : RootsUpright ts) (named : ν (lo .1) ≡ ν (hi .1)) (σ : Sol) (o : Option ℕ) (under : Under o (term-size (σ (lo .1)))) (θ : SignedSol) (sv : SolvesOn s ν σ o (hang ts lo hi) θ) where
   on : (n : ℕ) → n < length ts → n < length (hang ts lo hi)
   on n h = subst (λ m. n < m) (sym (hung-length ts lo hi)) h
 
@@ -261,74 +304,77 @@ module _ (s : Words) (ts : Types) (lo hi : Ty) (hlo : lo .1 < length ts) (hhi : 
           ∙ ap (turned s ((node-at ts n) .up .0)) (sym low) ∙ ap (λ m. turned s ((node-at ts n) .up .0) (θ m)) (sym q)
       go (no q) = sv n (on n h) u .0 ∙ ap (value s θ) (up-stays ts lo hi hlo hhi rlo rhi ne formed n h (upright n h) q)
 
-  top-hi : (r : ℕ) (u v : TypeState) → SignedFits s θ r (or-else u v) → SignedFits s θ r u
+  top-hi : (r : ℕ) (u v : TypeState) → SignedFits s ν θ r (or-else u v) → SignedFits s ν θ r u
   unfolding or-else
   top-hi r unknown v a = tt
   top-hi r (known i k d cs) v a = a
 
-  back-fit : (n : ℕ) → n < length ts → Under o (term-size (σ n)) → rep ts n ≢ lo .1 → SignedFits s θ (rep ts n) (state-at ts (rep ts n))
+  back-fit : (n : ℕ) → n < length ts → Under o (term-size (σ n)) → rep ts n ≢ lo .1 → SignedFits s ν θ (rep ts n) (state-at ts (rep ts n))
   unfolding rep
   back-fit n h u q = go (ℕ-discrete (rep ts n) (hi .1))
     where
       same : rep (hang ts lo hi) n ≡ rep ts n
       same = ap (λ (t : Ty). t .1) (up-stays ts lo hi hlo hhi rlo rhi ne formed n h (upright n h) q)
 
-      fit : SignedFits s θ (rep ts n) (state-at (hang ts lo hi) (rep ts n))
-      fit = subst (λ r. SignedFits s θ r (state-at (hang ts lo hi) r)) same (sv n (on n h) u .1)
+      fit : SignedFits s ν θ (rep ts n) (state-at (hang ts lo hi) (rep ts n))
+      fit = subst (λ r. SignedFits s ν θ r (state-at (hang ts lo hi) r)) same (sv n (on n h) u .1)
 
-      go : Dec (rep ts n ≡ hi .1) → SignedFits s θ (rep ts n) (state-at ts (rep ts n))
-      go (yes z) = subst (SignedFits s θ (rep ts n)) (ap (state-at ts) (sym z)) (top-hi (rep ts n) (state-at ts (hi .1)) _ (subst (SignedFits s θ (rep ts n)) (ap (state-at (hang ts lo hi)) z ∙ hang-top ts lo hi hlo hhi rlo rhi ne) fit))
-      go (no z) = subst (SignedFits s θ (rep ts n)) (hang-state ts lo hi hlo hhi rlo rhi ne (rep ts n) (formed n h .0) z) fit
+      go : Dec (rep ts n ≡ hi .1) → SignedFits s ν θ (rep ts n) (state-at ts (rep ts n))
+      go (yes z) = subst (SignedFits s ν θ (rep ts n)) (ap (state-at ts) (sym z)) (top-hi (rep ts n) (state-at ts (hi .1)) _ (subst (SignedFits s ν θ (rep ts n)) (ap (state-at (hang ts lo hi)) z ∙ hang-top ts lo hi hlo hhi rlo rhi ne) fit))
+      go (no z) = subst (SignedFits s ν θ (rep ts n)) (hang-state ts lo hi hlo hhi rlo rhi ne (rep ts n) (formed n h .0) z) fit
 
-  low-fit : Agreed s θ (lo .0) (hi .0) (state-at ts (lo .1)) (state-at ts (hi .1)) → SignedFits s θ (lo .1) (state-at ts (lo .1))
+  low-fit : Agreed s θ (lo .0) (hi .0) (state-at ts (lo .1)) (state-at ts (hi .1)) → SignedFits s ν θ (lo .1) (state-at ts (lo .1))
   unfolding rep or-else invert-state
-  low-fit f = go (state-at ts (lo .1)) (state-at ts (hi .1)) f (subst (SignedFits s θ (hi .1)) (hang-top ts lo hi hlo hhi rlo rhi ne) (subst (λ r. SignedFits s θ r (state-at (hang ts lo hi) r)) (ap (λ (t : Ty). t .1) up-low) (sv (lo .1) (on (lo .1) hlo) under .1)))
+  low-fit f = go (state-at ts (lo .1)) (state-at ts (hi .1)) f (subst (SignedFits s ν θ (hi .1)) (hang-top ts lo hi hlo hhi rlo rhi ne) (subst (λ r. SignedFits s ν θ r (state-at (hang ts lo hi) r)) (ap (λ (t : Ty). t .1) up-low) (sv (lo .1) (on (lo .1) hlo) under .1)))
     where
-      go : (u v : TypeState) → Agreed s θ (lo .0) (hi .0) u v → SignedFits s θ (hi .1) (or-else v (invert-state (xor (hi .0) (lo .0)) u)) → SignedFits s θ (lo .1) u
+      go : (u v : TypeState) → Agreed s θ (lo .0) (hi .0) u v → SignedFits s ν θ (hi .1) (or-else v (invert-state (xor (hi .0) (lo .0)) u)) → SignedFits s ν θ (lo .1) u
       go unknown v a e = tt
-      go (known i k d xs) unknown a e = low ∙ ap (turned s (xor (hi .0) (lo .0))) e ∙ turned-made s (xor (hi .0) (lo .0)) (xor (xor (hi .0) (lo .0)) i) k d (values s θ xs) ∙ ap (λ z. made s z k d (values s θ xs)) (xor-twice (xor (hi .0) (lo .0)) i)
+      go (known i k d xs) unknown a e =
+          low ∙ ap (turned s (xor (hi .0) (lo .0))) e ∙ turned-made s (xor (hi .0) (lo .0)) (xor (xor (hi .0) (lo .0)) i) k (label ν k d (hi .1)) (values s θ xs)
+          ∙ ap₂ (λ (z : Bool) (l : ℕ). made s z k l (values s θ xs)) (xor-twice (xor (hi .0) (lo .0)) i) (label-same ν ν k d (hi .1) (lo .1) (sym named))
       go (known i k d xs) (known j k′ d′ ys) a e =
-          low ∙ ap (turned s (xor (hi .0) (lo .0))) e ∙ turned-made s (xor (hi .0) (lo .0)) j k′ d′ (values s θ ys) ∙ ap₂ (λ (x y : ℕ). made s (xor (xor (hi .0) (lo .0)) j) x y (values s θ ys)) (sym (a .0)) (sym (a .1))
-          ∙ sym (made-met s (lo .0) (hi .0) i j k d (values s θ xs) (values s θ ys) (a .2) (a .3))
+          let plain : label ν k′ d′ (hi .1) ≡ d′ = label-plain ν k′ d′ (hi .1) (λ q. a .4 (a .0 ∙ q)) in
+          low ∙ ap (turned s (xor (hi .0) (lo .0))) e ∙ turned-made s (xor (hi .0) (lo .0)) j k′ (label ν k′ d′ (hi .1)) (values s θ ys) ∙ ap₂ (λ (x y : ℕ). made s (xor (xor (hi .0) (lo .0)) j) x y (values s θ ys)) (sym (a .0)) (plain ∙ sym (a .1))
+          ∙ sym (made-met s (lo .0) (hi .0) i j k d (values s θ xs) (values s θ ys) (a .2) (a .3)) ∙ ap (λ l. made s i k l (values s θ xs)) (sym (label-plain ν k d (lo .1) (a .4)))
 
-  hang-back : Agreed s θ (lo .0) (hi .0) (state-at ts (lo .1)) (state-at ts (hi .1)) → SolvesOn s σ o ts θ
+  hang-back : Agreed s θ (lo .0) (hi .0) (state-at ts (lo .1)) (state-at ts (hi .1)) → SolvesOn s ν σ o ts θ
   hang-back f n h u = (back-up n h u, go (ℕ-discrete (rep ts n) (lo .1)))
     where
-      go : Dec (rep ts n ≡ lo .1) → SignedFits s θ (rep ts n) (state-at ts (rep ts n))
-      go (yes q) = subst (λ r. SignedFits s θ r (state-at ts r)) (sym q) (low-fit f)
+      go : Dec (rep ts n ≡ lo .1) → SignedFits s ν θ (rep ts n) (state-at ts (rep ts n))
+      go (yes q) = subst (λ r. SignedFits s ν θ r (state-at ts r)) (sym q) (low-fit f)
       go (no q) = back-fit n h u q
 
   -- At the nodes below them it does in any case.
-  hang-below : Solves ts σ → SolvesOn s σ (some (term-size (σ (lo .1)))) ts θ
+  hang-below : Solves ts σ → SolvesOn s ν σ (some (term-size (σ (lo .1)))) ts θ
   hang-below so n h u =
       let v = under-less o (term-size (σ n)) (term-size (σ (lo .1))) (omega arith) under in
       (back-up n h v, back-fit n h v (λ q. lt-irrefl (term-size (σ n)) (omega (arith, ap term-size (so n h .0 ∙ ap σ q)))))
 
 -- Two roots that were joined.
-module _ (s : Words) (ts : Types) (x y : Ty) (hx : x .1 < length ts) (hy : y .1 < length ts) (rx : rep ts (x .1) ≡ x .1) (ry : rep ts (y .1) ≡ y .1) (ne : x .1 ≢ y .1) (formed : WellFormed ts) (upright : RootsUpright ts) (σ : Sol) (alike-sizes : term-size (σ (x .1)) ≡ term-size (σ (y .1))) (o : Option ℕ) (under : Under o (term-size (σ (x .1)))) (θ : SignedSol) where
-  join-back : SolvesOn s σ o (join ts x y) θ → Agreed s θ (x .0) (y .0) (state-at ts (x .1)) (state-at ts (y .1)) → SolvesOn s σ o ts θ × (value s θ x ≡ value s θ y)
+module _ (s : Words) (ν : ℕ → ℕ) (ts : Types) (x y : Ty) (hx : x .1 < length ts) (hy : y .1 < length ts) (rx : rep ts (x .1) ≡ x .1) (ry : rep ts (y .1) ≡ y .1) (ne : x .1 ≢ y .1) (formed : WellFormed ts) (upright : RootsUpright ts) (named : ν (x .1) ≡ ν (y .1)) (σ : Sol) (alike-sizes : term-size (σ (x .1)) ≡ term-size (σ (y .1))) (o : Option ℕ) (under : Under o (term-size (σ (x .1)))) (θ : SignedSol) where
+  join-back : SolvesOn s ν σ o (join ts x y) θ → Agreed s θ (x .0) (y .0) (state-at ts (x .1)) (state-at ts (y .1)) → SolvesOn s ν σ o ts θ × (value s θ x ≡ value s θ y)
   unfolding join
   join-back sv f = go (larger ts x y) refl sv
     where
-      go : (c : Bool) → larger ts x y ≡ c → SolvesOn s σ o (join ts x y) θ → SolvesOn s σ o ts θ × (value s θ x ≡ value s θ y)
+      go : (c : Bool) → larger ts x y ≡ c → SolvesOn s ν σ o (join ts x y) θ → SolvesOn s ν σ o ts θ × (value s θ x ≡ value s θ y)
       go true e v =
-          let w : SolvesOn s σ o (hang ts y x) θ = rw (e, join) at v in
+          let w : SolvesOn s ν σ o (hang ts y x) θ = rw (e, join) at v in
           let u = subst (Under o) alike-sizes under in
-          (hang-back s ts y x hy hx ry rx (λ q. ne (sym q)) formed upright σ o u θ w (agreed-flip s θ (x .0) (y .0) (state-at ts (x .1)) (state-at ts (y .1)) f), sym (hang-value s ts y x hy hx ry rx (λ q. ne (sym q)) formed upright σ o u θ w))
+          (hang-back s ν ts y x hy hx ry rx (λ q. ne (sym q)) formed upright (sym named) σ o u θ w (agreed-flip s θ (x .0) (y .0) (state-at ts (x .1)) (state-at ts (y .1)) f), sym (hang-value s ν ts y x hy hx ry rx (λ q. ne (sym q)) formed upright (sym named) σ o u θ w))
       go false e v =
-          let w : SolvesOn s σ o (hang ts x y) θ = rw (e, join) at v in
-          (hang-back s ts x y hx hy rx ry ne formed upright σ o under θ w f, hang-value s ts x y hx hy rx ry ne formed upright σ o under θ w)
+          let w : SolvesOn s ν σ o (hang ts x y) θ = rw (e, join) at v in
+          (hang-back s ν ts x y hx hy rx ry ne formed upright named σ o under θ w f, hang-value s ν ts x y hx hy rx ry ne formed upright named σ o under θ w)
 
-  join-below : SolvesOn s σ o (join ts x y) θ → Solves ts σ → SolvesOn s σ (some (term-size (σ (x .1)))) ts θ
+  join-below : SolvesOn s ν σ o (join ts x y) θ → Solves ts σ → SolvesOn s ν σ (some (term-size (σ (x .1)))) ts θ
   unfolding join
   join-below sv so = go (larger ts x y) refl sv
     where
-      go : (c : Bool) → larger ts x y ≡ c → SolvesOn s σ o (join ts x y) θ → SolvesOn s σ (some (term-size (σ (x .1)))) ts θ
-      go true e v = subst (λ z. SolvesOn s σ (some z) ts θ) (sym alike-sizes) (hang-below s ts y x hy hx ry rx (λ q. ne (sym q)) formed upright σ o (subst (Under o) alike-sizes under) θ (rw (e, join) at v) so)
-      go false e v = hang-below s ts x y hx hy rx ry ne formed upright σ o under θ (rw (e, join) at v) so
+      go : (c : Bool) → larger ts x y ≡ c → SolvesOn s ν σ o (join ts x y) θ → SolvesOn s ν σ (some (term-size (σ (x .1)))) ts θ
+      go true e v = subst (λ z. SolvesOn s ν σ (some z) ts θ) (sym alike-sizes) (hang-below s ν ts y x hy hx ry rx (λ q. ne (sym q)) formed upright (sym named) σ o (subst (Under o) alike-sizes under) θ (rw (e, join) at v) so)
+      go false e v = hang-below s ν ts x y hx hy rx ry ne formed upright named σ o under θ (rw (e, join) at v) so
 
 -- A type that `self_inverse` finds to be its own inverse has a term that is.
-module _ (s : Words) (ts : Types) (formed : WellFormed ts) (σ : Sol) (so : Solves ts σ) (o : Option ℕ) (θ : SignedSol) (sv : SolvesOn s σ o ts θ) where
+module _ (s : Words) (ν : ℕ → ℕ) (ts : Types) (formed : WellFormed ts) (σ : Sol) (so : Solves ts σ) (o : Option ℕ) (θ : SignedSol) (sv : SolvesOn s ν σ o ts θ) where
   not-own : (k : ℕ) (t : Ty) → state-at ts (rep ts (t .1)) ≡ unknown → self-inverse-in (suc k) s ts t ≡ false
   unfolding self-inverse-in kind find invert-if rep invert-state
   not-own k t q = rw (q, self-inverse-in, kind)
@@ -361,37 +407,47 @@ module _ (s : Words) (ts : Types) (formed : WellFormed ts) (σ : Sol) (so : Solv
               let up = sv (t .1) h u .0 in
               let b = (node-at ts (t .1)) .up .0 in
               let inner : inverse s v ≡ v = own-values (λ c. self-inverse-in k s ts c) cs (subst (ChildrenIn (length ts)) q (formed (t .1) h .2)) (under-less o (term-size (terms σ cs)) (term-size (σ (t .1))) (omega (arith, size)) u) ih (sym (opened s ts formed k t q true z) ∙ e) in
-              let root : θ (rep ts (t .1)) ≡ scon false kd d v = subst (SignedFits s θ (rep ts (t .1))) q (sv (t .1) h u .1) ∙ made-own s i kd d v z ∙ ap (scon false kd d) (turned-own s i v inner) in
-              let same : inverse s (θ (rep ts (t .1))) ≡ θ (rep ts (t .1)) = ap (inverse s) root ∙ inverse-own s false kd d v z ∙ ap (scon false kd d) inner ∙ sym root in
+              let l = label ν kd d (rep ts (t .1)) in
+              let own : kind-flag s row·own-inverse kd l ≡ true = label-flag s row·own-inverse ν kd d (rep ts (t .1)) ∙ z in
+              let root : θ (rep ts (t .1)) ≡ scon false kd l v = subst (SignedFits s ν θ (rep ts (t .1))) q (sv (t .1) h u .1) ∙ made-own s i kd l v own ∙ ap (scon false kd l) (turned-own s i v inner) in
+              let same : inverse s (θ (rep ts (t .1))) ≡ θ (rep ts (t .1)) = ap (inverse s) root ∙ inverse-own s false kd l v own ∙ ap (scon false kd l) inner ∙ sym root in
               let flat : θ (t .1) ≡ θ (rep ts (t .1)) = up ∙ turned-own s b (θ (rep ts (t .1))) same in
               ap (inverse s) flat ∙ same ∙ sym flat
 
--- A success of unification, layer by layer: what solves the table that is left, as far as the types that met reach, solves the table before as far, and gives them one term.
-module _ (s : Words) where
+-- A success of unification, layer by layer: what solves the table that is left, in which nodes of one class have one name, as far as the types that met reach, solves the table before as far, and gives them one term.
+module _ (s : Words) (ν : ℕ → ℕ) where
   abbrev Told : Types → Ty → Ty → Types → Type 0
-  Told ts a b us = (σ : Sol) → Solves us σ → (o : Option ℕ) → Under o (term-size (σ (a .1))) → (θ : SignedSol) → SolvesOn s σ o us θ → SolvesOn s σ o ts θ × (value s θ a ≡ value s θ b)
+  Told ts a b us = Named ν us → (σ : Sol) → Solves us σ → (o : Option ℕ) → Under o (term-size (σ (a .1))) → (θ : SignedSol) → SolvesOn s ν σ o us θ → SolvesOn s ν σ o ts θ × (value s θ a ≡ value s θ b)
 
   abbrev ToldAll : Types → List Ty → List Ty → Types → Type 0
-  ToldAll ts xs ys us = (σ : Sol) → Solves us σ → (o : Option ℕ) → Under o (term-size (terms σ xs)) → (θ : SignedSol) → SolvesOn s σ o us θ → SolvesOn s σ o ts θ × (values s θ xs ≡ values s θ ys)
+  ToldAll ts xs ys us = Named ν us → (σ : Sol) → Solves us σ → (o : Option ℕ) → Under o (term-size (terms σ xs)) → (θ : SignedSol) → SolvesOn s ν σ o us θ → SolvesOn s ν σ o ts θ × (values s θ xs ≡ values s θ ys)
 
   abbrev Tells : (Types → Ty → Ty → Unified) → Type 0
   Tells f = (ts : Types) (a b : Ty) → WellFormed ts → a .1 < length ts → b .1 < length ts → Readable ts → RootsUpright ts → Won ((f ts a b) .0) → Told ts a b ((f ts a b) .1)
 
-  bind-tell : (ts : Types) (x y : Ty) → WellFormed ts → x .1 < length ts → y .1 < length ts → rep ts (x .1) ≡ x .1 → rep ts (y .1) ≡ y .1 → x .1 ≢ y .1 → RootsUpright ts → ((θ : SignedSol) → Agreed s θ (x .0) (y .0) (state-at ts (x .1)) (state-at ts (y .1))) → Won ((bind-unknown ts x y) .0) → (σ : Sol) → term-size (σ (x .1)) ≡ term-size (σ (y .1)) → (o : Option ℕ) → Under o (term-size (σ (x .1))) → (θ : SignedSol) → SolvesOn s σ o ((bind-unknown ts x y) .1) θ → SolvesOn s σ o ts θ × (value s θ x ≡ value s θ y)
+  -- Nodes had one name before, too.
+  named-before : (ts us : Types) → length us ≡ length ts → ((a b : ℕ) → a < length ts → b < length ts → rep ts a ≡ rep ts b → rep us a ≡ rep us b) → Named ν us → Named ν ts
+  named-before ts us l same nm a b ha hb q = nm a b (subst (λ N. a < N) (sym l) ha) (subst (λ N. b < N) (sym l) hb) (same a b ha hb q)
+
+  -- So had two that were joined.
+  named-met : (ts us : Types) (a b : ℕ) → a < length ts → b < length ts → After ts a b us → Named ν us → ν a ≡ ν b
+  named-met ts us a b ha hb r nm = nm a b (subst (λ N. a < N) (sym (r .len)) ha) (subst (λ N. b < N) (sym (r .len)) hb) (r .meet)
+
+  bind-tell : (ts : Types) (x y : Ty) → WellFormed ts → x .1 < length ts → y .1 < length ts → rep ts (x .1) ≡ x .1 → rep ts (y .1) ≡ y .1 → x .1 ≢ y .1 → RootsUpright ts → ((θ : SignedSol) → Agreed s θ (x .0) (y .0) (state-at ts (x .1)) (state-at ts (y .1))) → Won ((bind-unknown ts x y) .0) → ν (x .1) ≡ ν (y .1) → (σ : Sol) → term-size (σ (x .1)) ≡ term-size (σ (y .1)) → (o : Option ℕ) → Under o (term-size (σ (x .1))) → (θ : SignedSol) → SolvesOn s ν σ o ((bind-unknown ts x y) .1) θ → SolvesOn s ν σ o ts θ × (value s θ x ≡ value s θ y)
   unfolding bind-unknown
-  bind-tell ts x y formed hx hy rx ry ne up agreed w σ e o u θ sv = go (occurs-in (suc (length ts)) ts (x .1) y || occurs-in (suc (length ts)) ts (y .1) x) refl w sv
+  bind-tell ts x y formed hx hy rx ry ne up agreed w nm σ e o u θ sv = go (occurs-in (suc (length ts)) ts (x .1) y || occurs-in (suc (length ts)) ts (y .1) x) refl w sv
     where
-      go : (b : Bool) → (occurs-in (suc (length ts)) ts (x .1) y || occurs-in (suc (length ts)) ts (y .1) x) ≡ b → Won ((bind-unknown ts x y) .0) → SolvesOn s σ o ((bind-unknown ts x y) .1) θ → SolvesOn s σ o ts θ × (value s θ x ≡ value s θ y)
+      go : (b : Bool) → (occurs-in (suc (length ts)) ts (x .1) y || occurs-in (suc (length ts)) ts (y .1) x) ≡ b → Won ((bind-unknown ts x y) .0) → SolvesOn s ν σ o ((bind-unknown ts x y) .1) θ → SolvesOn s ν σ o ts θ × (value s θ x ≡ value s θ y)
       go true q v z = absurd (rw (q, bind-unknown) at v)
-      go false q v z = join-back s ts x y hx hy rx ry ne formed up σ e o u θ (rw (q, bind-unknown) at z) (agreed θ)
+      go false q v z = join-back s ν ts x y hx hy rx ry ne formed up nm σ e o u θ (rw (q, bind-unknown) at z) (agreed θ)
 
   module _ (f : Types → Ty → Ty → Unified) (right : Right f) (keeps : (ts : Types) (a b : Ty) → RootsUpright ts → RootsUpright ((f ts a b) .1)) (tells : Tells f) where
     each-tell : (ts : Types) (xs ys : List Ty) → WellFormed ts → AllIn (length ts) xs → AllIn (length ts) ys → length xs ≡ length ys → Readable ts → RootsUpright ts → Won ((unify-each f ts xs ys) .0) → ToldAll ts xs ys ((unify-each f ts xs ys) .1)
     unfolding unify-each values terms term-size
-    each-tell ts [] [] formed ax ay l fr up w = λ σ so o u θ sv. (sv, refl)
+    each-tell ts [] [] formed ax ay l fr up w = λ nm σ so o u θ sv. (sv, refl)
     each-tell ts [] (y ∷ ys) formed ax ay l fr up w = absurd (omega arith)
     each-tell ts (x ∷ xs) [] formed ax ay l fr up w = absurd (omega arith)
-    each-tell ts (x ∷ xs) (y ∷ ys) formed ax ay l fr up w = λ σ so o u θ sv.
+    each-tell ts (x ∷ xs) (y ∷ ys) formed ax ay l fr up w = λ nm σ so o u θ sv.
         let m = f ts x y in
         let won = both-won (m .0) ((unify-each f (m .1) xs ys) .0) w in
         let p = right ts x y formed (ax .0) (ay .0) fr (won .0) in
@@ -400,8 +456,8 @@ module _ (s : Words) where
         let by = subst (λ N. AllIn N ys) len (ay .1) in
         let l′ : length xs ≡ length ys = omega arith in
         let q = each-right f right (m .1) xs ys (p .0 .formed) bx by l′ (p .1) (won .1) in
-        let rest = each-tell (m .1) xs ys (p .0 .formed) bx by l′ (p .1) (keeps ts x y up) (won .1) σ so o (under-less o (term-size (terms σ xs)) (term-size (terms σ (x ∷ xs))) (omega arith) u) θ sv in
-        let first = tells ts x y formed (ax .0) (ay .0) fr up (won .0) σ (q .0 .out σ so) o (under-less o (term-size (σ (x .1))) (term-size (terms σ (x ∷ xs))) (omega arith) u) θ (rest .0) in
+        let rest = each-tell (m .1) xs ys (p .0 .formed) bx by l′ (p .1) (keeps ts x y up) (won .1) nm σ so o (under-less o (term-size (terms σ xs)) (term-size (terms σ (x ∷ xs))) (omega arith) u) θ sv in
+        let first = tells ts x y formed (ax .0) (ay .0) fr up (won .0) (named-before (m .1) _ (q .0 .len) (q .0 .same) nm) σ (q .0 .out σ so) o (under-less o (term-size (σ (x .1))) (term-size (terms σ (x ∷ xs))) (omega arith) u) θ (rest .0) in
         (first .0, ap₂ scons (first .1) (rest .1))
 
     children-tell : (ts : Types) (k : ℕ) (xs ys : List Ty) → WellFormed ts → AllIn (length ts) xs → AllIn (length ts) ys → Readable ts → RootsUpright ts → Won ((unify-children f ts k xs ys) .0) → ToldAll ts xs ys ((unify-children f ts k xs ys) .1)
@@ -426,16 +482,18 @@ module _ (s : Words) where
       -- Two known roots.
       both-tell : x .1 ≢ y .1 → (i : Bool) (k d : ℕ) (xs : List Ty) (j : Bool) (k′ d′ : ℕ) (ys : List Ty) → state-at ts (x .1) ≡ known i k d xs → state-at ts (y .1) ≡ known j k′ d′ ys → let m = unify-known f s ts (xor (xor i (x .0)) (xor j (y .0))) k d xs k′ d′ ys in Won (m .0) → Told ts x y (join (m .1) x y)
       unfolding term-size
-      both-tell ne i k d xs j k′ d′ ys eu ev w = λ σ so o u θ sv.
+      both-tell ne i k d xs j k′ d′ ys eu ev w = λ nm σ so o u θ sv.
           let r = join-mates us (q .formed) x y (on (x .1) hx) (on (y .1) hy) rx′ ry′ ne mates in
           let su = r .out σ so in
+          let before = named-before us (join us x y) (r .len) (r .same) nm in
+          let one = named-met us (join us x y) (x .1) (y .1) (on (x .1) hx) (on (y .1) hy) r nm in
           let size : term-size (σ (x .1)) ≡ term-size (σ (y .1)) = ap term-size (agree us (join us x y) (x .1) (y .1) (on (x .1) hx) (on (y .1) hy) r σ so) in
           let whole : term-size (σ (x .1)) ≡ suc (term-size (terms σ xs)) = ap term-size (fit σ (q .out σ su) (x .1) hx rx (known i k d xs) eu) in
-          let below = join-below s us x y (on (x .1) hx) (on (y .1) hy) rx′ ry′ ne (q .formed) upright σ size o u θ sv su in
-          let same = told σ su (some (term-size (σ (x .1)))) (omega (arith, whole)) θ below .1 in
-          let agreed : Agreed s θ (x .0) (y .0) (known i k d xs) (known j k′ d′ ys) = (met′ .0, met′ .1, λ z. same-side (xor i (x .0)) (xor j (y .0)) (met′ .2 z), same ∙ sym (turned-values s θ inv ys)) in
-          let back = join-back s us x y (on (x .1) hx) (on (y .1) hy) rx′ ry′ ne (q .formed) upright σ size o u θ sv (subst (Agreed s θ (x .0) (y .0) (state-at us (x .1))) (sym sy) (subst (λ st. Agreed s θ (x .0) (y .0) st (known j k′ d′ ys)) (sym sx) agreed)) in
-          (told σ su o (under-less o (term-size (terms σ xs)) (term-size (σ (x .1))) (omega (arith, whole)) u) θ (back .0) .0, back .1)
+          let below = join-below s ν us x y (on (x .1) hx) (on (y .1) hy) rx′ ry′ ne (q .formed) upright one σ size o u θ sv su in
+          let same = told before σ su (some (term-size (σ (x .1)))) (omega (arith, whole)) θ below .1 in
+          let agreed : Agreed s θ (x .0) (y .0) (known i k d xs) (known j k′ d′ ys) = (met′ .0, met′ .1, λ z. same-side (xor i (x .0)) (xor j (y .0)) (met′ .2 z), same ∙ sym (turned-values s θ inv ys), known-plain f s ts inv k d xs k′ d′ ys w .0) in
+          let back = join-back s ν us x y (on (x .1) hx) (on (y .1) hy) rx′ ry′ ne (q .formed) upright one σ size o u θ sv (subst (Agreed s θ (x .0) (y .0) (state-at us (x .1))) (sym sy) (subst (λ st. Agreed s θ (x .0) (y .0) st (known j k′ d′ ys)) (sym sx) agreed)) in
+          (told before σ su o (under-less o (term-size (terms σ xs)) (term-size (σ (x .1))) (omega (arith, whole)) u) θ (back .0) .0, back .1)
         where
           children : (r : ℕ) (st : TypeState) → r < length ts → rep ts r ≡ r → state-at ts r ≡ st → ChildrenIn (length ts) st
           children r st h rr e = subst (ChildrenIn (length ts)) (ap (state-at ts) rr ∙ e) (formed r h .2)
@@ -458,12 +516,6 @@ module _ (s : Words) where
           q : AfterAll ts xs ys us
           q = p .2
 
-          σ₁ : Sol
-          σ₁ = p .3 .0
-
-          s₁ : Solves us σ₁
-          s₁ = p .3 .1 .solves
-
           on : (n : ℕ) → n < length ts → n < length us
           on n h = subst (λ N. n < N) (sym (q .len)) h
 
@@ -476,18 +528,20 @@ module _ (s : Words) where
           fit : (ρ : Sol) → Solves ts ρ → (r : ℕ) → r < length ts → rep ts r ≡ r → (st : TypeState) → state-at ts r ≡ st → Fits ρ r st
           fit ρ sv r h rr st e = subst (Fits ρ r) e (subst (λ n. Fits ρ n (state-at ts n)) rr (sv r h .1))
 
-          -- Both are roots still, and known as before: what the children touched is smaller.
+          still : Still ts us (x .1) (y .1)
+          still = known-still f right s ts (x .1) (y .1) formed hx hy rx ry fr inv i k d xs j k′ d′ ys eu ev w
+
           rx′ : rep us (x .1) ≡ x .1
-          rx′ = q .quiet σ₁ s₁ (x .1) hx rx (omega (arith, ap term-size (fit σ₁ (q .out σ₁ s₁) (x .1) hx rx (known i k d xs) eu)))
+          rx′ = still .left
 
           ry′ : rep us (y .1) ≡ y .1
-          ry′ = q .quiet σ₁ s₁ (y .1) hy ry (omega (arith, ap term-size (fit σ₁ (q .out σ₁ s₁) (y .1) hy ry (known j k′ d′ ys) ev), ap term-size (same-terms us σ₁ s₁ xs ys axu ayu (q .meet))))
+          ry′ = still .right
 
           sx : state-at us (x .1) ≡ known i k d xs
-          sx = q .kept (x .1) hx rx rx′ (λ z. known≢ (sym eu ∙ z)) ∙ eu
+          sx = still .left-state ∙ eu
 
           sy : state-at us (y .1) ≡ known j k′ d′ ys
-          sy = q .kept (y .1) hy ry ry′ (λ z. known≢ (sym ev ∙ z)) ∙ ev
+          sy = still .right-state ∙ ev
 
           mates : Mates us (x .1) (y .1)
           mates = alike i j k d xs ys sx (sy ∙ λ t. known j (sym (p .0) t) (sym (p .1) t) ys) axu ayu (q .meet)
@@ -503,18 +557,18 @@ module _ (s : Words) where
 
       states-tell : x .1 ≢ y .1 → (u v : TypeState) → state-at ts (x .1) ≡ u → state-at ts (y .1) ≡ v → Won ((unify-states f s ts x y u v) .0) → Told ts x y ((unify-states f s ts x y u v) .1)
       unfolding unify-states
-      states-tell ne unknown v eu ev w = λ σ so o u θ sv.
+      states-tell ne unknown v eu ev w = λ nm σ so o u θ sv.
           let r = states-right f right s ts x y formed hx hy rx ry ne unknown v eu ev fr w .0 in
-          bind-tell ts x y formed hx hy rx ry ne up (λ ρ. subst (λ st. Agreed s ρ (x .0) (y .0) st (state-at ts (y .1))) (sym eu) tt) w σ (ap term-size (agree ts _ (x .1) (y .1) hx hy r σ so)) o u θ sv
-      states-tell ne (known i k d xs) unknown eu ev w = λ σ so o u θ sv.
+          bind-tell ts x y formed hx hy rx ry ne up (λ ρ. subst (λ st. Agreed s ρ (x .0) (y .0) st (state-at ts (y .1))) (sym eu) tt) w (named-met ts _ (x .1) (y .1) hx hy r nm) σ (ap term-size (agree ts _ (x .1) (y .1) hx hy r σ so)) o u θ sv
+      states-tell ne (known i k d xs) unknown eu ev w = λ nm σ so o u θ sv.
           let r = states-right f right s ts x y formed hx hy rx ry ne (known i k d xs) unknown eu ev fr w .0 in
-          bind-tell ts x y formed hx hy rx ry ne up (λ ρ. subst (Agreed s ρ (x .0) (y .0) (state-at ts (x .1))) (sym ev) (agreed-right s ρ (x .0) (y .0) (state-at ts (x .1)))) w σ (ap term-size (agree ts _ (x .1) (y .1) hx hy r σ so)) o u θ sv
+          bind-tell ts x y formed hx hy rx ry ne up (λ ρ. subst (Agreed s ρ (x .0) (y .0) (state-at ts (x .1))) (sym ev) (agreed-right s ρ (x .0) (y .0) (state-at ts (x .1)))) w (named-met ts _ (x .1) (y .1) hx hy r nm) σ (ap term-size (agree ts _ (x .1) (y .1) hx hy r σ so)) o u θ sv
       states-tell ne (known i k d xs) (known j k′ d′ ys) eu ev w =
           let jw = join-won (unify-known f s ts (xor (xor i (x .0)) (xor j (y .0))) k d xs k′ d′ ys) x y w in
           subst (Told ts x y) (sym (jw .1)) (both-tell ne i k d xs j k′ d′ ys eu ev (jw .0))
 
       -- One root: upright, or its own inverse.
-      one-tell : x .1 ≡ y .1 → Won (from-bool (not (xor (x .0) (y .0)) || self-inverse s ts x)) → (σ : Sol) → Solves ts σ → (o : Option ℕ) → Under o (term-size (σ (x .1))) → (θ : SignedSol) → SolvesOn s σ o ts θ → value s θ x ≡ value s θ y
+      one-tell : x .1 ≡ y .1 → Won (from-bool (not (xor (x .0) (y .0)) || self-inverse s ts x)) → (σ : Sol) → Solves ts σ → (o : Option ℕ) → Under o (term-size (σ (x .1))) → (θ : SignedSol) → SolvesOn s ν σ o ts θ → value s θ x ≡ value s θ y
       unfolding from-bool self-inverse value
       one-tell e w σ so o u θ sv = go (xor (x .0) (y .0)) refl w
         where
@@ -525,7 +579,7 @@ module _ (s : Words) where
           go : (b : Bool) → xor (x .0) (y .0) ≡ b → Won (from-bool (not b || self-inverse s ts x)) → value s θ x ≡ value s θ y
           go false q v = ap₂ (λ (c : Bool) (n : ℕ). turned s c (θ n)) (same-side (x .0) (y .0) q) e
           go true q v =
-              let own : inverse s (θ (x .1)) ≡ θ (x .1) = own-value s ts formed σ so o θ sv (suc (length ts)) x hx u (won-true (self-inverse s ts x) v) in
+              let own : inverse s (θ (x .1)) ≡ θ (x .1) = own-value s ν ts formed σ so o θ sv (suc (length ts)) x hx u (won-true (self-inverse s ts x) v) in
               turned-own s (x .0) (θ (x .1)) own ∙ sym (turned-own s (y .0) (θ (x .1)) own) ∙ ap (λ n. turned s (y .0) (θ n)) e
 
       roots-tell : Won ((unify-roots f s ts x y) .0) → Told ts x y ((unify-roots f s ts x y) .1)
@@ -533,20 +587,20 @@ module _ (s : Words) where
       roots-tell w = go (ℕ-discrete (x .1) (y .1)) w
         where
           go : Dec (x .1 ≡ y .1) → Won ((unify-roots f s ts x y) .0) → Told ts x y ((unify-roots f s ts x y) .1)
-          go (yes e) v = rw (eqb-true (x .1) (y .1) e, unify-roots) (λ σ so o u θ sv. (sv, one-tell e (rw (eqb-true (x .1) (y .1) e, unify-roots) at v) σ so o u θ sv))
+          go (yes e) v = rw (eqb-true (x .1) (y .1) e, unify-roots) (λ nm σ so o u θ sv. (sv, one-tell e (rw (eqb-true (x .1) (y .1) e, unify-roots) at v) σ so o u θ sv))
           go (no e) v = rw (eqb-false (x .1) (y .1) e, unify-roots) (states-tell e (state-at ts (x .1)) (state-at ts (y .1)) refl refl (rw (eqb-false (x .1) (y .1) e, unify-roots) at v))
 
   -- `unify`, to any depth.
   unify-in-tells : (n : ℕ) → Tells (unify-in n s)
   unfolding unify-in find invert-if rep
   unify-in-tells zero ts a b formed ha hb fr up w = absurd w
-  unify-in-tells (suc n) ts a b formed ha hb fr up w = λ σ so o u θ sv.
+  unify-in-tells (suc n) ts a b formed ha hb fr up w = λ nm σ so o u θ sv.
       let ga = formed (a .1) ha in
       let gb = formed (b .1) hb in
       let r = unify-in-right (suc n) s ts a b formed ha hb fr w .0 in
       let before = r .out σ so in
       let ab : σ (a .1) ≡ σ (b .1) = agree ts _ (a .1) (b .1) ha hb r σ so in
-      let t = roots-tell (λ us t u. unify-in n s us t u) (unify-in-right n s) (unify-in-carries RootsUpright join-upright n s) (unify-in-tells n) ts (find ts a) (find ts b) formed (ga .0) (gb .0) (ga .1) (gb .1) fr up w σ so o (subst (λ t. Under o (term-size t)) (before (a .1) ha .0) u) θ sv in
+      let t = roots-tell (λ us t u. unify-in n s us t u) (unify-in-right n s) (unify-in-carries RootsUpright join-upright n s) (unify-in-tells n) ts (find ts a) (find ts b) formed (ga .0) (gb .0) (ga .1) (gb .1) fr up w nm σ so o (subst (λ t. Under o (term-size t)) (before (a .1) ha .0) u) θ sv in
       (t .0, value-find s ts θ a (t .0 (a .1) ha u .0) ∙ t .1 ∙ sym (value-find s ts θ b (t .0 (b .1) hb (subst (λ t. Under o (term-size t)) ab u) .0)))
 
   unify-tells : Tells (unify s)
@@ -557,19 +611,19 @@ module _ (s : Words) where
   unfolding unify
   unify-right us = unify-in-right (suc (length us)) s us
 
-  -- Where `unify` succeeds, what solves the table that it leaves solves the table before, and gives the two types one term.
-  pub unify-signed : (ts : Types) (a b : Ty) → WellFormed ts → a .1 < length ts → b .1 < length ts → Readable ts → RootsUpright ts → Won ((unify s ts a b) .0) → (θ : SignedSol) → SignedSolves s ((unify s ts a b) .1) θ → SignedSolves s ts θ × (value s θ a ≡ value s θ b)
-  unify-signed ts a b formed ha hb fr up w θ sv =
+  -- Where `unify` succeeds and leaves nodes of one class with one name, what solves the table that it leaves solves the table before, and gives the two types one term.
+  pub unify-signed : (ts : Types) (a b : Ty) → WellFormed ts → a .1 < length ts → b .1 < length ts → Readable ts → RootsUpright ts → Won ((unify s ts a b) .0) → Named ν ((unify s ts a b) .1) → (θ : SignedSol) → SignedSolves s ν ((unify s ts a b) .1) θ → SignedSolves s ν ts θ × (value s θ a ≡ value s θ b)
+  unify-signed ts a b formed ha hb fr up w nm θ sv =
       let r = unify-right ts a b formed ha hb fr w .1 in
-      let t = unify-tells ts a b formed ha hb fr up w (r .0) (r .1 .solves) none tt θ (λ n h u. sv n h) in
+      let t = unify-tells ts a b formed ha hb fr up w nm (r .0) (r .1 .solves) none tt θ (λ n h u. sv n h) in
       (λ n h. t .0 n h tt, t .1)
 
   -- `unify_impl_type` likewise.
-  pub impl-type-signed : (ts : Types) (a b : ImplType) → WellFormed ts → AllIn (length ts) (a .1) → AllIn (length ts) (b .1) → Readable ts → RootsUpright ts → (unify-impl-type s ts a b) .0 ≡ success → (θ : SignedSol) → SignedSolves s ((unify-impl-type s ts a b) .1) θ → SignedSolves s ts θ × (values s θ (a .1) ≡ values s θ (b .1))
+  pub impl-type-signed : (ts : Types) (a b : ImplType) → WellFormed ts → AllIn (length ts) (a .1) → AllIn (length ts) (b .1) → Readable ts → RootsUpright ts → (unify-impl-type s ts a b) .0 ≡ success → Named ν ((unify-impl-type s ts a b) .1) → (θ : SignedSol) → SignedSolves s ν ((unify-impl-type s ts a b) .1) θ → SignedSolves s ν ts θ × (values s θ (a .1) ≡ values s θ (b .1))
   unfolding unify-impl-type unify-types
-  impl-type-signed ts a b formed ax ay fr up won θ sv =
+  impl-type-signed ts a b formed ax ay fr up won nm θ sv =
       let r = impl-type-right s ts a b formed ax ay fr won .1 in
-      let t = told (r .0) (r .1 .solves) none tt θ (λ n h u. sv n h) in
+      let t = told nm (r .0) (r .1 .solves) none tt θ (λ n h u. sv n h) in
       (λ n h. t .0 n h tt, t .1)
     where
       told : ToldAll ts (a .1) (b .1) ((unify-impl-type s ts a b) .1)
@@ -581,11 +635,11 @@ module _ (s : Words) where
           go false e true e′ false e″ w = absurd (rw (e, e′, unify-impl-type, e″, unify-types) at w)
           go false e true e′ true e″ w = rw (e, e′, unify-impl-type) (rw (e″, unify-types) (each-tell (unify s) unify-right (unify-upright s) unify-tells ts (a .1) (b .1) formed ax ay (eqb→eq (length (a .1)) (length (b .1)) (subst T (sym e″) tt)) fr up (rw (e, e′, unify-impl-type, e″, unify-types) at w)))
 
--- A table read as terms with sides: υ for its unknown roots, g for what is known.
-module _ (s : Words) (ts : Types) (υ : SignedSol) (g : Bool → ℕ → ℕ → Signed → Signed) where
+-- A table read as terms with sides: υ for its unknown roots, g for what is known at a root.
+module _ (s : Words) (ts : Types) (υ : SignedSol) (g : ℕ → Bool → ℕ → ℕ → Signed → Signed) where
   unfoldable shape : SignedSol → ℕ → TypeState → Signed
   shape f r unknown = υ r
-  shape f r (known i k d cs) = g i k d (values s f cs)
+  shape f r (known i k d cs) = g r i k d (values s f cs)
 
   -- To k levels.
   unfoldable signed-of : ℕ → SignedSol
@@ -596,7 +650,7 @@ module _ (s : Words) (ts : Types) (υ : SignedSol) (g : Bool → ℕ → ℕ →
     shape-same : (f f′ : SignedSol) (n : ℕ) → n < length ts → ((c : ℕ) → c < length ts → δ c < δ n → f c ≡ f′ c) → (st : TypeState) → state-at ts (rep ts n) ≡ st → shape f (rep ts n) st ≡ shape f′ (rep ts n) st
     unfolding shape
     shape-same f f′ n h e unknown q = refl
-    shape-same f f′ n h e (known i k d cs) q = ap (g i k d) (values-same s f f′ cs (λ j l. e ((getD cs j (false, 0)) .1) (child-in (length ts) cs j (subst (ChildrenIn (length ts)) q (formed n h .2)) l) (ranked .falls n h i k d cs q j l)))
+    shape-same f f′ n h e (known i k d cs) q = ap (g (rep ts n) i k d) (values-same s f f′ cs (λ j l. e ((getD cs j (false, 0)) .1) (child-in (length ts) cs j (subst (ChildrenIn (length ts)) q (formed n h .2)) l) (ranked .falls n h i k d cs q j l)))
 
     fuel-same : (k m n : ℕ) → n < length ts → δ n < k → δ n < m → signed-of k n ≡ signed-of m n
     unfolding signed-of
@@ -626,33 +680,36 @@ module _ (s : Words) (ts : Types) (υ : SignedSol) (g : Bool → ℕ → ℕ →
     read-up n h = ap (turned s ((node-at ts n) .up .0)) (shape-same (signed-of (δ n)) signed-reading n h (level n) (state-at ts (rep ts n)) refl ∙ sym (read-root n h))
 
 -- A well-formed, readable table with upright roots has a solution with sides, its unknowns left free.
-module _ (s : Words) (ts : Types) (formed : WellFormed ts) (free : Readable ts) (upright : RootsUpright ts) where
-  abbrev free-signed : SignedSol
-  free-signed = signed-reading s ts (λ r. svar r false) (made s) formed upright (rank ts) (readable-ranked ts formed free)
+module _ (s : Words) (ν : ℕ → ℕ) (ts : Types) (formed : WellFormed ts) (free : Readable ts) (upright : RootsUpright ts) where
+  abbrev labelled : ℕ → Bool → ℕ → ℕ → Signed → Signed
+  labelled r i k d t = made s i k (label ν k d r) t
 
-  pub has-signed : (θ : SignedSol) × SignedSolves s ts θ
+  abbrev free-signed : SignedSol
+  free-signed = signed-reading s ts (λ r. svar r false) labelled formed upright (rank ts) (readable-ranked ts formed free)
+
+  pub has-signed : (θ : SignedSol) × SignedSolves s ν ts θ
   unfolding shape
-  has-signed = (free-signed, λ n h. (read-up s ts (λ r. svar r false) (made s) formed upright (rank ts) (readable-ranked ts formed free) n h, go (rep ts n) (state-at ts (rep ts n)) (read-root s ts (λ r. svar r false) (made s) formed upright (rank ts) (readable-ranked ts formed free) n h)))
+  has-signed = (free-signed, λ n h. (read-up s ts (λ r. svar r false) labelled formed upright (rank ts) (readable-ranked ts formed free) n h, go (rep ts n) (state-at ts (rep ts n)) (read-root s ts (λ r. svar r false) labelled formed upright (rank ts) (readable-ranked ts formed free) n h)))
     where
-      go : (r : ℕ) (st : TypeState) → free-signed r ≡ shape s ts (λ m. svar m false) (made s) free-signed r st → SignedFits s free-signed r st
+      go : (r : ℕ) (st : TypeState) → free-signed r ≡ shape s ts (λ m. svar m false) labelled free-signed r st → SignedFits s ν free-signed r st
       go r unknown e = tt
       go r (known i k d cs) e = e
 
 -- τ reads a source as an import with ps takes it: a Param is what stands for it, if anything does,
-record SignedFollows (s : Words) (src : Types) (ps : Option (List Ty)) (σ τ : SignedSol) : Type 0 where
+record SignedFollows (s : Words) (μ : ℕ → ℕ) (src : Types) (ps : Option (List Ty)) (σ τ : SignedSol) : Type 0 where
   param : (r : ℕ) (u : Ty) → r < length src → param-for ps (state-at src r) ≡ some u → value s σ u ≡ τ r
   -- and any other known type is over what its children are.
-  plain : (r : ℕ) (i : Bool) (k d : ℕ) (cs : List Ty) → r < length src → param-for ps (state-at src r) ≡ none → state-at src r ≡ known i k d cs → τ r ≡ made s i k d (values s τ cs)
+  plain : (r : ℕ) (i : Bool) (k d : ℕ) (cs : List Ty) → r < length src → param-for ps (state-at src r) ≡ none → state-at src r ≡ known i k d cs → τ r ≡ made s i k (label μ k d r) (values s τ cs)
 
 -- Where parameters are given, a Param is what was given for it.
 unfoldable signed-given : Words → List Ty → SignedSol → SignedSol
 signed-given s ps σ d = value s σ (getD ps d (false, 0))
 
-given-follows : (s : Words) (src : Types) (ps : List Ty) (σ τ : SignedSol) → SignedReads s src (signed-given s ps σ) τ → SignedFollows s src (some ps) σ τ
+given-follows : (s : Words) (μ : ℕ → ℕ) (src : Types) (ps : List Ty) (σ τ : SignedSol) → SignedReads s μ src (signed-given s ps σ) τ → SignedFollows s μ src (some ps) σ τ
 unfolding param-for signed-given
-given-follows s src ps σ τ reads = record { param = λ r u h e. param-reads r u (state-at src r) (reads r h) e; plain = λ r i k d cs h e q. plain-reads r i k d cs (eqb k kind·param) refl (subst (SignedSuits s (signed-given s ps σ) τ r) q (reads r h)) (sym (ap (param-for (some ps)) q) ∙ e) }
+given-follows s μ src ps σ τ reads = record { param = λ r u h e. param-reads r u (state-at src r) (reads r h) e; plain = λ r i k d cs h e q. plain-reads r i k d cs (eqb k kind·param) refl (subst (SignedSuits s μ (signed-given s ps σ) τ r) q (reads r h)) (sym (ap (param-for (some ps)) q) ∙ e) }
   where
-    param-reads : (r : ℕ) (u : Ty) (st : TypeState) → SignedSuits s (signed-given s ps σ) τ r st → param-for (some ps) st ≡ some u → value s σ u ≡ τ r
+    param-reads : (r : ℕ) (u : Ty) (st : TypeState) → SignedSuits s μ (signed-given s ps σ) τ r st → param-for (some ps) st ≡ some u → value s σ u ≡ τ r
     param-reads r u unknown w q = absurd (Option·none-ne-some u q)
     param-reads r u (known i k d cs) w q = at-kind (eqb k kind·param) refl
       where
@@ -660,7 +717,7 @@ given-follows s src ps σ τ reads = record { param = λ r u h e. param-reads r 
         at-kind true z = ap (value s σ) (sym (Option·some-injective _ _ (rw (z, param-for) at q))) ∙ value-invert s σ i (getD ps d (false, 0)) ∙ sym (rw (z, SignedSuits) at w)
         at-kind false z = absurd (Option·none-ne-some u (rw (z, param-for) at q))
 
-    plain-reads : (r : ℕ) (i : Bool) (k d : ℕ) (cs : List Ty) (b : Bool) → eqb k kind·param ≡ b → SignedSuits s (signed-given s ps σ) τ r (known i k d cs) → param-for (some ps) (known i k d cs) ≡ none → τ r ≡ made s i k d (values s τ cs)
+    plain-reads : (r : ℕ) (i : Bool) (k d : ℕ) (cs : List Ty) (b : Bool) → eqb k kind·param ≡ b → SignedSuits s μ (signed-given s ps σ) τ r (known i k d cs) → param-for (some ps) (known i k d cs) ≡ none → τ r ≡ made s i k (label μ k d r) (values s τ cs)
     plain-reads r i k d cs true z w e = absurd (Option·none-ne-some _ (sym (rw (z, param-for) at e)))
     plain-reads r i k d cs false z w e = rw (z, SignedSuits) at w
 
@@ -668,27 +725,31 @@ given-follows s src ps σ τ reads = record { param = λ r u h e. param-reads r 
 unfoldable signed-itself : Words → SignedSol
 signed-itself s d = made s false kind·param d snil
 
-none-follows : (s : Words) (src : Types) → ((n : ℕ) → Bare (state-at src n)) → (σ τ : SignedSol) → SignedReads s src (signed-itself s) τ → SignedFollows s src none σ τ
+-- A Param is no Error.
+param≢error : kind·param ≢ kind·error
+param≢error q = absurd (omega (arith, q))
+
+none-follows : (s : Words) (μ : ℕ → ℕ) (src : Types) → ((n : ℕ) → Bare (state-at src n)) → (σ τ : SignedSol) → SignedReads s μ src (signed-itself s) τ → SignedFollows s μ src none σ τ
 unfolding param-for values signed-itself
-none-follows s src bare σ τ reads = record { param = λ r u h e. absurd (Option·none-ne-some u e); plain = λ r i k d cs h e q. go r i k d cs (subst Bare q (bare r)) (eqb k kind·param) refl (subst (SignedSuits s (signed-itself s) τ r) q (reads r h)) }
+none-follows s μ src bare σ τ reads = record { param = λ r u h e. absurd (Option·none-ne-some u e); plain = λ r i k d cs h e q. go r i k d cs (subst Bare q (bare r)) (eqb k kind·param) refl (subst (SignedSuits s μ (signed-itself s) τ r) q (reads r h)) }
   where
-    go : (r : ℕ) (i : Bool) (k d : ℕ) (cs : List Ty) → (k ≡ kind·param → cs ≡ []) → (b : Bool) → eqb k kind·param ≡ b → SignedSuits s (signed-itself s) τ r (known i k d cs) → τ r ≡ made s i k d (values s τ cs)
+    go : (r : ℕ) (i : Bool) (k d : ℕ) (cs : List Ty) → (k ≡ kind·param → cs ≡ []) → (b : Bool) → eqb k kind·param ≡ b → SignedSuits s μ (signed-itself s) τ r (known i k d cs) → τ r ≡ made s i k (label μ k d r) (values s τ cs)
     go r i k d cs f true z w =
         let e = eqb→eq k kind·param (subst T (sym z) tt) in
-        (rw (z, SignedSuits) at w) ∙ turned-made s i false kind·param d snil ∙ ap (λ b. made s b kind·param d snil) (xor-none i) ∙ ap₂ (λ (x : ℕ) (ys : List Ty). made s i x d (values s τ ys)) (sym e) (sym (f e))
+        (rw (z, SignedSuits) at w) ∙ turned-made s i false kind·param d snil ∙ ap (λ b. made s b kind·param d snil) (xor-none i) ∙ ap₂ (λ (x : ℕ) (ys : List Ty). made s i x d (values s τ ys)) (sym e) (sym (f e)) ∙ ap (λ l. made s i k l (values s τ cs)) (sym (label-plain μ k d r (λ q. param≢error (sym e ∙ q))))
     go r i k d cs f false z w = rw (z, SignedSuits) at w
 
--- A source whose nodes are their own roots, ranked by δ, read by τ as its import takes it; σ solves the table that the transfer leaves, of which the nodes from lo on are new, and M is its mapping.
-module _ (s : Words) (src : Types) (formed : WellFormed src) (flat : (n : ℕ) → n < length src → rep src n ≡ n) (δ : ℕ → ℕ) (ranked : Ranked src δ) (ps : Option (List Ty)) (lo : ℕ) (M : List (ℕ × Ty)) (σ τ : SignedSol) (ups : (n : ℕ) → n < length src → τ n ≡ value s τ ((node-at src n) .up)) (follows : SignedFollows s src ps σ τ) (left : (r : ℕ) (u : Ty) → r < length src → state-at src r ≡ unknown → mapped M r ≡ some u → value s σ u ≡ τ r) where
+-- A source whose nodes are their own roots, ranked by δ, read by τ as its import takes it; σ solves the table that the transfer leaves, of which the nodes from lo on are new, and M is its mapping, which keeps names.
+module _ (s : Words) (ν μ : ℕ → ℕ) (src : Types) (formed : WellFormed src) (flat : (n : ℕ) → n < length src → rep src n ≡ n) (δ : ℕ → ℕ) (ranked : Ranked src δ) (ps : Option (List Ty)) (lo : ℕ) (M : List (ℕ × Ty)) (σ τ : SignedSol) (ups : (n : ℕ) → n < length src → τ n ≡ value s τ ((node-at src n) .up)) (follows : SignedFollows s μ src ps σ τ) (left : (r : ℕ) (u : Ty) → r < length src → state-at src r ≡ unknown → mapped M r ≡ some u → value s σ u ≡ τ r) (namesake : (r : ℕ) (u : Ty) → mapped M r ≡ some u → μ r ≡ ν (u .1)) where
   -- The new nodes of m fit σ, and what went somewhere by then is in M.
   record Ends (m : Transfer) : Type 0 where
-    fits : (n : ℕ) → lo ≤ n → n < length (m .1) → SignedFits s σ n (state-at (m .1) n)
+    fits : (n : ℕ) → lo ≤ n → n < length (m .1) → SignedFits s ν σ n (state-at (m .1) n)
     kept : (r : ℕ) (u : Ty) → mapped (m .0) r ≡ some u → mapped M r ≡ some u
 
   -- It held before.
   ends-before : (m m′ : Transfer) → Frame m m′ → Ends m′ → Ends m
   ends-before m m′ f e = record {
-    fits = λ n l h. subst (SignedFits s σ n) (frame-state m m′ n h f) (e .fits n l (le-trans h (f .long)));
+    fits = λ n l h. subst (SignedFits s ν σ n) (frame-state m m′ n h f) (e .fits n l (le-trans h (f .long)));
     kept = λ r u q. e .kept r u (f .went r u q);
   }
 
@@ -697,9 +758,9 @@ module _ (s : Words) (src : Types) (formed : WellFormed src) (flat : (n : ℕ) �
   unfolding state-at
   ends-unfilled m n st q e = record { fits = λ k l h. go k l h (ℕ-discrete k n); kept = e .kept }
     where
-      go : (k : ℕ) → lo ≤ k → k < length (m .1) → Dec (k ≡ n) → SignedFits s σ k (state-at (m .1) k)
-      go k l h (yes z) = subst (SignedFits s σ k) (sym (ap (state-at (m .1)) z ∙ q)) tt
-      go k l h (no z) = subst (SignedFits s σ k) (ap (λ (x : TypeNode). x .state) (set-off (m .1) n k (new-node n st) z)) (e .fits k l (omega (arith, length-set (m .1) n (new-node n st))))
+      go : (k : ℕ) → lo ≤ k → k < length (m .1) → Dec (k ≡ n) → SignedFits s ν σ k (state-at (m .1) k)
+      go k l h (yes z) = subst (SignedFits s ν σ k) (sym (ap (state-at (m .1)) z ∙ q)) tt
+      go k l h (no z) = subst (SignedFits s ν σ k) (ap (λ (x : TypeNode). x .state) (set-off (m .1) n k (new-node n st) z)) (e .fits k l (omega (arith, length-set (m .1) n (new-node n st))))
 
   -- Roots of rank below b went to what they read as: those above are still being moved.
   abbrev Agrees : ℕ → Transfer → Type 0
@@ -768,15 +829,18 @@ module _ (s : Words) (src : Types) (formed : WellFormed src) (flat : (n : ℕ) �
       own : rep src (t .1) ≡ t .1
       own = flat (t .1) ht
 
-      filled : (i : Bool) (kd d : ℕ) (cs : List Ty) → τ (rep src (t .1)) ≡ made s i kd d (values s τ cs) → (res : List Ty × Transfer) → AllMoved cs (pushed m (rep src (t .1))) res → Frame (pushed m (rep src (t .1))) (res .1) → Ends (res .1 .0, set (res .1 .1) (length (m .1)) (new-node (length (m .1)) (known i kd d (res .0)))) →
+      filled : (i : Bool) (kd d : ℕ) (cs : List Ty) → τ (rep src (t .1)) ≡ made s i kd (label μ kd d (rep src (t .1))) (values s τ cs) → (res : List Ty × Transfer) → AllMoved cs (pushed m (rep src (t .1))) res → Frame (pushed m (rep src (t .1))) (res .1) → Ends (res .1 .0, set (res .1 .1) (length (m .1)) (new-node (length (m .1)) (known i kd d (res .0)))) →
           Moved t m ((xor (t .0) ((node-at src (t .1)) .up .0), length (m .1)), (res .1 .0, set (res .1 .1) (length (m .1)) (new-node (length (m .1)) (known i kd d (res .0)))))
       filled i kd d cs q res w f e = record { is = new-moved t (length (m .1)) ht at-new; grows = λ x u z. ⊎-elim (grows-push m (rep src (t .1)) at-new x u) inr (w .grows x u z) }
         where
           inside : length (m .1) < length (res .1 .1)
           inside = past-push m (res .1) (rep src (t .1)) f
 
+          name : label μ kd d (rep src (t .1)) ≡ label ν kd d (length (m .1))
+          name = label-same μ ν kd d (rep src (t .1)) (length (m .1)) (namesake (rep src (t .1)) (false, length (m .1)) (e .kept (rep src (t .1)) (false, length (m .1)) (f .went (rep src (t .1)) (false, length (m .1)) (mapped-here (m .0) (rep src (t .1)) (false, length (m .1))))))
+
           at-new : σ (length (m .1)) ≡ τ (rep src (t .1))
-          at-new = subst (SignedFits s σ (length (m .1))) (set-state (res .1 .1) (length (m .1)) (known i kd d (res .0)) inside) (e .fits (length (m .1)) l (omega (arith, inside, length-set (res .1 .1) (length (m .1)) (new-node (length (m .1)) (known i kd d (res .0)))))) ∙ ap (made s i kd d) (w .are) ∙ sym q
+          at-new = subst (SignedFits s ν σ (length (m .1))) (set-state (res .1 .1) (length (m .1)) (known i kd d (res .0)) inside) (e .fits (length (m .1)) l (omega (arith, inside, length-set (res .1 .1) (length (m .1)) (new-node (length (m .1)) (known i kd d (res .0)))))) ∙ ap₂ (made s i kd) (sym name) (w .are) ∙ sym q
 
       go : (o : Option Ty) → mapped (m .0) (rep src (t .1)) ≡ o → (u : Option Ty) → param-for ps (state-at src (rep src (t .1))) ≡ u → (st : TypeState) → state-at src (rep src (t .1)) ≡ st → Ends ((transfer-in (suc k) src ps t m) .1) → Moves k (transfer-in k src ps) → Moved t m (transfer-in (suc k) src ps t m)
       go (some u) e w f st q z ih = rw (e, transfer-in) (record { is = root-moved t u ht (a (rep src (t .1)) u (subst (λ x. δ x < b) (sym own) hb) e); grows = λ x v y. inl y })
@@ -809,7 +873,7 @@ module _ (s : Words) (src : Types) (formed : WellFormed src) (flat : (n : ℕ) �
               (ends-unfilled (w .1) (length (m .1)) (known i kd d (w .0)) still done)
 
 -- An import read as terms with sides: where σ solves the table that it leaves, what came is what the source reads as, with π for its Params and what σ says of its unknowns.
-module _ (s : Words) (src : Types) (tidy : Neat src) (flat : (n : ℕ) → n < length src → rep src n ≡ n) (ps : Option (List Ty)) (dst : Types) (xs : List Ty) (inside : AllIn (length src) xs) (σ π : SignedSol) where
+module _ (s : Words) (src : Types) (tidy : Neat src) (flat : (n : ℕ) → n < length src → rep src n ≡ n) (ps : Option (List Ty)) (dst : Types) (xs : List Ty) (inside : AllIn (length src) xs) (ν : ℕ → ℕ) (beyond : ℕ) (σ π : SignedSol) where
   abbrev come : List Ty × Transfer
   come = transfer-types src ps xs ([], dst)
 
@@ -819,13 +883,25 @@ module _ (s : Words) (src : Types) (tidy : Neat src) (flat : (n : ℕ) → n < l
   abbrev ranked : Ranked src (rank src)
   ranked = readable-ranked src (tidy .proper .formed) (tidy .proper .kept)
 
+  -- What came has the name of what it came to, anything else one beyond all others.
+  unfoldable named-in : ℕ → ℕ
+  named-in r = elim (mapped (come .1 .0) r) [ some u ↦ ν (u .1) | none ↦ beyond + r ]
+
+  named-some : (r : ℕ) (u : Ty) → mapped (come .1 .0) r ≡ some u → named-in r ≡ ν (u .1)
+  unfolding named-in
+  named-some r u e = rw (e, named-in)
+
+  named-none : (r : ℕ) → mapped (come .1 .0) r ≡ none → named-in r ≡ beyond + r
+  unfolding named-in
+  named-none r e = rw (e, named-in)
+
   -- An unknown that came is what it came to,
   unfoldable arrived : SignedSol
   arrived r = elim (mapped (come .1 .0) r) [ some u ↦ value s σ u | none ↦ svar r false ]
 
   -- a Param what it is given,
-  unfoldable put : Bool → ℕ → ℕ → Signed → Signed
-  put i k d t = elim (eqb k kind·param) [ true ↦ turned s i (π d) | false ↦ made s i k d t ]
+  unfoldable put : ℕ → Bool → ℕ → ℕ → Signed → Signed
+  put r i k d t = elim (eqb k kind·param) [ true ↦ turned s i (π d) | false ↦ made s i k (label named-in k d r) t ]
 
   -- and all else follows.
   unfoldable source : SignedSol
@@ -839,15 +915,15 @@ module _ (s : Words) (src : Types) (tidy : Neat src) (flat : (n : ℕ) → n < l
   unfolding source
   source-root n h = subst (λ r. source r ≡ shape s src arrived put source r (state-at src r)) (flat n h) (read-root s src arrived put formed (tidy .upright) (rank src) ranked n h)
 
-  source-reads : SignedReads s src π source
+  source-reads : SignedReads s named-in src π source
   unfolding shape put
   source-reads n h = go (state-at src n) (source-root n h)
     where
-      go : (st : TypeState) → source n ≡ shape s src arrived put source n st → SignedSuits s π source n st
+      go : (st : TypeState) → source n ≡ shape s src arrived put source n st → SignedSuits s named-in π source n st
       go unknown e = tt
       go (known i k d cs) e = by (eqb k kind·param) refl
         where
-          by : (b : Bool) → eqb k kind·param ≡ b → SignedSuits s π source n (known i k d cs)
+          by : (b : Bool) → eqb k kind·param ≡ b → SignedSuits s named-in π source n (known i k d cs)
           by true q = rw (q, SignedSuits) (e ∙ rw (q, put))
           by false q = rw (q, SignedSuits) (e ∙ rw (q, put))
 
@@ -865,37 +941,75 @@ module _ (s : Words) (src : Types) (tidy : Neat src) (flat : (n : ℕ) → n < l
   import-first n h = import-frame .nodes n h
 
   -- and what came reads as its source does.
-  import-reads : SignedFollows s src ps σ source → SignedSolves s ((import-types src ps xs dst) .1) σ → values s σ ((import-types src ps xs dst) .0) ≡ values s source xs
+  import-reads : SignedFollows s named-in src ps σ source → SignedSolves s ν ((import-types src ps xs dst) .1) σ → values s σ ((import-types src ps xs dst) .0) ≡ values s source xs
   unfolding import-types transfer-types mapped
   import-reads follows sv =
-      (all-moved s src formed flat (rank src) ranked ps (length dst) (come .1 .0) σ source source-up follows source-left (suc (length src)) (transfer-in (suc (length src)) src ps) (in-frame src ps (suc (length src)))
-      (in-moves s src formed flat (rank src) ranked ps (length dst) (come .1 .0) σ source source-up follows source-left (suc (length src))) (suc (length src)) (le-refl _) xs
+      (all-moved s ν named-in src formed flat (rank src) ranked ps (length dst) (come .1 .0) σ source source-up follows source-left named-some (suc (length src)) (transfer-in (suc (length src)) src ps) (in-frame src ps (suc (length src)))
+      (in-moves s ν named-in src formed flat (rank src) ranked ps (length dst) (come .1 .0) σ source source-up follows source-left named-some (suc (length src))) (suc (length src)) (le-refl _) xs
       (λ j l. (child-in (length src) xs j inside l, omega (arith, readable-most src formed (tidy .proper .kept) ((getD xs j (false, 0)) .1)))) ([], dst) (le-refl _) (λ r u h e. absurd (Option·none-ne-some u e))
-      (record { fits = λ n l h. subst (λ k. SignedFits s σ k (state-at (come .1 .1) k)) (import-frame .flat n l h) (sv n h .1); kept = λ r u e. e })) .are
+      (record { fits = λ n l h. subst (λ k. SignedFits s ν σ k (state-at (come .1 .1) k)) (import-frame .flat n l h) (sv n h .1); kept = λ r u e. e })) .are
 
 -- What solves a table solves one whose nodes stand first in it.
-signed-first : (s : Words) (ts us : Types) (σ : SignedSol) → WellFormed ts → length ts ≤ length us → ((n : ℕ) → n < length ts → node-at us n ≡ node-at ts n) → SignedSolves s us σ → SignedSolves s ts σ
+signed-first : (s : Words) (ν : ℕ → ℕ) (ts us : Types) (σ : SignedSol) → WellFormed ts → length ts ≤ length us → ((n : ℕ) → n < length ts → node-at us n ≡ node-at ts n) → SignedSolves s ν us σ → SignedSolves s ν ts σ
 unfolding rep state-at
-signed-first s ts us σ formed l same sv n h =
+signed-first s ν ts us σ formed l same sv n h =
     let r : rep us n ≡ rep ts n = ap (λ (x : TypeNode). x .up .1) (same n h) in
     let st : state-at us (rep us n) ≡ state-at ts (rep ts n) = ap (state-at us) r ∙ ap (λ (x : TypeNode). x .state) (same (rep ts n) (formed n h .0)) in
     let w = sv n (le-trans h l) in
-    (w .0 ∙ ap (λ (x : TypeNode). value s σ (x .up)) (same n h), subst (λ (k : ℕ). SignedFits s σ k (state-at ts (rep ts n))) r (subst (SignedFits s σ (rep us n)) st (w .1)))
+    (w .0 ∙ ap (λ (x : TypeNode). value s σ (x .up)) (same n h), subst (λ (k : ℕ). SignedFits s ν σ k (state-at ts (rep ts n))) r (subst (SignedFits s ν σ (rep us n)) st (w .1)))
 
 -- Where an import behind table ts unifies with a question of it, there are terms with sides that both are.
 module _ (s : Words) (ts : Types) (q : ImplType) (neat : Neat ts) (inside : AllIn (length ts) (q .1)) (src : Types) (tidy : Neat src) (flat : (n : ℕ) → n < length src → rep src n ≡ n) (ps : Option (List Ty)) (dst : Types) (more : length ts ≤ length dst) (first : (n : ℕ) → n < length ts → node-at dst n ≡ node-at ts n) (p : ImplType) (into : AllIn (length src) (p .1)) where
   abbrev come-in : ImplType × Types
   come-in = import-impl-type src ps p dst
 
-  import-signed : Brought dst (come-in .0 .1) (come-in .1) → (π : SignedSol → SignedSol) → ((σ τ : SignedSol) → SignedReads s src (π σ) τ → SignedFollows s src ps σ τ) → (unify-impl-type s (come-in .1) (come-in .0) q) .0 ≡ success → SignedCommon s ts src (p .1) (q .1)
+  -- The import goes on from dst.
+  come-frame : Frame ([], dst) ((transfer-types src ps (p .1) ([], dst)) .1)
+  unfolding transfer-types
+  come-frame = each-frame (transfer-in (suc (length src)) src ps) (in-frame src ps (suc (length src))) (p .1) ([], dst)
+
+  -- A root that is Error is so behind the import,
+  old-root : (n : ℕ) → n < length ts → rep ts n ≡ n → rep (come-in .1) n ≡ n
+  unfolding import-impl-type import-types rep
+  old-root n h r = ap (λ (x : TypeNode). x .up .1) (come-frame .nodes n (le-trans h more) ∙ first n h) ∙ r
+
+  old-error : (n : ℕ) → n < length ts → IsError (state-at ts n) → IsError (state-at (come-in .1) n)
+  unfolding import-impl-type import-types state-at
+  old-error n h e = subst IsError (sym (ap (λ (x : TypeNode). x .state) (come-frame .nodes n (le-trans h more) ∙ first n h))) e
+
+  -- and an Error that came is at a new root of its own.
+  abbrev went-to : ℕ → Option Ty
+  went-to = mapped ((transfer-types src ps (p .1) ([], dst)) .1 .0)
+
+  new-low : (r : ℕ) (u : Ty) → went-to r ≡ some u → length ts ≤ u .1
+  new-low r u e = le-trans more (import-came src ps (p .1) dst r u e .0)
+
+  new-in : (r : ℕ) (u : Ty) → went-to r ≡ some u → u .1 < length (come-in .1)
+  unfolding import-impl-type import-types
+  new-in r u e = import-came src ps (p .1) dst r u e .1
+
+  new-root : (r : ℕ) (u : Ty) → went-to r ≡ some u → rep (come-in .1) (u .1) ≡ u .1
+  unfolding import-impl-type import-types
+  new-root r u e = come-frame .flat (u .1) (import-came src ps (p .1) dst r u e .0) (import-came src ps (p .1) dst r u e .1)
+
+  new-error : (r : ℕ) (u : Ty) → went-to r ≡ some u → IsError (state-at src r) → IsError (state-at (come-in .1) (u .1))
+  unfolding import-impl-type import-types
+  new-error r u e = import-came src ps (p .1) dst r u e .2
+
+  import-signed : Brought dst (come-in .0 .1) (come-in .1) → (π : SignedSol → SignedSol) → ((μ : ℕ → ℕ) (σ τ : SignedSol) → SignedReads s μ src (π σ) τ → SignedFollows s μ src ps σ τ) → (unify-impl-type s (come-in .1) (come-in .0) q) .0 ≡ success → SignedCommon s ts src (p .1) (q .1)
   unfolding import-impl-type
   import-signed b π follow won = record {
     σ = σ;
-    solves = signed-first s ts (w .1) σ (neat .proper .formed) long (λ k l. import-first s src tidy flat ps dst (p .1) into σ (π σ) k (le-trans l more) ∙ first k l) (r .0);
+    name = ν;
+    solves = signed-first s ν ts (w .1) σ (neat .proper .formed) long (λ k l. import-first s src tidy flat ps dst (p .1) into ν beyond σ (π σ) k (le-trans l more) ∙ first k l) (r .0);
     π = π σ;
     τ = τ;
+    called = μ;
     reads = reads;
-    same = sym (import-reads s src tidy flat ps dst (p .1) into σ (π σ) (follow σ τ reads) (r .0)) ∙ r .1;
+    same = sym (import-reads s src tidy flat ps dst (p .1) into ν beyond σ (π σ) (follow μ σ τ reads) (r .0)) ∙ r .1;
+    apart = λ x y hx hy rx ry ex ey e. distinct x y (le-trans hx long) (le-trans hy long) (old-root x hx rx) (old-root y hy ry) (old-error x hx ex) (old-error y hy ey) e;
+    apart-source = λ x y hx hy ex ey e. of-source x y ex ey e (went-to x) refl (went-to y) refl;
+    apart-both = λ x y hx hy ry ex ey e. of-both x y hy ry ex ey e (went-to x) refl;
   }
     where
       w : ImplType × Types
@@ -913,20 +1027,59 @@ module _ (s : Words) (ts : Types) (q : ImplType) (neat : Neat ts) (inside : AllI
       j : Joined (w .1) (m .1)
       j = unify-query-neat s (w .1) (w .0) q (b .neat) (b .inside) asked
 
-      h : (θ : SignedSol) × SignedSolves s (m .1) θ
-      h = has-signed s (m .1) (j .neat .proper .formed) (j .neat .proper .kept) (j .neat .upright)
+      -- A node's name is its root in the table that the join leaves.
+      ν : ℕ → ℕ
+      ν = rep (m .1)
+
+      beyond : ℕ
+      beyond = length (m .1)
+
+      h : (θ : SignedSol) × SignedSolves s ν (m .1) θ
+      h = has-signed s ν (m .1) (j .neat .proper .formed) (j .neat .proper .kept) (j .neat .upright)
 
       σ : SignedSol
       σ = h .0
 
-      r : SignedSolves s (w .1) σ × (values s σ (w .0 .1) ≡ values s σ (q .1))
-      r = impl-type-signed s (w .1) (w .0) q (b .neat .proper .formed) (b .inside) asked (b .neat .proper .kept) (b .neat .upright) won σ (h .1)
+      r : SignedSolves s ν (w .1) σ × (values s σ (w .0 .1) ≡ values s σ (q .1))
+      r = impl-type-signed s ν (w .1) (w .0) q (b .neat .proper .formed) (b .inside) asked (b .neat .proper .kept) (b .neat .upright) won (λ x y hx hy e. e) σ (h .1)
+
+      μ : ℕ → ℕ
+      μ = named-in s src tidy flat ps dst (p .1) into ν beyond σ (π σ)
 
       τ : SignedSol
-      τ = source s src tidy flat ps dst (p .1) into σ (π σ)
+      τ = source s src tidy flat ps dst (p .1) into ν beyond σ (π σ)
 
-      reads : SignedReads s src (π σ) τ
-      reads = source-reads s src tidy flat ps dst (p .1) into σ (π σ)
+      reads : SignedReads s μ src (π σ) τ
+      reads = source-reads s src tidy flat ps dst (p .1) into ν beyond σ (π σ)
+
+      parts : Apart (w .1) (m .1)
+      parts = impl-type-apart s (w .1) (w .0) q (b .neat .proper .formed) (b .inside) asked (b .neat .proper .kept) won
+
+      distinct : (x y : ℕ) → x < length (w .1) → y < length (w .1) → rep (w .1) x ≡ x → rep (w .1) y ≡ y → IsError (state-at (w .1) x) → IsError (state-at (w .1) y) → ν x ≡ ν y → x ≡ y
+      distinct x y hx hy rx ry ex ey e = sym rx ∙ parts .apart x y hx hy (subst (λ n. IsError (state-at (w .1) n)) (sym rx) ex) (subst (λ n. IsError (state-at (w .1) n)) (sym ry) ey) e ∙ ry
+
+      below : (n : ℕ) → n < length (w .1) → ν n < beyond
+      below n l = j .neat .proper .formed n (subst (λ N. n < N) (sym (j .len)) l) .0
+
+      here : (n : ℕ) (u : Ty) → went-to n ≡ some u → μ n ≡ ν (u .1)
+      here = named-some s src tidy flat ps dst (p .1) into ν beyond σ (π σ)
+
+      away : (n : ℕ) → went-to n ≡ none → μ n ≡ beyond + n
+      away = named-none s src tidy flat ps dst (p .1) into ν beyond σ (π σ)
+
+      of-source : (x y : ℕ) → IsError (state-at src x) → IsError (state-at src y) → μ x ≡ μ y → (u : Option Ty) → went-to x ≡ u → (v : Option Ty) → went-to y ≡ v → x ≡ y
+      of-source x y ex ey e (some u) eu (some v) ev =
+          import-once src ps (tidy .proper .formed) (p .1) dst into x y u v eu ev
+          (distinct (u .1) (v .1) (new-in x u eu) (new-in y v ev) (new-root x u eu) (new-root y v ev) (new-error x u eu ex) (new-error y v ev ey) (sym (here x u eu) ∙ e ∙ here y v ev))
+      of-source x y ex ey e (some u) eu none ev = absurd (lt-irrefl beyond (omega (arith, below (u .1) (new-in x u eu), here x u eu, e, away y ev)))
+      of-source x y ex ey e none eu (some v) ev = absurd (lt-irrefl beyond (omega (arith, below (v .1) (new-in y v ev), here y v ev, e, away x eu)))
+      of-source x y ex ey e none eu none ev = omega (arith, away x eu, e, away y ev)
+
+      of-both : (x y : ℕ) → y < length ts → rep ts y ≡ y → IsError (state-at src x) → IsError (state-at ts y) → μ x ≡ ν y → (u : Option Ty) → went-to x ≡ u → ⊥
+      of-both x y hy ry ex ey e (some u) eu =
+          let same : u .1 ≡ y = distinct (u .1) y (new-in x u eu) (le-trans hy long) (new-root x u eu) (old-root y hy ry) (new-error x u eu ex) (old-error y hy ey) (sym (here x u eu) ∙ e) in
+          lt-irrefl y (omega (arith, new-low x u eu, same))
+      of-both x y hy ry ex ey e none eu = lt-irrefl beyond (omega (arith, below y (le-trans hy long), e, away x eu))
 
 -- Where a candidate's signature unifies with the question, there are terms with sides that both are: the question in a solution of its table, the signature by some choice for its parameters.
 pub candidate-signed : (a : Finder) (w₀ : Words) → Ready a w₀ → (ts : Types) (q : ImplType) → Neat ts → AllIn (length ts) (q .1) → (i : ℕ) → i < many (a .sheet) header·impls → (met (a .sheet) ts q i) .0 ≡ success → SignedCommon (a .sheet) ts ((impl-signature (a .sheet) i) .0) ((impl-signature (a .sheet) i) .1 .1) (q .1)
@@ -934,7 +1087,7 @@ unfolding impl-signature
 candidate-signed a w₀ ready ts q neat inside i h won =
     let n = fresh-count (a .sheet) i in
     import-signed (a .sheet) ts q neat inside ((impl-signature (a .sheet) i) .0) (signature-neat a w₀ ready i h) (table-flat (a .sheet) (impl-table (a .sheet) i)) (some (fresh-params ts n)) (with-fresh ts n) (omega (arith, fresh-length ts n)) (fresh-first ts n)
-    ((impl-signature (a .sheet) i) .1) (signature-in a w₀ ready i h) (signature-brought a w₀ ready ts q neat inside i h) (signed-given (a .sheet) (fresh-params ts n)) (given-follows (a .sheet) ((impl-signature (a .sheet) i) .0) (fresh-params ts n)) won
+    ((impl-signature (a .sheet) i) .1) (signature-in a w₀ ready i h) (signature-brought a w₀ ready ts q neat inside i h) (signed-given (a .sheet) (fresh-params ts n)) (λ μ. given-follows (a .sheet) μ ((impl-signature (a .sheet) i) .0) (fresh-params ts n)) won
 
 -- So are there where an impl parameter of the caller's generics unifies with the question: its Params are types of their own.
 pub param-signed : (a : Finder) (w₀ : Words) → Ready a w₀ → (ts : Types) (q : ImplType) → Neat ts → AllIn (length ts) (q .1) → (p : ImplType) → AllIn (length ((impl-params (a .sheet) (a .generics)) .0)) (p .1) → (unify-impl-type (a .sheet) ((import-impl-type ((impl-params (a .sheet) (a .generics)) .0) none p ts) .1) ((import-impl-type ((impl-params (a .sheet) (a .generics)) .0) none p ts) .0) q) .0 ≡ success → SignedCommon (a .sheet) ts ((impl-params (a .sheet) (a .generics)) .0) (p .1) (q .1)
@@ -943,4 +1096,4 @@ param-signed a w₀ ready ts q neat inside p into won =
     let src = (impl-params (a .sheet) (a .generics)) .0 in
     let tidy = impl-params-neat a w₀ ready (a .generics) (ready .generics) in
     import-signed (a .sheet) ts q neat inside src tidy (table-flat (a .sheet) (generics-table (a .sheet) (a .generics))) none ts (le-refl _) (λ k l. refl)
-    p into (query-brought src tidy none ts neat (low-none ts) p into) (λ σ. signed-itself (a .sheet)) (none-follows (a .sheet) src (params-bare a w₀ ready)) won
+    p into (query-brought src tidy none ts neat (low-none ts) p into) (λ σ. signed-itself (a .sheet)) (λ μ. none-follows (a .sheet) μ src (params-bare a w₀ ready)) won
