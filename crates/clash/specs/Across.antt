@@ -9,6 +9,7 @@ use native.Mathlib.Omega.{arith}
 use lib.ListN.{length, take, drop, length-drop, drop-of-length-le}
 use lib.Seq.{drop-cons, getD-take, length-take-le}
 use Rattle.rules.specs.Lists.{Words}
+use Rattle.rules.specs.Layout.{kind·error}
 use Rattle.rules.specs.Sheet.{at, chain, chain-of}
 use Rattle.rules.specs.Types.{xor}
 use Rattle.rules.specs.Transfer.{cell-types}
@@ -19,7 +20,7 @@ use Rattle.table.specs.Nodes.{types-few}
 use Rattle.table.specs.ChildTypes.{ChildTypes, known-in}
 use Rattle.clash.specs.Meaning.{odd, means, means-turn, turn, row, record-types, record-side, Meaning, made-parts, type-sort}
 use Rattle.clash.specs.Refs.{place, KindOf, kind-node, kind-record, id-node, id-record, side-of, side-node, side-record, type-side, Bit, bit-yes, bit-no, bit-sum, bit-odd, place-high}
-use Rattle.clash.specs.Meeting.{Holds, Inverts, Meets, Puts, apart, roots-kinds, known-ids, known-inverted, roots-put}
+use Rattle.clash.specs.Meeting.{Holds, Inverts, Meets, Puts, apart, roots-kinds, roots-errors, known-ids, known-inverted, roots-put}
 use Rattle.clash.specs.Children.{cell-type, cell-types-are, cells-none, cells-more, over-record, gathers-node}
 use Rattle.clash.specs.Pairs.{row-length, row-same, row-rest}
 
@@ -71,7 +72,11 @@ module _ (s ws ls qs : Words) (e x y p k : ℕ) (zp : p ≢ 0) (ek : k ≡ at s 
   pub record-kinds : j ≢ k → RecordMet s ws ls qs e x y p ls qs 1000
   record-kinds n = record { at = λ ps ep. roots-kinds s ps ws ls qs e x y k j (its-kind ps ep) (node-kind ps) (omega arith) (λ q. zy (sym ej ∙ q)) (λ q. n (sym q)) }
 
-  -- They are of one kind.
+  -- They are of one kind: Errors, that of a record and that of a node,
+  pub record-errors : j ≡ k → k ≡ kind·error → RecordMet s ws ls qs e x y p ls qs 1000
+  record-errors same o = record { at = λ ps ep. roots-errors s ps ws ls qs e x y k (its-kind ps ep) (subst (KindOf s ps ws (y / 2)) same (node-kind ps)) (omega arith) o (let z = high ps ep in omega (arith, low)) }
+
+  -- or any.
   module _ (same : j ≡ k) (c d : ℕ) (ec : c ≡ at s (p + 3)) (ed : d ≡ id-at (types-of ws) (y / 2)) where
     same-kind : (ps : Words) → KindOf s ps ws (y / 2) k
     same-kind ps = subst (KindOf s ps ws (y / 2)) same (node-kind ps)
@@ -87,6 +92,15 @@ record-put s ws ls qs e x y p ks rs r u = record { at = λ ps ep. roots-put s ps
 
 pub record-met : (s ps ws ls qs : Words) (e x y p : ℕ) (ks rs : Words) (r : ℕ) → p ≡ place ps (x / 2) → RecordMet s ws ls qs e x y p ks rs r → Meets s ps ws ls qs e x y ks rs r
 record-met s ps ws ls qs e x y p ks rs r ep t = t .at ps ep
+
+-- A pair that is met, or passed over: what comes after, by other names.
+pub meets-as : (s ps ws ls qs : Words) (e x y : ℕ) (ks rs : Words) (r : ℕ) (is ts : Words) (u : ℕ) → Meets s ps ws ls qs e x y ks rs r → is ≡ ks → ts ≡ rs → u ≡ r → Meets s ps ws ls qs e x y is ts u
+meets-as s ps ws ls qs e x y ks rs r is ts u t ei et eu =
+    subst (λ (v : Words). Meets s ps ws ls qs e x y v ts u) (sym ei)
+    (subst (λ (v : Words). Meets s ps ws ls qs e x y ks v u) (sym et) (subst (Meets s ps ws ls qs e x y ks rs) (sym eu) t))
+
+pub meets-passed : (s ps ws ls qs : Words) (e x y : ℕ) (is ts : Words) (u : ℕ) → is ≡ ls → ts ≡ qs → u ≡ e → Meets s ps ws ls qs e x y is ts u
+meets-passed s ps ws ls qs e x y is ts u ei et eu = meets-as s ps ws ls qs e x y ls qs e is ts u (record { at = λ m w h q. h }) ei et eu
 
 -- The cells from h mean what a row does, turned by b.
 pub record Matches (s : Words) (m : SignedSol) (h b : ℕ) (o : Row) : Type 0 where

@@ -4,17 +4,19 @@ use mathlib.Core.Path.{_≡_, refl, sym, _∙_, ap, subst}
 use mathlib.Core.Bool.{Bool, true, false}
 use mathlib.Core.Logic.{_≢_, ⊎-elim}
 use native.Mathlib.Nat.{eq-or-lt-of-le}
+use native.Mathlib.Decide.{ℕ-discrete}
 use native.Mathlib.Omega.{arith}
 use lib.ListN.{length, set, length-set}
 use lib.Seq.{getD-set-same, getD-set-other}
 use Rattle.rules.specs.Lists.{Words}
+use Rattle.rules.specs.Layout.{kind·error}
 use Rattle.rules.specs.Sheet.{at, kind-flag, row·own-inverse}
 use Rattle.rules.specs.Types.{xor}
 use Rattle.rules.specs.WordLaws.{word-past}
 use Rattle.rules.specs.Pigeonholes.{lt-or}
-use Rattle.rules.specs.SignedTerms.{SignedSol}
+use Rattle.rules.specs.SignedTerms.{SignedSol, label, label-plain, label-error, label-flag}
 use Rattle.clash.specs.Meaning.{means, means-mod, Meaning, Parts, made-parts}
-use Rattle.clash.specs.Refs.{KindOf, IdOf, sort-type, id-any, type-side, Bit, bits-apart, Sided, sided-not}
+use Rattle.clash.specs.Refs.{KindOf, IdOf, sort-type, error-one, id-one, id-any, type-side, Bit, bits-apart, Sided, sided-not}
 use Rattle.clash.specs.Links.{Linked, Finds, Links, Settles}
 
 -- What is kept while types are met: the links, and the pairs before place e of the queue, are of types that mean the same; 1000 is said where that cannot be.
@@ -113,14 +115,37 @@ apart s ps ws x y = xor (type-side s ps ws x) (type-side s ps ws y)
 
 -- Two types that have kinds and mean the same.
 module _ (s ps ws : Words) (x y k j c d : ℕ) (ek : KindOf s ps ws (x / 2) k) (ej : KindOf s ps ws (y / 2) j) (zk : k ≢ 0) (zj : j ≢ 0) (ec : IdOf s ps ws (x / 2) c) (ed : IdOf s ps ws (y / 2) d) (m : SignedSol) (w : Meaning s ps ws m) (q : means s m x ≡ means s m y) where
-  pub known-parts : Parts s (type-side s ps ws x) (type-side s ps ws y) k j c d ((sort-type s ps ws m x k c w ek ec zk) .over) ((sort-type s ps ws m y j d w ej ed zj) .over)
+  known-parts : Parts s (type-side s ps ws x) (type-side s ps ws y) k j (label (w .records .name) k c (x / 2)) (label (w .records .name) j d (y / 2)) ((sort-type s ps ws m x k c w ek ec zk) .over) ((sort-type s ps ws m y j d w ej ed zj) .over)
   known-parts =
       let a = sort-type s ps ws m x k c w ek ec zk in
       let b = sort-type s ps ws m y j d w ej ed zj in
-      made-parts s (type-side s ps ws x) (type-side s ps ws y) k j c d (a .over) (b .over) (sym (a .is) ∙ q ∙ b .is)
+      made-parts s (type-side s ps ws x) (type-side s ps ws y) k j (label (w .records .name) k c (x / 2)) (label (w .records .name) j d (y / 2)) (a .over) (b .over) (sym (a .is) ∙ q ∙ b .is)
+
+  -- They are of one kind, an Error is the same ref,
+  pub known-kinds : k ≡ j
+  known-kinds = known-parts .kinds
+
+  pub known-errors : k ≡ kind·error → x / 2 ≡ y / 2
+  known-errors e =
+      let o : j ≡ kind·error = sym known-kinds ∙ e in
+      error-one s ps ws m w (x / 2) (y / 2) (subst (KindOf s ps ws (x / 2)) e ek) (subst (KindOf s ps ws (y / 2)) o ej)
+      (sym (label-error (w .records .name) k c (x / 2) e) ∙ known-parts .ids ∙ label-error (w .records .name) j d (y / 2) o)
+
+  -- of one id, and of one side if that is not its own inverse.
+  pub known-same : c ≡ d
+  known-same = elim (ℕ-discrete k kind·error) [
+    | yes e ↦ id-one s ps ws (x / 2) c d ec (subst (λ r. IdOf s ps ws r d) (sym (known-errors e)) ed)
+    | no n ↦ sym (label-plain (w .records .name) k c (x / 2) n) ∙ known-parts .ids ∙ label-plain (w .records .name) j d (y / 2) (λ e. n (known-kinds ∙ e))
+  ]
+
+  pub known-sides : kind-flag s row·own-inverse k c ≡ false → type-side s ps ws x ≡ type-side s ps ws y
+  known-sides o = known-parts .sides (label-flag s row·own-inverse (w .records .name) k c (x / 2) ∙ o)
 
 pub kinds-same : (s ps ws : Words) (x y k j : ℕ) → KindOf s ps ws (x / 2) k → KindOf s ps ws (y / 2) j → k ≢ 0 → j ≢ 0 → (m : SignedSol) → Meaning s ps ws m → means s m x ≡ means s m y → k ≡ j
-kinds-same s ps ws x y k j ek ej zk zj m w q = (known-parts s ps ws x y k j (id-any s ps ws (x / 2) .0) (id-any s ps ws (y / 2) .0) ek ej zk zj (id-any s ps ws (x / 2) .1) (id-any s ps ws (y / 2) .1) m w q) .kinds
+kinds-same s ps ws x y k j ek ej zk zj m w q = known-kinds s ps ws x y k j (id-any s ps ws (x / 2) .0) (id-any s ps ws (y / 2) .0) ek ej zk zj (id-any s ps ws (x / 2) .1) (id-any s ps ws (y / 2) .1) m w q
+
+pub errors-same : (s ps ws : Words) (x y k j : ℕ) → KindOf s ps ws (x / 2) k → KindOf s ps ws (y / 2) j → k ≢ 0 → j ≢ 0 → k ≡ kind·error → (m : SignedSol) → Meaning s ps ws m → means s m x ≡ means s m y → x / 2 ≡ y / 2
+errors-same s ps ws x y k j ek ej zk zj e m w q = known-errors s ps ws x y k j (id-any s ps ws (x / 2) .0) (id-any s ps ws (y / 2) .0) ek ej zk zj (id-any s ps ws (x / 2) .1) (id-any s ps ws (y / 2) .1) m w q e
 
 module _ (s ps ws ls qs : Words) (e x y : ℕ) where
   -- One has no kind.
@@ -134,13 +159,17 @@ module _ (s ps ws ls qs : Words) (e x y : ℕ) where
   pub roots-kinds : (k j : ℕ) → KindOf s ps ws (x / 2) k → KindOf s ps ws (y / 2) j → k ≢ 0 → j ≢ 0 → k ≢ j → Meets s ps ws ls qs e x y ls qs 1000
   roots-kinds k j ek ej zk zj n = record { at = λ m w h q. absurd (n (kinds-same s ps ws x y k j ek ej zk zj m w q)) }
 
+  -- Both are Errors, and different refs.
+  pub roots-errors : (k : ℕ) → KindOf s ps ws (x / 2) k → KindOf s ps ws (y / 2) k → k ≢ 0 → k ≡ kind·error → x / 2 ≢ y / 2 → Meets s ps ws ls qs e x y ls qs 1000
+  roots-errors k ek ej zk o n = record { at = λ m w h q. absurd (n (errors-same s ps ws x y k k ek ej zk zk o m w q)) }
+
   -- It is the same.
   module _ (k : ℕ) (ek : KindOf s ps ws (x / 2) k) (ej : KindOf s ps ws (y / 2) k) (zk : k ≢ 0) (c d : ℕ) (ec : IdOf s ps ws (x / 2) c) (ed : IdOf s ps ws (y / 2) d) where
     pub known-ids : c ≢ d → Meets s ps ws ls qs e x y ls qs 1000
-    known-ids n = record { at = λ m w h q. absurd (n ((known-parts s ps ws x y k k c d ek ej zk zk ec ed m w q) .ids)) }
+    known-ids n = record { at = λ m w h q. absurd (n (known-same s ps ws x y k k c d ek ej zk zk ec ed m w q)) }
 
     pub known-inverted : (b : ℕ) → Bit (apart s ps ws x y) b → b ≡ 1 → (ks rs : Words) (r : ℕ) → Inverts s ls qs e x y k c ks rs r → Meets s ps ws ls qs e x y ks rs r
-    known-inverted b o eb ks rs r f = record { at = λ m w h q. f .at m (λ z. bits-apart (type-side s ps ws x) (type-side s ps ws y) b o eb ((known-parts s ps ws x y k k c d ek ej zk zk ec ed m w q) .sides z)) h q }
+    known-inverted b o eb ks rs r f = record { at = λ m w h q. f .at m (λ z. bits-apart (type-side s ps ws x) (type-side s ps ws y) b o eb (known-sides s ps ws x y k k c d ek ej zk zk ec ed m w q z)) h q }
 
   pub roots-put : (ks rs : Words) (r : ℕ) → Puts ls qs e x y ks rs r → Meets s ps ws ls qs e x y ks rs r
   roots-put ks rs r p = record { at = λ m w h q. p .at s m h q }

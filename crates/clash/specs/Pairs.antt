@@ -9,6 +9,7 @@ use native.Mathlib.Omega.{arith}
 use lib.ListN.{length, take, replicate}
 use lib.Seq.{getD-take, length-take-le}
 use Rattle.rules.specs.Lists.{Words}
+use Rattle.rules.specs.Layout.{kind·error}
 use Rattle.rules.specs.Sheet.{at}
 use Rattle.rules.specs.SignedTerms.{Signed, SignedSol, snil, scons, turned, inverse}
 use Rattle.rules.specs.Types.{find}
@@ -22,7 +23,7 @@ use Rattle.clash.specs.Refs.{KindOf, IdOf, Bit, bits-apart, Sided, type-
 use Rattle.clash.specs.Children.{Gathers}
 use Rattle.clash.specs.Links.{Linked, linked-none}
 use Rattle.clash.specs.Cycles.{Cyclic}
-use Rattle.clash.specs.Meeting.{Holds, Meets, apart, known-parts, kinds-same}
+use Rattle.clash.specs.Meeting.{Holds, Meets, apart, known-same, known-sides, kinds-same, errors-same}
 
 -- The first n of xs and ys, turned by b, mean the same one by one.
 pub record Pairs (s : Words) (m : SignedSol) (n b : ℕ) (xs ys : Words) : Type 0 where
@@ -186,11 +187,14 @@ root-clash-not s ps ws a b = record { clash = λ e. let z : _≡_ {A = ℕ} 0 1 
 pub root-kinds : (s ps ws : Words) (a b k j : ℕ) → KindOf s ps ws (a / 2) k → KindOf s ps ws (b / 2) j → k ≢ 0 → j ≢ 0 → k ≢ j → RootClash s ps ws a b true
 root-kinds s ps ws a b k j ek ej zk zj n = record { clash = λ e m w q. n (kinds-same s ps ws a b k j ek ej zk zj m w q) }
 
+pub root-errors : (s ps ws : Words) (a b k j : ℕ) → KindOf s ps ws (a / 2) k → KindOf s ps ws (b / 2) j → k ≢ 0 → j ≢ 0 → k ≡ kind·error → a / 2 ≢ b / 2 → RootClash s ps ws a b true
+root-errors s ps ws a b k j ek ej zk zj o n = record { clash = λ e m w q. n (errors-same s ps ws a b k j ek ej zk zj o m w q) }
+
 pub root-ids : (s ps ws : Words) (a b k j c d : ℕ) → KindOf s ps ws (a / 2) k → KindOf s ps ws (b / 2) j → k ≢ 0 → j ≢ 0 → IdOf s ps ws (a / 2) c → IdOf s ps ws (b / 2) d → c ≢ d → RootClash s ps ws a b true
-root-ids s ps ws a b k j c d ek ej zk zj ec ed n = record { clash = λ e m w q. n ((known-parts s ps ws a b k j c d ek ej zk zj ec ed m w q) .ids) }
+root-ids s ps ws a b k j c d ek ej zk zj ec ed n = record { clash = λ e m w q. n (known-same s ps ws a b k j c d ek ej zk zj ec ed m w q) }
 
 pub root-sides : (s ps ws : Words) (a b k j c d r : ℕ) (o : Bool) → KindOf s ps ws (a / 2) k → KindOf s ps ws (b / 2) j → k ≢ 0 → j ≢ 0 → IdOf s ps ws (a / 2) c → IdOf s ps ws (b / 2) d → Bit (apart s ps ws a b) r → r ≡ 1 → Sided s k c o → RootClash s ps ws a b o
-root-sides s ps ws a b k j c d r o ek ej zk zj ec ed t er f = record { clash = λ e m w q. bits-apart (type-side s ps ws a) (type-side s ps ws b) r t er ((known-parts s ps ws a b k j c d ek ej zk zj ec ed m w q) .sides (f .is e)) }
+root-sides s ps ws a b k j c d r o ek ej zk zj ec ed t er f = record { clash = λ e m w q. bits-apart (type-side s ps ws a) (type-side s ps ws b) r t er (known-sides s ps ws a b k j c d ek ej zk zj ec ed m w q (f .is e)) }
 
 pub clashing-root : (s ps ws : Words) (p q : Query) (k a b : ℕ) (r : Bool) → k < q .n → a ≡ 2048 + at (p .args) k % 2048 → b ≡ asked-type ws q k → RootClash s ps ws a b r → r ≡ true → Clashing s ps ws p q true
 clashing-root s ps ws p q k a b r h ea eb o e = record { clash = λ y m w x. o .clash e m w (ap (means s m) ea ∙ x .same k h ∙ ap (means s m) (sym eb)) }

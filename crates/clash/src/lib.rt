@@ -1,5 +1,5 @@
 // Whether a candidate's signature, or an impl parameter of the caller's generics, and the question cannot unify: a test made before it is opened.
-// It goes by classes of types that have to be the same, and finds a clash: two types of one class that differ in kind, id or number of children, or in side where the kind is not its own inverse,
+// It goes by classes of types that have to be the same, and finds a clash: two types of one class that differ in kind, id or number of children, or are different Errors, or differ in side where the kind is not its own inverse,
 // so that a type is met inverted that may not be (where a type meets its own inverse, its children meet theirs); or a class that would contain itself, which is the occurs check (`cycles`). Where it finds none nothing is said.
 // A type is twice a ref, and one more if it is inverted. Refs are read modulo 2,048: up to 255 roots of the question's table, from 256 on type parameters, from 1,024 on nodes of the signature's table by their records.
 // `links` has for each ref 0, or 1 and the type that the ref is, of the same class; `queue` has pairs of types that are the same and whose children are to be met, in its first 256 words;
@@ -53,6 +53,8 @@ const PARAM: u32 = 1;
 const STRUCT: u32 = 4;
 
 const UNION: u32 = 6;
+
+const ERROR: u32 = 13;
 
 // Up to as many words of a sheet and nodes of the question's table nothing more is tested than the roots of the arguments.
 const SMALL_SHEET: usize = 320;
@@ -421,7 +423,7 @@ fn meet_inverted(
     put(links, queue, end, x, y)
 }
 
-// Meets two types of kind k.
+// Meets two types of kind k. Errors of different refs clash.
 fn meet_known(
     sheet: &[u32],
     places: &[u32],
@@ -438,6 +440,11 @@ fn meet_known(
     requires { ⌜ k ≢ 0 ⌝ }
     ensures { λ r. ⌜ Meets (now (sheet .entry)) (now (places .entry)) (now (ws .entry)) (now (links .entry)) (now (queue .entry)) end x y (now (links .exit)) (now (queue .exit)) r ⌝ }
 {
+    if k == ERROR {
+        if x / 2 != y / 2 {
+            return CLASH;
+        }
+    }
     let d = id(sheet, places, ws, x / 2);
     if d != id(sheet, places, ws, y / 2) {
         return CLASH;
@@ -561,7 +568,7 @@ fn across(sheet: &[u32], p: usize, ws: &[u32], x: u32, y: u32) -> u32
     (x % 2 + y % 2 + a) % 2
 }
 
-// Meets a type of the signature that has kind k, and whose record is at p, with a type of the question of a root.
+// Meets a type of the signature that has kind k, and whose record is at p, with a type of the question of a root. Two Errors clash.
 fn meet_record(
     sheet: &[u32],
     ws: &[u32],
@@ -580,6 +587,9 @@ fn meet_record(
     ensures { λ r. ⌜ RecordMet (now (sheet .entry)) (now (ws .entry)) (now (links .entry)) (now (queue .entry)) end x y p (now (links .exit)) (now (queue .exit)) r ⌝ }
 {
     if table::kind_of(ws, y / 2) != k {
+        return CLASH;
+    }
+    if k == ERROR {
         return CLASH;
     }
     let d = words::offset(sheet, p, layout::NODE_ID);
@@ -617,7 +627,7 @@ fn meet_new(
     meet(sheet, places, ws, links, queue, end, x, y)
 }
 
-// Meets a type of the signature with a type of the question of a root. Most are linked to each other already.
+// Meets a type of the signature with a type of the question of a root.
 fn meet_cell(
     sheet: &[u32],
     places: &[u32],
@@ -630,17 +640,13 @@ fn meet_cell(
 ) -> usize
     ensures { λ r. ⌜ Meets (now (sheet .entry)) (now (places .entry)) (now (ws .entry)) (now (links .entry)) (now (queue .entry)) end x y (now (links .exit)) (now (queue .exit)) r ⌝ }
 {
-    let up = links[words::wide(x / 2 % 2048)];
-    if up == turn(x % 2, y) % 4096 + 1 {
-        return end;
-    }
-    if up == 0 {
+    if links[words::wide(x / 2 % 2048)] == 0 {
         return meet_new(sheet, places, ws, links, queue, end, x, y);
     }
     meet(sheet, places, ws, links, queue, end, x, y)
 }
 
-// Meets the types in the cells from a head with those of a row of the question, turned by b: a clash where there are more of one.
+// Meets the types in the cells from a head with those of a row of the question, turned by b: a clash where there are more of one. Most of them are linked to each other already, and need no call.
 fn meet_cells(
     sheet: &[u32],
     places: &[u32],
@@ -665,9 +671,12 @@ fn meet_cells(
             return CLASH;
         }
         let x = own_type(words::offset(sheet, c, layout::CELL_TYPE));
-        e = meet_cell(sheet, places, ws, links, queue, e, x, turn(b, ys.types[j]));
-        if e == CLASH {
-            return e;
+        let y = turn(b, ys.types[j]);
+        if links[words::wide(x / 2 % 2048)] != turn(x % 2, y) % 4096 + 1 {
+            e = meet_cell(sheet, places, ws, links, queue, e, x, y);
+            if e == CLASH {
+                return e;
+            }
         }
         c = words::next(sheet, c);
         j += 1;
@@ -856,7 +865,7 @@ fn clash_args(sheet: &[u32], places: &[u32], ws: &[u32], p: Query, q: Query) -> 
     cycles::cyclic(sheet, places, ws, &links)
 }
 
-// Whether the roots of two arguments clash.
+// Whether the roots of two arguments clash, as Errors of different refs do.
 fn root_clash(sheet: &[u32], places: &[u32], ws: &[u32], a: u32, b: u32) -> bool
     ensures { λ r. ⌜ RootClash (now (sheet .entry)) (now (places .entry)) (now (ws .entry)) a b r ⌝ }
 {
@@ -870,6 +879,11 @@ fn root_clash(sheet: &[u32], places: &[u32], ws: &[u32], a: u32, b: u32) -> bool
     }
     if k != l {
         return true;
+    }
+    if k == ERROR {
+        if a / 2 != b / 2 {
+            return true;
+        }
     }
     let d = id(sheet, places, ws, a / 2);
     if d != id(sheet, places, ws, b / 2) {
