@@ -1,5 +1,5 @@
 -- Pairs of types met in turn: the children of two types, the queue, and the arguments of two questions.
-use Prim.Native.Nat.{ℕ, zero, suc, _+_, _/_, _%_, _≤_, _<_}
+use Prim.Native.Nat.{ℕ, zero, suc, _+_, _-_, _/_, _%_, _≤_, _<_}
 use mathlib.Core.Path.{_≡_, refl, sym, _∙_, ap, subst}
 use mathlib.Core.Bool.{Bool, true, false}
 use mathlib.Core.List.{[], _∷_}
@@ -109,6 +109,10 @@ module _ (s ps ws ls qs : Words) (e x y : ℕ) (o u : Row) (a : Gathers s ps ws 
     });
   }
 
+-- A type and its inverse, of one ref.
+pub children-mirrored : (s ps ws ls qs : Words) (e x y i : ℕ) (o : Row) (ks rs : Words) (r : ℕ) → Gathers s ps ws (x / 2) o → o .n ≢ 9 → x / 2 ≡ y / 2 → Bit (apart s ps ws x y) i → i ≡ 1 → Goes s ps ws ls qs e (o .n) 1 (o .types) (o .types) ks rs r → Meets s ps ws ls qs e x y ks rs r
+children-mirrored s ps ws ls qs e x y i o ks rs r a z q t h g = children-meet s ps ws ls qs e x y o o a (subst (λ v. Gathers s ps ws v o) q a) z z 1 ks rs r (subst (Bit (apart s ps ws x y)) h t) g
+
 -- The queue is worked off.
 pub record Ran (s ps ws ls qs : Words) (e : ℕ) (ks rs : Words) (r : ℕ) : Type 0 where
   pub at : (m : SignedSol) → Meaning s ps ws m → Holds s m ls qs e → Holds s m ks rs r
@@ -116,17 +120,22 @@ pub record Ran (s ps ws ls qs : Words) (e : ℕ) (ks rs : Words) (r : ℕ) : Typ
 pub ran-start : (s ps ws ls qs : Words) (e : ℕ) → Ran s ps ws ls qs e ls qs e
 ran-start s ps ws ls qs e = record { at = λ m w h. h }
 
-pub ran-on : (s ps ws ls qs : Words) (e : ℕ) (ks rs : Words) (r k : ℕ) (is ts : Words) (u : ℕ) → Ran s ps ws ls qs e ks rs r → k < r → Meets s ps ws ks rs r (at rs k % 4096) (at rs k / 4096) is ts u → Ran s ps ws ls qs e is ts u
-ran-on s ps ws ls qs e ks rs r k is ts u g h t = record { at = λ m w l. t .at m w (g .at m w l) (means-mod s m (at rs k) ∙ (g .at m w l) .queued k h) }
+-- The last pair is taken.
+pub ran-last : (s ps ws ls qs : Words) (e : ℕ) (ks rs : Words) (r : ℕ) (is ts : Words) (u : ℕ) → Ran s ps ws ls qs e ks rs r → r ≢ 0 → r ≤ 256 → Meets s ps ws ks rs (r - 1) (at rs (r - 1) % 4096) (at rs (r - 1) / 4096) is ts u → Ran s ps ws ls qs e is ts u
+ran-last s ps ws ls qs e ks rs r is ts u g z f t = record {
+  at = λ m w l.
+      let h = g .at m w l in
+      t .at m w (record { linked = h .linked; queued = λ k j. h .queued k (omega arith); free = omega arith }) (means-mod s m (at rs (r - 1)) ∙ h .queued (r - 1) (omega arith));
+}
 
 -- true: nothing gives such meanings. false: the links after it are of types that mean the same.
 pub record Ends (s ps ws ls qs : Words) (e : ℕ) (ks : Words) (b : Bool) : Type 0 where
   pub clash : b ≡ true → (m : SignedSol) → Meaning s ps ws m → Holds s m ls qs e → ⊥
   pub links : b ≡ false → (m : SignedSol) → Meaning s ps ws m → Holds s m ls qs e → Linked s m ks
 
-pub ends-clash : (s ps ws ls qs : Words) (e : ℕ) (ks rs : Words) (r k : ℕ) (is ts : Words) (u : ℕ) → Ran s ps ws ls qs e ks rs r → k < r → Meets s ps ws ks rs r (at rs k % 4096) (at rs k / 4096) is ts u → u ≡ 1000 → Ends s ps ws ls qs e is true
-ends-clash s ps ws ls qs e ks rs r k is ts u g h t q = record {
-  clash = λ b m w l. ((ran-on s ps ws ls qs e ks rs r k is ts u g h t) .at m w l) .free q;
+pub ends-clash : (s ps ws ls qs : Words) (e : ℕ) (ks rs : Words) (r : ℕ) (is ts : Words) (u : ℕ) → Ran s ps ws ls qs e ks rs r → r ≢ 0 → r ≤ 256 → Meets s ps ws ks rs (r - 1) (at rs (r - 1) % 4096) (at rs (r - 1) / 4096) is ts u → u ≡ 1000 → Ends s ps ws ls qs e is true
+ends-clash s ps ws ls qs e ks rs r is ts u g z f t q = record {
+  clash = λ b m w l. ((ran-last s ps ws ls qs e ks rs r is ts u g z f t) .at m w l) .free q;
   links = λ b. let z : _≡_ {A = ℕ} 0 1 = cc in absurd (omega arith);
 }
 

@@ -2,8 +2,8 @@
 // It goes by classes of types that have to be the same, and finds a clash: two types of one class that differ in kind, id or number of children, or are different Errors, or differ in side where the kind is not its own inverse,
 // so that a type is met inverted that may not be (where a type meets its own inverse, its children meet theirs); or a class that would contain itself, which is the occurs check (`cycles`). Where it finds none nothing is said.
 // A type is twice a ref, and one more if it is inverted. Refs are read modulo 2,048: up to 255 roots of the question's table, from 256 on type parameters, from 1,024 on nodes of the signature's table by their records.
-// `links` has for each ref 0, or 1 and the type that the ref is, of the same class; `queue` has pairs of types that are the same and whose children are to be met, in its first 256 words;
-// then, by refs modulo 256, 1 and the ref that was queued with its own inverse last; and in its last word how many links were gone to look for self-dual marks.
+// `links` has for each ref 0, or 1 and the type that the ref is, of the same class; `queue` has pairs of types that are the same and whose children are to be met, in its first 256 words, and is worked off from its end;
+// after these it has, by refs modulo 256, 1 and the ref that was queued with its own inverse last; and in its last word how many links were gone to look for self-dual marks.
 ghost use mathlib.Core.Path.{_≡_};
 ghost use Prim.Native.Nat.{_+_, _-_, _*_, _/_, _%_, _<_, _≤_};
 ghost use mathlib.Core.Logic.{_≢_};
@@ -40,10 +40,14 @@ const PARAMS: u32 = 256;
 
 const RECORDS: u32 = 1024;
 
+// So many pairs the queue has room for; the refs queued with their own inverses follow.
 const QUEUE: usize = 256;
 
 // The word of the queue that counts the links gone.
 const GONE: usize = 512;
+
+// At most so many pairs are worked off.
+const PAIRS: usize = 1024;
 
 // What a clash is told by, in place of the queue's end.
 const CLASH: usize = 1000;
@@ -732,6 +736,39 @@ fn meet_across(
     )
 }
 
+// Whether the ref of a type is marked in the queue as queued with its own inverse.
+fn is_mirrored(queue: &[u32; 513], x: u32) -> bool {
+    queue[QUEUE + words::wide(x / 2 % 256)] == x / 2 + 1
+}
+
+// Meets the types of a row with their own inverses, but for those whose refs have been queued so.
+fn meet_mirrored(
+    sheet: &[u32],
+    places: &[u32],
+    ws: &[u32],
+    links: &mut [u32; 2048],
+    queue: &mut [u32; 513],
+    end: usize,
+    xs: Row,
+) -> usize
+    requires { ⌜ xs .n ≤ 8 ⌝ }
+    ensures { λ r. ⌜ Goes (now (sheet .entry)) (now (places .entry)) (now (ws .entry)) (now (links .entry)) (now (queue .entry)) end (xs .n) 1 (xs .types) (xs .types) (now (links .exit)) (now (queue .exit)) r ⌝ }
+{
+    let mut e = end;
+    let mut j: usize = 0;
+    while j < xs.n {
+        let x = xs.types[j];
+        j += 1;
+        if !is_mirrored(queue, x) {
+            e = meet(sheet, places, ws, links, queue, e, x, turn(1, x));
+            if e == CLASH {
+                return e;
+            }
+        }
+    }
+    e
+}
+
 // Meets the children of two types, whichever they are.
 fn meet_rows(
     sheet: &[u32],
@@ -750,6 +787,13 @@ fn meet_rows(
     if xs.n == UNTOLD {
         return end;
     }
+    let b = apart(sheet, places, ws, x, y);
+    if x / 2 == y / 2 {
+        if b == 1 {
+            return meet_mirrored(sheet, places, ws, links, queue, end, xs);
+        }
+        return end;
+    }
     let ys = children(sheet, places, ws, y / 2);
     if ys.n == UNTOLD {
         return end;
@@ -757,7 +801,6 @@ fn meet_rows(
     if xs.n != ys.n {
         return CLASH;
     }
-    let b = apart(sheet, places, ws, x, y);
     meet_all(sheet, places, ws, links, queue, end, xs, ys, b)
 }
 
@@ -783,7 +826,7 @@ fn meet_children(
     meet_rows(sheet, places, ws, links, queue, end, x, y)
 }
 
-// Works off the queue, whose end is n: whether there is a clash.
+// Works off the queue, whose end is n, from its end, and at most 1,024 pairs: whether a clash is found.
 fn run(
     sheet: &[u32],
     places: &[u32],
@@ -795,14 +838,18 @@ fn run(
     requires { ⌜ Packed (now ws) ⌝ }
     ensures { λ r. ⌜ Ends (now (sheet .entry)) (now (places .entry)) (now (ws .entry)) (now (links .entry)) (now (queue .entry)) n (now (links .exit)) r ⌝ }
 {
-    let mut k: usize = 0;
     let mut end = n;
-    while k < end {
-        if k >= QUEUE {
+    let mut left: usize = PAIRS;
+    while end != 0 {
+        if end > QUEUE {
             return false;
         }
-        let pair = queue[k];
-        k += 1;
+        if left == 0 {
+            return false;
+        }
+        left -= 1;
+        end -= 1;
+        let pair = queue[end];
         end = meet_children(
             sheet,
             places,
