@@ -9,6 +9,7 @@ use native.Mathlib.Omega.{arith}
 use lib.ListN.{length, take, drop, length-drop, drop-of-length-le}
 use lib.Seq.{drop-cons, getD-take, length-take-le}
 use Rattle.rules.specs.Lists.{Words}
+use Rattle.rules.specs.Layout.{kind·error}
 use Rattle.rules.specs.Sheet.{at, chain, chain-of}
 use Rattle.rules.specs.Types.{xor}
 use Rattle.rules.specs.Transfer.{cell-types}
@@ -18,8 +19,8 @@ use Rattle.table.specs.Packing.{types-of, kind-at, id-at, inverted-at}
 use Rattle.table.specs.Nodes.{types-few}
 use Rattle.table.specs.ChildTypes.{ChildTypes, known-in}
 use Rattle.clash.specs.Meaning.{odd, means, means-turn, turn, row, record-types, record-side, Meaning, made-parts, type-sort}
-use Rattle.clash.specs.Refs.{place, KindOf, kind-node, kind-record, id-node, id-record, side-of, side-node, side-record, type-side, Bit, bit-yes, bit-no, bit-sum, bit-odd, Sided, place-high}
-use Rattle.clash.specs.Meeting.{Holds, Meets, Puts, apart, roots-kinds, known-ids, known-sides, roots-put}
+use Rattle.clash.specs.Refs.{place, KindOf, kind-node, kind-record, id-node, id-record, side-of, side-node, side-record, type-side, Bit, bit-yes, bit-no, bit-sum, bit-odd, place-high}
+use Rattle.clash.specs.Meeting.{Holds, Inverts, Meets, Puts, apart, roots-kinds, roots-errors, known-ids, known-inverted, roots-put}
 use Rattle.clash.specs.Children.{cell-type, cell-types-are, cells-none, cells-more, over-record, gathers-node}
 use Rattle.clash.specs.Pairs.{row-length, row-same, row-rest}
 
@@ -71,7 +72,11 @@ module _ (s ws ls qs : Words) (e x y p k : ℕ) (zp : p ≢ 0) (ek : k ≡ at s 
   pub record-kinds : j ≢ k → RecordMet s ws ls qs e x y p ls qs 1000
   record-kinds n = record { at = λ ps ep. roots-kinds s ps ws ls qs e x y k j (its-kind ps ep) (node-kind ps) (omega arith) (λ q. zy (sym ej ∙ q)) (λ q. n (sym q)) }
 
-  -- They are of one kind.
+  -- They are of one kind: Errors, that of a record and that of a node,
+  pub record-errors : j ≡ k → k ≡ kind·error → RecordMet s ws ls qs e x y p ls qs 1000
+  record-errors same o = record { at = λ ps ep. roots-errors s ps ws ls qs e x y k (its-kind ps ep) (subst (KindOf s ps ws (y / 2)) same (node-kind ps)) (omega arith) o (let z = high ps ep in omega (arith, low)) }
+
+  -- or any.
   module _ (same : j ≡ k) (c d : ℕ) (ec : c ≡ at s (p + 3)) (ed : d ≡ id-at (types-of ws) (y / 2)) where
     same-kind : (ps : Words) → KindOf s ps ws (y / 2) k
     same-kind ps = subst (KindOf s ps ws (y / 2)) same (node-kind ps)
@@ -79,8 +84,8 @@ module _ (s ws ls qs : Words) (e x y p k : ℕ) (zp : p ≢ 0) (ek : k ≡ at s 
     pub record-ids : c ≢ d → RecordMet s ws ls qs e x y p ls qs 1000
     record-ids n = record { at = λ ps ep. known-ids s ps ws ls qs e x y k (its-kind ps ep) (same-kind ps) (omega arith) c d (id-record s ps ws (x / 2) p c (high ps ep) ep ec) (id-node s ps ws (y / 2) d low ed) n }
 
-    pub record-sides : (r : ℕ) (b : Bool) → Bit (sides-across s p ws x y) r → r ≡ 1 → Sided s k c b → b ≡ true → RecordMet s ws ls qs e x y p ls qs 1000
-    record-sides r b o er f eb = record { at = λ ps ep. known-sides s ps ws ls qs e x y k (its-kind ps ep) (same-kind ps) (omega arith) c d (id-record s ps ws (x / 2) p c (high ps ep) ep ec) (id-node s ps ws (y / 2) d low ed) r b (across-apart s ps ws p x y r ep (high ps ep) low o) er f eb }
+    pub record-inverted : (b : ℕ) → Bit (sides-across s p ws x y) b → b ≡ 1 → (ks rs : Words) (r : ℕ) → Inverts s ls qs e x y k c ks rs r → RecordMet s ws ls qs e x y p ks rs r
+    record-inverted b o eb ks rs r f = record { at = λ ps ep. known-inverted s ps ws ls qs e x y k (its-kind ps ep) (same-kind ps) (omega arith) c d (id-record s ps ws (x / 2) p c (high ps ep) ep ec) (id-node s ps ws (y / 2) d low ed) b (across-apart s ps ws p x y b ep (high ps ep) low o) eb ks rs r f }
 
 pub record-put : (s ws ls qs : Words) (e x y p : ℕ) (ks rs : Words) (r : ℕ) → Puts ls qs e x y ks rs r → RecordMet s ws ls qs e x y p ks rs r
 record-put s ws ls qs e x y p ks rs r u = record { at = λ ps ep. roots-put s ps ws ls qs e x y ks rs r u }
@@ -88,10 +93,20 @@ record-put s ws ls qs e x y p ks rs r u = record { at = λ ps ep. roots-put s ps
 pub record-met : (s ps ws ls qs : Words) (e x y p : ℕ) (ks rs : Words) (r : ℕ) → p ≡ place ps (x / 2) → RecordMet s ws ls qs e x y p ks rs r → Meets s ps ws ls qs e x y ks rs r
 record-met s ps ws ls qs e x y p ks rs r ep t = t .at ps ep
 
+-- A pair that is met, or passed over: what comes after, by other names.
+pub meets-as : (s ps ws ls qs : Words) (e x y : ℕ) (ks rs : Words) (r : ℕ) (is ts : Words) (u : ℕ) → Meets s ps ws ls qs e x y ks rs r → is ≡ ks → ts ≡ rs → u ≡ r → Meets s ps ws ls qs e x y is ts u
+meets-as s ps ws ls qs e x y ks rs r is ts u t ei et eu =
+    subst (λ (v : Words). Meets s ps ws ls qs e x y v ts u) (sym ei)
+    (subst (λ (v : Words). Meets s ps ws ls qs e x y ks v u) (sym et) (subst (Meets s ps ws ls qs e x y ks rs) (sym eu) t))
+
+pub meets-passed : (s ps ws ls qs : Words) (e x y : ℕ) (is ts : Words) (u : ℕ) → is ≡ ls → ts ≡ qs → u ≡ e → Meets s ps ws ls qs e x y is ts u
+meets-passed s ps ws ls qs e x y is ts u ei et eu = meets-as s ps ws ls qs e x y ls qs e is ts u (record { at = λ m w h q. h }) ei et eu
+
 -- The cells from h mean what a row does, turned by b.
 pub record Matches (s : Words) (m : SignedSol) (h b : ℕ) (o : Row) : Type 0 where
   pub same : row s m (record-types s h) ≡ turned s (odd b) (row s m (take (o .n) (o .types)))
 
+-- They are met one by one.
 pub record CellsMet (s ps ws ls qs : Words) (e h b : ℕ) (o : Row) (ks rs : Words) (r : ℕ) : Type 0 where
   pub at : (m : SignedSol) → Meaning s ps ws m → Holds s m ls qs e → Matches s m h b o → Holds s m ks rs r
 
@@ -163,6 +178,7 @@ module _ (s ps ws ls qs : Words) (e h b : ℕ) (o : Row) (ks rs : Words) (r c j 
           rest = λ m q. ap (λ i. row s m (map (cell-type s) (chain-of (length s - (j + 1)) s i))) en ∙ row-rest s m (odd b) _ _ _ _ (pair m q);
         }
 
+-- A row that is told has at most eight types.
 pub row-few : (ws : Words) (n : ℕ) (o : Row) → ChildTypes ws n o → o .n ≢ 9 → o .n ≤ 8
 row-few ws n o c z = c .few z
 

@@ -13,7 +13,7 @@ use Rattle.rules.specs.Sheet.{at, chain, chain-of}
 use Rattle.rules.specs.Types.{Ty}
 use Rattle.rules.specs.Transfer.{cell-types, type-of-word}
 use Rattle.rules.specs.Answer.{word-of-type}
-use Rattle.rules.specs.SignedTerms.{Signed, SignedSol, made}
+use Rattle.rules.specs.SignedTerms.{Signed, SignedSol, made, label}
 use Rattle.table.specs.declared.Row.{Row}
 use Rattle.table.specs.Packing.{types-of, kind-at, id-at}
 use Rattle.table.specs.Nodes.{word-type}
@@ -102,8 +102,8 @@ gathers-node s ps ws r k o e z h c = record {
   long = c .long;
   are = λ y m w. record {
     kind = kind-at (types-of ws) r;
-    id = id-at (types-of ws) r;
-    is = ref-low m r (omega arith) ∙ w .nodes .root r h (λ q. z (e .node h ∙ q)) (c .root y) ∙ (λ t. made s (sym (side-node s ps ws r h) t) (kind-at (types-of ws) r) (id-at (types-of ws) r) (row s m (sym (c .are y) t)));
+    id = label (w .records .name) (kind-at (types-of ws) r) (id-at (types-of ws) r) r;
+    is = ref-low m r (omega arith) ∙ w .nodes .root r h (λ q. z (e .node h ∙ q)) (c .root y) ∙ (λ t. made s (sym (side-node s ps ws r h) t) (kind-at (types-of ws) r) (label (w .records .name) (kind-at (types-of ws) r) (id-at (types-of ws) r) r) (row s m (sym (c .are y) t)));
   };
 }
 
@@ -114,10 +114,10 @@ known-node s ps ws r k e z h = λ q. z (e .node h ∙ q)
 pub over-record : (s ps ws : Words) (m : SignedSol) (r k p h j : ℕ) → Meaning s ps ws m → KindOf s ps ws r k → k ≢ 0 → 256 ≤ r → p ≡ place ps r → h ≡ at s (p + 4) → j ≡ h → Over s (m (r % 2048)) (side-of s ps ws r) (row s m (record-types s j))
 over-record s ps ws m r k p h j w e z l ep eh ej = record {
   kind = at s (place ps r + 1);
-  id = at s (place ps r + 3);
+  id = label (w .records .name) (at s (place ps r + 1)) (at s (place ps r + 3)) r;
   is =
       record-plain s ps m (w .records) r (e .inside l z) (λ q. z (sym (e .is l z) ∙ q)) (λ q. e .plain l (sym (e .is l z) ∙ q))
-      ∙ (λ t. made s (sym (side-record s ps ws r l) t) (at s (place ps r + 1)) (at s (place ps r + 3)) (row s m (record-types s (sym (ej ∙ eh ∙ ap (λ q. at s (q + 4)) ep) t))));
+      ∙ (λ t. made s (sym (side-record s ps ws r l) t) (at s (place ps r + 1)) (label (w .records .name) (at s (place ps r + 1)) (at s (place ps r + 3)) r) (row s m (record-types s (sym (ej ∙ eh ∙ ap (λ q. at s (q + 4)) ep) t))));
 }
 
 pub gathers-record : (s ps ws : Words) (r k p h j : ℕ) (o : Row) → KindOf s ps ws r k → k ≢ 0 → 256 ≤ r → p ≡ place ps r → h ≡ at s (p + 4) → j ≡ h → Cells s j o → Gathers s ps ws r o

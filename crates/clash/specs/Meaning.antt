@@ -1,5 +1,5 @@
 -- What types mean. A type is a number: twice a ref, and one more if it is inverted. Refs are read modulo 2,048: up to 255 a node of the question's table, from 256 on a type parameter,
--- from 1,024 on a node of the signature's table by its record. A meaning gives every ref a term with sides, such that both tables are read alike.
+-- from 1,024 on a node of the signature's table by its record. A meaning gives every ref a term with sides, such that both tables are read alike, and each Error by a name of its own.
 use Prim.Native.Nat.{ℕ, _+_, _*_, _/_, _%_, _≤_, _<_}
 use mathlib.Core.Path.{_≡_, refl, sym, _∙_, ap, ap₂}
 use mathlib.Core.Bool.{Bool, true, false}
@@ -9,13 +9,14 @@ use native.Mathlib.Omega.{arith}
 use lib.Dec.{eqb}
 use lib.ListN.{length}
 use Rattle.rules.specs.Lists.{Words}
+use Rattle.rules.specs.Layout.{kind·error}
 use Rattle.rules.specs.Sheet.{at, kind-flag, row·own-inverse}
 use Rattle.rules.specs.Types.{Ty, xor}
 use Rattle.rules.specs.AcyclicLaws.{children-at}
 use Rattle.rules.specs.Transfer.{cell-types}
 use Rattle.rules.specs.Answer.{word-of-type}
 use Rattle.rules.specs.Solutions.{rep}
-use Rattle.rules.specs.SignedTerms.{Signed, scon, snil, scons, SignedSol, turned, made, made-own, made-other, turned-made, turned-back, turned-twice}
+use Rattle.rules.specs.SignedTerms.{Signed, scon, snil, scons, SignedSol, turned, made, label, made-own, made-other, turned-made, turned-back, turned-twice}
 use Rattle.table.specs.Packing.{types-of, kind-at, id-at, inverted-at}
 use Rattle.table.specs.ChildTypes.{type-in, odd-sum}
 
@@ -144,21 +145,29 @@ node-types ws n = map (λ (c : Ty). word-of-type (type-in ws c)) (children-at (t
 abbrev pub record-types : Words → ℕ → Words
 record-types s h = map (λ (c : Ty). 2048 + word-of-type c % 2048) (cell-types s h)
 
--- Known nodes of the question's table are of their side, kind and id, and known roots over what their children mean.
-pub record Nodes (s ws : Words) (m : SignedSol) : Type 0 where
-  pub known : (n : ℕ) → n < 256 → kind-at (types-of ws) n ≢ 0 → Sort s (m n) (inverted-at (types-of ws) n) (kind-at (types-of ws) n) (id-at (types-of ws) n)
-  pub root : (n : ℕ) → n < 256 → kind-at (types-of ws) n ≢ 0 → rep (types-of ws) n ≡ n → m n ≡ made s (inverted-at (types-of ws) n) (kind-at (types-of ws) n) (id-at (types-of ws) n) (row s m (node-types ws n))
+-- Known nodes of the question's table are of their side, kind and id, Errors of their names, and known roots over what their children mean.
+pub record Nodes (s ws : Words) (ν : ℕ → ℕ) (m : SignedSol) : Type 0 where
+  pub known : (n : ℕ) → n < 256 → kind-at (types-of ws) n ≢ 0 → Sort s (m n) (inverted-at (types-of ws) n) (kind-at (types-of ws) n) (label ν (kind-at (types-of ws) n) (id-at (types-of ws) n) n)
+  pub root : (n : ℕ) → n < 256 → kind-at (types-of ws) n ≢ 0 → rep (types-of ws) n ≡ n → m n ≡ made s (inverted-at (types-of ws) n) (kind-at (types-of ws) n) (label ν (kind-at (types-of ws) n) (id-at (types-of ws) n) n) (row s m (node-types ws n))
 
 -- Whether the node of the record at p is inverted.
 abbrev pub record-side : Words → ℕ → Bool
 record-side s p = eqb (at s (p + 2)) 1
 
--- A Param of the signature's table, whose records stand at places ps, means its type parameter, inverted as it is, and any other known node is over what its children mean.
+-- A Param of the signature's table, whose records stand at places ps, means its type parameter, inverted as it is, and any other known node is over what its children mean. Errors have names by their refs.
 pub record Records (s ps : Words) (m : SignedSol) : Type 0 where
+  pub name : ℕ → ℕ
   pub few : length ps ≤ 1024
   pub param : (k : ℕ) → k < length ps → at s (at ps k + 1) ≡ 1 → at s (at ps k + 3) < 8 → m (1024 + k) ≡ turned s (record-side s (at ps k)) (m (256 + at s (at ps k + 3)))
-  pub plain : (k : ℕ) → k < length ps → at s (at ps k + 1) ≢ 0 → at s (at ps k + 1) ≢ 1 → m (1024 + k) ≡ made s (record-side s (at ps k)) (at s (at ps k + 1)) (at s (at ps k + 3)) (row s m (record-types s (at s (at ps k + 4))))
+  pub plain : (k : ℕ) → k < length ps → at s (at ps k + 1) ≢ 0 → at s (at ps k + 1) ≢ 1 → m (1024 + k) ≡ made s (record-side s (at ps k)) (at s (at ps k + 1)) (label name (at s (at ps k + 1)) (at s (at ps k + 3)) (1024 + k)) (row s m (record-types s (at s (at ps k + 4))))
+
+-- No two Errors have one name, be they of the question's table, of the signature's, or one of either.
+pub record ErrorsApart (s ps ws : Words) (ν : ℕ → ℕ) : Type 0 where
+  pub nodes : (a b : ℕ) → a < 256 → b < 256 → kind-at (types-of ws) a ≡ kind·error → kind-at (types-of ws) b ≡ kind·error → ν a ≡ ν b → a ≡ b
+  pub records : (a b : ℕ) → a < length ps → b < length ps → at s (at ps a + 1) ≡ kind·error → at s (at ps b + 1) ≡ kind·error → ν (1024 + a) ≡ ν (1024 + b) → a ≡ b
+  pub both : (a b : ℕ) → a < length ps → b < 256 → at s (at ps a + 1) ≡ kind·error → kind-at (types-of ws) b ≡ kind·error → ν (1024 + a) ≢ ν b
 
 pub record Meaning (s ps ws : Words) (m : SignedSol) : Type 0 where
-  pub nodes : Nodes s ws m
   pub records : Records s ps m
+  pub nodes : Nodes s ws (records .name) m
+  pub errors : ErrorsApart s ps ws (records .name)

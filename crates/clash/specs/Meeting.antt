@@ -1,20 +1,22 @@
 -- Two types that mean the same are met: their classes are joined, and they are queued where both have a kind; or they clash, so that nothing gives them the same meaning.
 use Prim.Native.Nat.{ℕ, _+_, _*_, _/_, _%_, _≤_, _<_}
 use mathlib.Core.Path.{_≡_, refl, sym, _∙_, ap, subst}
-use mathlib.Core.Bool.{Bool, true}
+use mathlib.Core.Bool.{Bool, true, false}
 use mathlib.Core.Logic.{_≢_, ⊎-elim}
 use native.Mathlib.Nat.{eq-or-lt-of-le}
+use native.Mathlib.Decide.{ℕ-discrete}
 use native.Mathlib.Omega.{arith}
 use lib.ListN.{length, set, length-set}
 use lib.Seq.{getD-set-same, getD-set-other}
 use Rattle.rules.specs.Lists.{Words}
-use Rattle.rules.specs.Sheet.{at}
+use Rattle.rules.specs.Layout.{kind·error}
+use Rattle.rules.specs.Sheet.{at, kind-flag, row·own-inverse}
 use Rattle.rules.specs.Types.{xor}
 use Rattle.rules.specs.WordLaws.{word-past}
 use Rattle.rules.specs.Pigeonholes.{lt-or}
-use Rattle.rules.specs.SignedTerms.{SignedSol}
+use Rattle.rules.specs.SignedTerms.{SignedSol, label, label-plain, label-error, label-flag}
 use Rattle.clash.specs.Meaning.{means, means-mod, Meaning, Parts, made-parts}
-use Rattle.clash.specs.Refs.{KindOf, IdOf, sort-type, id-any, type-side, Bit, bits-apart, Sided}
+use Rattle.clash.specs.Refs.{KindOf, IdOf, sort-type, error-one, id-one, id-any, type-side, Bit, bits-apart, Sided, sided-not}
 use Rattle.clash.specs.Links.{Linked, Finds, Links, Settles}
 
 -- What is kept while types are met: the links, and the pairs before place e of the queue, are of types that mean the same; 1000 is said where that cannot be.
@@ -23,14 +25,30 @@ pub record Holds (s : Words) (m : SignedSol) (ls qs : Words) (e : ℕ) : Type 0 
   pub queued : (k : ℕ) → k < e → means s m (at qs k) ≡ means s m (at qs k / 4096)
   pub free : e ≢ 1000
 
--- A pair is put.
-pub record Puts (ls qs : Words) (e x y : ℕ) (ks rs : Words) (r : ℕ) : Type 0 where
-  pub at : (s : Words) (m : SignedSol) → Holds s m ls qs e → means s m x ≡ means s m y → Holds s m ks rs r
+-- Other words of the queue change.
+pub record Aside (qs : Words) (e : ℕ) (rs : Words) : Type 0 where
+  pub at : (s : Words) (m : SignedSol) (ls : Words) → Holds s m ls qs e → Holds s m ls rs e
 
-pub puts-pair : (ls qs : Words) (e x y : ℕ) (ks : Words) → e < 256 → Links ls x y ks → Puts ls qs e x y ks (set qs e (x % 4096 + 4096 * (y % 4096))) (e + 1)
-puts-pair ls qs e x y ks l k = record {
-  at = λ s m h q. record {
-    linked = k .at s m (h .linked) q;
+aside-set : (qs : Words) (e i v : ℕ) → e ≤ i → Aside qs e (set qs i v)
+aside-set qs e i v l = record {
+  at = λ s m ls h. record {
+    linked = h .linked;
+    queued = λ k j. rw (getD-set-other qs i k v 0 (omega arith)) (h .queued k j);
+    free = h .free;
+  };
+}
+
+pub aside-last : (qs : Words) (e v : ℕ) → e < 256 → Aside qs e (set qs 512 v)
+aside-last qs e v l = aside-set qs e 512 v (omega arith)
+
+-- A pair is queued.
+pub record Queues (qs : Words) (e x y : ℕ) (rs : Words) (r : ℕ) : Type 0 where
+  pub at : (s : Words) (m : SignedSol) (ls : Words) → Holds s m ls qs e → means s m x ≡ means s m y → Holds s m ls rs r
+
+queues-pair : (qs : Words) (e x y : ℕ) → e < 256 → Queues qs e x y (set qs e (x % 4096 + 4096 * (y % 4096))) (e + 1)
+queues-pair qs e x y l = record {
+  at = λ s m ls h q. record {
+    linked = h .linked;
     queued = λ i j. ⊎-elim (last s m q i) (λ o. rw (getD-set-other qs e i (x % 4096 + 4096 * (y % 4096)) 0 (omega arith)) (h .queued i o)) (eq-or-lt-of-le (let z : i ≤ e = omega arith in z));
     free = omega arith;
   };
@@ -54,6 +72,39 @@ puts-pair ls qs e x y ks l k = record {
         (λ h. subst (λ v. means s m v ≡ means s m (v / 4096)) (ap (at (set qs e pair)) (sym o) ∙ refl) (subst (λ v. means s m v ≡ means s m (v / 4096)) (word-past (set qs e pair) e (omega (arith, length-set qs e pair))) refl))
         (lt-or e (length qs))
 
+-- The same, after a word from 256 on.
+pub queues-aside : (qs : Words) (e x y i v : ℕ) → e < 256 → Queues qs e x y (set (set qs (256 + i) v) e (x % 4096 + 4096 * (y % 4096))) (e + 1)
+queues-aside qs e x y i v l = record { at = λ s m ls h q. (queues-pair (set qs (256 + i) v) e x y l) .at s m ls ((aside-set qs e (256 + i) v (omega arith)) .at s m ls h) q }
+
+-- A pair is put: linked and queued.
+pub record Puts (ls qs : Words) (e x y : ℕ) (ks rs : Words) (r : ℕ) : Type 0 where
+  pub at : (s : Words) (m : SignedSol) → Holds s m ls qs e → means s m x ≡ means s m y → Holds s m ks rs r
+
+pub puts-pair : (ls qs : Words) (e x y : ℕ) (ks : Words) → e < 256 → Links ls x y ks → Puts ls qs e x y ks (set qs e (x % 4096 + 4096 * (y % 4096))) (e + 1)
+puts-pair ls qs e x y ks l k = record { at = λ s m h q. (queues-pair qs e x y l) .at s m ks (record { linked = k .at s m (h .linked) q; queued = h .queued; free = h .free }) q }
+
+-- Whether a kind and id is surely not its own inverse is told, and other words of the queue change.
+pub record Decides (s qs : Words) (e k d : ℕ) (rs : Words) (b : Bool) : Type 0 where
+  pub aside : Aside qs e rs
+  pub sided : Sided s k d b
+
+pub decides-not : (s qs : Words) (e k d : ℕ) (rs : Words) → Aside qs e rs → Decides s qs e k d rs false
+decides-not s qs e k d rs a = record { aside = a; sided = sided-not s k d }
+
+-- Types x and y are met, of a kind and id that is its own inverse.
+pub record Inverts (s ls qs : Words) (e x y k d : ℕ) (ks rs : Words) (r : ℕ) : Type 0 where
+  pub at : (m : SignedSol) → kind-flag s row·own-inverse k d ≢ false → Holds s m ls qs e → means s m x ≡ means s m y → Holds s m ks rs r
+
+module _ (s ls qs : Words) (e x y k d : ℕ) (rs : Words) (b : Bool) (c : Decides s qs e k d rs b) where
+  pub inverts-sided : b ≡ true → Inverts s ls qs e x y k d ls rs 1000
+  inverts-sided eb = record { at = λ m o h q. absurd (o (c .sided .is eb)) }
+
+  pub inverts-queued : (ts : Words) (r : ℕ) → Queues rs e x y ts r → Inverts s ls qs e x y k d ls ts r
+  inverts-queued ts r p = record { at = λ m o h q. p .at s m ls (c .aside .at s m ls h) q }
+
+  pub inverts-put : (ks ts : Words) (r : ℕ) → Puts ls rs e x y ks ts r → Inverts s ls qs e x y k d ks ts r
+  inverts-put ks ts r p = record { at = λ m o h q. p .at s m (c .aside .at s m ls h) q }
+
 -- Types a and b are met.
 pub record Meets (s ps ws ls qs : Words) (e a b : ℕ) (ks rs : Words) (r : ℕ) : Type 0 where
   pub at : (m : SignedSol) → Meaning s ps ws m → Holds s m ls qs e → means s m a ≡ means s m b → Holds s m ks rs r
@@ -64,14 +115,37 @@ apart s ps ws x y = xor (type-side s ps ws x) (type-side s ps ws y)
 
 -- Two types that have kinds and mean the same.
 module _ (s ps ws : Words) (x y k j c d : ℕ) (ek : KindOf s ps ws (x / 2) k) (ej : KindOf s ps ws (y / 2) j) (zk : k ≢ 0) (zj : j ≢ 0) (ec : IdOf s ps ws (x / 2) c) (ed : IdOf s ps ws (y / 2) d) (m : SignedSol) (w : Meaning s ps ws m) (q : means s m x ≡ means s m y) where
-  pub known-parts : Parts s (type-side s ps ws x) (type-side s ps ws y) k j c d ((sort-type s ps ws m x k c w ek ec zk) .over) ((sort-type s ps ws m y j d w ej ed zj) .over)
+  known-parts : Parts s (type-side s ps ws x) (type-side s ps ws y) k j (label (w .records .name) k c (x / 2)) (label (w .records .name) j d (y / 2)) ((sort-type s ps ws m x k c w ek ec zk) .over) ((sort-type s ps ws m y j d w ej ed zj) .over)
   known-parts =
       let a = sort-type s ps ws m x k c w ek ec zk in
       let b = sort-type s ps ws m y j d w ej ed zj in
-      made-parts s (type-side s ps ws x) (type-side s ps ws y) k j c d (a .over) (b .over) (sym (a .is) ∙ q ∙ b .is)
+      made-parts s (type-side s ps ws x) (type-side s ps ws y) k j (label (w .records .name) k c (x / 2)) (label (w .records .name) j d (y / 2)) (a .over) (b .over) (sym (a .is) ∙ q ∙ b .is)
+
+  -- They are of one kind, an Error is the same ref,
+  pub known-kinds : k ≡ j
+  known-kinds = known-parts .kinds
+
+  pub known-errors : k ≡ kind·error → x / 2 ≡ y / 2
+  known-errors e =
+      let o : j ≡ kind·error = sym known-kinds ∙ e in
+      error-one s ps ws m w (x / 2) (y / 2) (subst (KindOf s ps ws (x / 2)) e ek) (subst (KindOf s ps ws (y / 2)) o ej)
+      (sym (label-error (w .records .name) k c (x / 2) e) ∙ known-parts .ids ∙ label-error (w .records .name) j d (y / 2) o)
+
+  -- of one id, and of one side if that is not its own inverse.
+  pub known-same : c ≡ d
+  known-same = elim (ℕ-discrete k kind·error) [
+    | yes e ↦ id-one s ps ws (x / 2) c d ec (subst (λ r. IdOf s ps ws r d) (sym (known-errors e)) ed)
+    | no n ↦ sym (label-plain (w .records .name) k c (x / 2) n) ∙ known-parts .ids ∙ label-plain (w .records .name) j d (y / 2) (λ e. n (known-kinds ∙ e))
+  ]
+
+  pub known-sides : kind-flag s row·own-inverse k c ≡ false → type-side s ps ws x ≡ type-side s ps ws y
+  known-sides o = known-parts .sides (label-flag s row·own-inverse (w .records .name) k c (x / 2) ∙ o)
 
 pub kinds-same : (s ps ws : Words) (x y k j : ℕ) → KindOf s ps ws (x / 2) k → KindOf s ps ws (y / 2) j → k ≢ 0 → j ≢ 0 → (m : SignedSol) → Meaning s ps ws m → means s m x ≡ means s m y → k ≡ j
-kinds-same s ps ws x y k j ek ej zk zj m w q = (known-parts s ps ws x y k j (id-any s ps ws (x / 2) .0) (id-any s ps ws (y / 2) .0) ek ej zk zj (id-any s ps ws (x / 2) .1) (id-any s ps ws (y / 2) .1) m w q) .kinds
+kinds-same s ps ws x y k j ek ej zk zj m w q = known-kinds s ps ws x y k j (id-any s ps ws (x / 2) .0) (id-any s ps ws (y / 2) .0) ek ej zk zj (id-any s ps ws (x / 2) .1) (id-any s ps ws (y / 2) .1) m w q
+
+pub errors-same : (s ps ws : Words) (x y k j : ℕ) → KindOf s ps ws (x / 2) k → KindOf s ps ws (y / 2) j → k ≢ 0 → j ≢ 0 → k ≡ kind·error → (m : SignedSol) → Meaning s ps ws m → means s m x ≡ means s m y → x / 2 ≡ y / 2
+errors-same s ps ws x y k j ek ej zk zj e m w q = known-errors s ps ws x y k j (id-any s ps ws (x / 2) .0) (id-any s ps ws (y / 2) .0) ek ej zk zj (id-any s ps ws (x / 2) .1) (id-any s ps ws (y / 2) .1) m w q e
 
 module _ (s ps ws ls qs : Words) (e x y : ℕ) where
   -- One has no kind.
@@ -85,13 +159,17 @@ module _ (s ps ws ls qs : Words) (e x y : ℕ) where
   pub roots-kinds : (k j : ℕ) → KindOf s ps ws (x / 2) k → KindOf s ps ws (y / 2) j → k ≢ 0 → j ≢ 0 → k ≢ j → Meets s ps ws ls qs e x y ls qs 1000
   roots-kinds k j ek ej zk zj n = record { at = λ m w h q. absurd (n (kinds-same s ps ws x y k j ek ej zk zj m w q)) }
 
+  -- Both are Errors, and different refs.
+  pub roots-errors : (k : ℕ) → KindOf s ps ws (x / 2) k → KindOf s ps ws (y / 2) k → k ≢ 0 → k ≡ kind·error → x / 2 ≢ y / 2 → Meets s ps ws ls qs e x y ls qs 1000
+  roots-errors k ek ej zk o n = record { at = λ m w h q. absurd (n (errors-same s ps ws x y k k ek ej zk zk o m w q)) }
+
   -- It is the same.
   module _ (k : ℕ) (ek : KindOf s ps ws (x / 2) k) (ej : KindOf s ps ws (y / 2) k) (zk : k ≢ 0) (c d : ℕ) (ec : IdOf s ps ws (x / 2) c) (ed : IdOf s ps ws (y / 2) d) where
     pub known-ids : c ≢ d → Meets s ps ws ls qs e x y ls qs 1000
-    known-ids n = record { at = λ m w h q. absurd (n ((known-parts s ps ws x y k k c d ek ej zk zk ec ed m w q) .ids)) }
+    known-ids n = record { at = λ m w h q. absurd (n (known-same s ps ws x y k k c d ek ej zk zk ec ed m w q)) }
 
-    pub known-sides : (r : ℕ) (b : Bool) → Bit (apart s ps ws x y) r → r ≡ 1 → Sided s k c b → b ≡ true → Meets s ps ws ls qs e x y ls qs 1000
-    known-sides r b o er f eb = record { at = λ m w h q. absurd (bits-apart (type-side s ps ws x) (type-side s ps ws y) r o er ((known-parts s ps ws x y k k c d ek ej zk zk ec ed m w q) .sides (f .is eb))) }
+    pub known-inverted : (b : ℕ) → Bit (apart s ps ws x y) b → b ≡ 1 → (ks rs : Words) (r : ℕ) → Inverts s ls qs e x y k c ks rs r → Meets s ps ws ls qs e x y ks rs r
+    known-inverted b o eb ks rs r f = record { at = λ m w h q. f .at m (λ z. bits-apart (type-side s ps ws x) (type-side s ps ws y) b o eb (known-sides s ps ws x y k k c d ek ej zk zk ec ed m w q z)) h q }
 
   pub roots-put : (ks rs : Words) (r : ℕ) → Puts ls qs e x y ks rs r → Meets s ps ws ls qs e x y ks rs r
   roots-put ks rs r p = record { at = λ m w h q. p .at s m h q }

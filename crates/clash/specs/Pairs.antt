@@ -1,5 +1,5 @@
 -- Pairs of types met in turn: the children of two types, the queue, and the arguments of two questions.
-use Prim.Native.Nat.{ℕ, zero, suc, _+_, _/_, _%_, _≤_, _<_}
+use Prim.Native.Nat.{ℕ, zero, suc, _+_, _-_, _/_, _%_, _≤_, _<_}
 use mathlib.Core.Path.{_≡_, refl, sym, _∙_, ap, subst}
 use mathlib.Core.Bool.{Bool, true, false}
 use mathlib.Core.List.{[], _∷_}
@@ -9,6 +9,7 @@ use native.Mathlib.Omega.{arith}
 use lib.ListN.{length, take, replicate}
 use lib.Seq.{getD-take, length-take-le}
 use Rattle.rules.specs.Lists.{Words}
+use Rattle.rules.specs.Layout.{kind·error}
 use Rattle.rules.specs.Sheet.{at}
 use Rattle.rules.specs.SignedTerms.{Signed, SignedSol, snil, scons, turned, inverse}
 use Rattle.rules.specs.Types.{find}
@@ -22,7 +23,7 @@ use Rattle.clash.specs.Refs.{KindOf, IdOf, Bit, bits-apart, Sided, type-
 use Rattle.clash.specs.Children.{Gathers}
 use Rattle.clash.specs.Links.{Linked, linked-none}
 use Rattle.clash.specs.Cycles.{Cyclic}
-use Rattle.clash.specs.Meeting.{Holds, Meets, apart, known-parts, kinds-same}
+use Rattle.clash.specs.Meeting.{Holds, Meets, apart, known-same, known-sides, kinds-same, errors-same}
 
 -- The first n of xs and ys, turned by b, mean the same one by one.
 pub record Pairs (s : Words) (m : SignedSol) (n b : ℕ) (xs ys : Words) : Type 0 where
@@ -108,6 +109,10 @@ module _ (s ps ws ls qs : Words) (e x y : ℕ) (o u : Row) (a : Gathers s ps ws 
     });
   }
 
+-- A type and its inverse, of one ref.
+pub children-mirrored : (s ps ws ls qs : Words) (e x y i : ℕ) (o : Row) (ks rs : Words) (r : ℕ) → Gathers s ps ws (x / 2) o → o .n ≢ 9 → x / 2 ≡ y / 2 → Bit (apart s ps ws x y) i → i ≡ 1 → Goes s ps ws ls qs e (o .n) 1 (o .types) (o .types) ks rs r → Meets s ps ws ls qs e x y ks rs r
+children-mirrored s ps ws ls qs e x y i o ks rs r a z q t h g = children-meet s ps ws ls qs e x y o o a (subst (λ v. Gathers s ps ws v o) q a) z z 1 ks rs r (subst (Bit (apart s ps ws x y)) h t) g
+
 -- The queue is worked off.
 pub record Ran (s ps ws ls qs : Words) (e : ℕ) (ks rs : Words) (r : ℕ) : Type 0 where
   pub at : (m : SignedSol) → Meaning s ps ws m → Holds s m ls qs e → Holds s m ks rs r
@@ -115,17 +120,22 @@ pub record Ran (s ps ws ls qs : Words) (e : ℕ) (ks rs : Words) (r : ℕ) : Typ
 pub ran-start : (s ps ws ls qs : Words) (e : ℕ) → Ran s ps ws ls qs e ls qs e
 ran-start s ps ws ls qs e = record { at = λ m w h. h }
 
-pub ran-on : (s ps ws ls qs : Words) (e : ℕ) (ks rs : Words) (r k : ℕ) (is ts : Words) (u : ℕ) → Ran s ps ws ls qs e ks rs r → k < r → Meets s ps ws ks rs r (at rs k % 4096) (at rs k / 4096) is ts u → Ran s ps ws ls qs e is ts u
-ran-on s ps ws ls qs e ks rs r k is ts u g h t = record { at = λ m w l. t .at m w (g .at m w l) (means-mod s m (at rs k) ∙ (g .at m w l) .queued k h) }
+-- The last pair is taken.
+pub ran-last : (s ps ws ls qs : Words) (e : ℕ) (ks rs : Words) (r : ℕ) (is ts : Words) (u : ℕ) → Ran s ps ws ls qs e ks rs r → r ≢ 0 → r ≤ 256 → Meets s ps ws ks rs (r - 1) (at rs (r - 1) % 4096) (at rs (r - 1) / 4096) is ts u → Ran s ps ws ls qs e is ts u
+ran-last s ps ws ls qs e ks rs r is ts u g z f t = record {
+  at = λ m w l.
+      let h = g .at m w l in
+      t .at m w (record { linked = h .linked; queued = λ k j. h .queued k (omega arith); free = omega arith }) (means-mod s m (at rs (r - 1)) ∙ h .queued (r - 1) (omega arith));
+}
 
 -- true: nothing gives such meanings. false: the links after it are of types that mean the same.
 pub record Ends (s ps ws ls qs : Words) (e : ℕ) (ks : Words) (b : Bool) : Type 0 where
   pub clash : b ≡ true → (m : SignedSol) → Meaning s ps ws m → Holds s m ls qs e → ⊥
   pub links : b ≡ false → (m : SignedSol) → Meaning s ps ws m → Holds s m ls qs e → Linked s m ks
 
-pub ends-clash : (s ps ws ls qs : Words) (e : ℕ) (ks rs : Words) (r k : ℕ) (is ts : Words) (u : ℕ) → Ran s ps ws ls qs e ks rs r → k < r → Meets s ps ws ks rs r (at rs k % 4096) (at rs k / 4096) is ts u → u ≡ 1000 → Ends s ps ws ls qs e is true
-ends-clash s ps ws ls qs e ks rs r k is ts u g h t q = record {
-  clash = λ b m w l. ((ran-on s ps ws ls qs e ks rs r k is ts u g h t) .at m w l) .free q;
+pub ends-clash : (s ps ws ls qs : Words) (e : ℕ) (ks rs : Words) (r : ℕ) (is ts : Words) (u : ℕ) → Ran s ps ws ls qs e ks rs r → r ≢ 0 → r ≤ 256 → Meets s ps ws ks rs (r - 1) (at rs (r - 1) % 4096) (at rs (r - 1) / 4096) is ts u → u ≡ 1000 → Ends s ps ws ls qs e is true
+ends-clash s ps ws ls qs e ks rs r is ts u g z f t q = record {
+  clash = λ b m w l. ((ran-last s ps ws ls qs e ks rs r is ts u g z f t) .at m w l) .free q;
   links = λ b. let z : _≡_ {A = ℕ} 0 1 = cc in absurd (omega arith);
 }
 
@@ -186,11 +196,14 @@ root-clash-not s ps ws a b = record { clash = λ e. let z : _≡_ {A = ℕ} 0 1 
 pub root-kinds : (s ps ws : Words) (a b k j : ℕ) → KindOf s ps ws (a / 2) k → KindOf s ps ws (b / 2) j → k ≢ 0 → j ≢ 0 → k ≢ j → RootClash s ps ws a b true
 root-kinds s ps ws a b k j ek ej zk zj n = record { clash = λ e m w q. n (kinds-same s ps ws a b k j ek ej zk zj m w q) }
 
+pub root-errors : (s ps ws : Words) (a b k j : ℕ) → KindOf s ps ws (a / 2) k → KindOf s ps ws (b / 2) j → k ≢ 0 → j ≢ 0 → k ≡ kind·error → a / 2 ≢ b / 2 → RootClash s ps ws a b true
+root-errors s ps ws a b k j ek ej zk zj o n = record { clash = λ e m w q. n (errors-same s ps ws a b k j ek ej zk zj o m w q) }
+
 pub root-ids : (s ps ws : Words) (a b k j c d : ℕ) → KindOf s ps ws (a / 2) k → KindOf s ps ws (b / 2) j → k ≢ 0 → j ≢ 0 → IdOf s ps ws (a / 2) c → IdOf s ps ws (b / 2) d → c ≢ d → RootClash s ps ws a b true
-root-ids s ps ws a b k j c d ek ej zk zj ec ed n = record { clash = λ e m w q. n ((known-parts s ps ws a b k j c d ek ej zk zj ec ed m w q) .ids) }
+root-ids s ps ws a b k j c d ek ej zk zj ec ed n = record { clash = λ e m w q. n (known-same s ps ws a b k j c d ek ej zk zj ec ed m w q) }
 
 pub root-sides : (s ps ws : Words) (a b k j c d r : ℕ) (o : Bool) → KindOf s ps ws (a / 2) k → KindOf s ps ws (b / 2) j → k ≢ 0 → j ≢ 0 → IdOf s ps ws (a / 2) c → IdOf s ps ws (b / 2) d → Bit (apart s ps ws a b) r → r ≡ 1 → Sided s k c o → RootClash s ps ws a b o
-root-sides s ps ws a b k j c d r o ek ej zk zj ec ed t er f = record { clash = λ e m w q. bits-apart (type-side s ps ws a) (type-side s ps ws b) r t er ((known-parts s ps ws a b k j c d ek ej zk zj ec ed m w q) .sides (f .is e)) }
+root-sides s ps ws a b k j c d r o ek ej zk zj ec ed t er f = record { clash = λ e m w q. bits-apart (type-side s ps ws a) (type-side s ps ws b) r t er (known-sides s ps ws a b k j c d ek ej zk zj ec ed m w q (f .is e)) }
 
 pub clashing-root : (s ps ws : Words) (p q : Query) (k a b : ℕ) (r : Bool) → k < q .n → a ≡ 2048 + at (p .args) k % 2048 → b ≡ asked-type ws q k → RootClash s ps ws a b r → r ≡ true → Clashing s ps ws p q true
 clashing-root s ps ws p q k a b r h ea eb o e = record { clash = λ y m w x. o .clash e m w (ap (means s m) ea ∙ x .same k h ∙ ap (means s m) (sym eb)) }

@@ -8,11 +8,12 @@ use lib.Dec.{eqb, ltb}
 use lib.ListN.{length}
 use borrow.Author.Tests.{eq-eqb, ne-eqb, lt-ltb, le-ltb}
 use Rattle.rules.specs.Lists.{Words}
+use Rattle.rules.specs.Layout.{kind·error}
 use Rattle.rules.specs.Sheet.{at, kind-flag, row·own-inverse}
 use Rattle.rules.specs.Types.{xor}
 use Rattle.rules.specs.WordLaws.{word-past}
 use Rattle.rules.specs.Pigeonholes.{lt-or}
-use Rattle.rules.specs.SignedTerms.{SignedSol, made, turned}
+use Rattle.rules.specs.SignedTerms.{SignedSol, made, turned, label}
 use Rattle.table.specs.Packing.{types-of, kind-at, id-at, inverted-at}
 use Rattle.table.specs.ChildTypes.{odd-sum}
 use Rattle.clash.specs.Meaning.{odd, means, means-turn, turn, Sort, type-sort, Records, Meaning, row, record-side, record-types}
@@ -70,6 +71,10 @@ id-node s ps ws r d h e = record { node = λ l. e; is = λ l. absurd (omega arit
 
 pub id-record : (s ps ws : Words) (r p d : ℕ) → 256 ≤ r → p ≡ place ps r → d ≡ at s (p + 3) → IdOf s ps ws r d
 id-record s ps ws r p d h e q = record { node = λ l. absurd (omega arith); is = λ l. q ∙ ap (λ j. at s (j + 3)) e }
+
+-- A ref has one id.
+pub id-one : (s ps ws : Words) (r c d : ℕ) → IdOf s ps ws r c → IdOf s ps ws r d → c ≡ d
+id-one s ps ws r c d p q = ⊎-elim (λ h. p .node h ∙ sym (q .node h)) (λ h. p .is h ∙ sym (q .is h)) (lt-or r 256)
 
 -- Its kind alone.
 pub id-any : (s ps ws : Words) (r : ℕ) → (d : ℕ) × IdOf s ps ws r d
@@ -157,7 +162,7 @@ sided-not s k d = record { is = λ e. let z : _≡_ {A = ℕ} 0 1 = cc in absurd
 pub sided-flag : (s : Words) (k d i j : ℕ) (b : Bool) → i ≡ k → j ≡ d → b ≡ kind-flag s 2 i j → b ≡ false → Sided s k d true
 sided-flag s k d i j b ei ej e q = record { is = λ z. sym (sym q ∙ e ∙ ap₂ (kind-flag s 2) ei ej) }
 
--- What has a kind is of that kind, and of its id and side.
+-- What has a kind is of that kind, and of its id, or its name, and its side.
 pub ref-low : (m : SignedSol) (r : ℕ) → r < 2048 → m (r % 2048) ≡ m r
 ref-low m r h = ap m (let z : r % 2048 ≡ r = omega arith in z)
 
@@ -174,11 +179,14 @@ module _ (s ps : Words) (m : SignedSol) (w : Records s ps m) (r : ℕ) (z : plac
   ref-record : m (r % 2048) ≡ m (1024 + (r - 1024))
   ref-record = ap m (let e : r % 2048 ≡ 1024 + (r - 1024) = omega (arith, high, inside, w .few) in e)
 
-  pub record-plain : at s (place ps r + 1) ≢ 0 → at s (place ps r + 1) ≢ 1 → m (r % 2048) ≡ made s (record-side s (place ps r)) (at s (place ps r + 1)) (at s (place ps r + 3)) (row s m (record-types s (at s (place ps r + 4))))
+  ref-back : 1024 + (r - 1024) ≡ r
+  ref-back = omega (arith, high)
+
+  pub record-plain : at s (place ps r + 1) ≢ 0 → at s (place ps r + 1) ≢ 1 → m (r % 2048) ≡ made s (record-side s (place ps r)) (at s (place ps r + 1)) (label (w .name) (at s (place ps r + 1)) (at s (place ps r + 3)) r) (row s m (record-types s (at s (place ps r + 4))))
   record-plain y n =
       ref-record
       ∙ w .plain (r - 1024) inside (λ q. y (ap (λ p. at s (p + 1)) is-at ∙ q)) (λ q. n (ap (λ p. at s (p + 1)) is-at ∙ q))
-      ∙ ap (λ p. made s (record-side s p) (at s (p + 1)) (at s (p + 3)) (row s m (record-types s (at s (p + 4))))) (sym is-at)
+      ∙ ap₂ (λ (p q : ℕ). made s (record-side s p) (at s (p + 1)) (label (w .name) (at s (p + 1)) (at s (p + 3)) q) (row s m (record-types s (at s (p + 4))))) (sym is-at) ref-back
 
   record-param : at s (place ps r + 1) ≡ 1 → at s (place ps r + 3) < 8 → m (r % 2048) ≡ turned s (record-side s (place ps r)) (m (256 + at s (place ps r + 3)))
   record-param y n =
@@ -186,24 +194,57 @@ module _ (s ps : Words) (m : SignedSol) (w : Records s ps m) (r : ℕ) (z : plac
       ∙ w .param (r - 1024) inside (sym (ap (λ p. at s (p + 1)) is-at) ∙ y) (subst (λ p. at s (p + 3) < 8) is-at n)
       ∙ ap (λ p. turned s (record-side s p) (m (256 + at s (p + 3)))) (sym is-at)
 
-sort-of : (s ps ws : Words) (m : SignedSol) (r k d : ℕ) → Meaning s ps ws m → KindOf s ps ws r k → IdOf s ps ws r d → k ≢ 0 → Sort s (m (r % 2048)) (side-of s ps ws r) k d
+sort-of : (s ps ws : Words) (m : SignedSol) (r k d : ℕ) (w : Meaning s ps ws m) → KindOf s ps ws r k → IdOf s ps ws r d → k ≢ 0 → Sort s (m (r % 2048)) (side-of s ps ws r) k (label (w .records .name) k d r)
 sort-of s ps ws m r k d w e q z = ⊎-elim low high (lt-or r 256)
   where
-    low : r < 256 → Sort s (m (r % 2048)) (side-of s ps ws r) k d
+    low : r < 256 → Sort s (m (r % 2048)) (side-of s ps ws r) k (label (w .records .name) k d r)
     low h =
         let o = w .nodes .known r h (λ y. z (e .node h ∙ y)) in
-        record { over = o .over; is = ref-low m r (omega arith) ∙ o .is ∙ (λ t. made s (sym (side-node s ps ws r h) t) (sym (e .node h) t) (sym (q .node h) t) (o .over)) }
+        record { over = o .over; is = ref-low m r (omega arith) ∙ o .is ∙ (λ t. made s (sym (side-node s ps ws r h) t) (sym (e .node h) t) (label (w .records .name) (sym (e .node h) t) (sym (q .node h) t) r) (o .over)) }
 
-    high : 256 ≤ r → Sort s (m (r % 2048)) (side-of s ps ws r) k d
+    high : 256 ≤ r → Sort s (m (r % 2048)) (side-of s ps ws r) k (label (w .records .name) k d r)
     high h = record {
       over = row s m (record-types s (at s (place ps r + 4)));
       is =
           record-plain s ps m (w .records) r (e .inside h z) (λ y. z (sym (e .is h z) ∙ y)) (λ y. e .plain h (sym (e .is h z) ∙ y))
-          ∙ (λ t. made s (sym (side-record s ps ws r h) t) (e .is h z t) (sym (q .is h) t) (row s m (record-types s (at s (place ps r + 4)))));
+          ∙ (λ t. made s (sym (side-record s ps ws r h) t) (e .is h z t) (label (w .records .name) (e .is h z t) (sym (q .is h) t) r) (row s m (record-types s (at s (place ps r + 4)))));
     }
 
-pub sort-type : (s ps ws : Words) (m : SignedSol) (t k d : ℕ) → Meaning s ps ws m → KindOf s ps ws (t / 2) k → IdOf s ps ws (t / 2) d → k ≢ 0 → Sort s (means s m t) (type-side s ps ws t) k d
-sort-type s ps ws m t k d w e q z = let o = sort-of s ps ws m (t / 2) k d w e q z in record { over = o .over; is = type-sort s m t (side-of s ps ws (t / 2)) k d (o .over) (o .is) }
+pub sort-type : (s ps ws : Words) (m : SignedSol) (t k d : ℕ) (w : Meaning s ps ws m) → KindOf s ps ws (t / 2) k → IdOf s ps ws (t / 2) d → k ≢ 0 → Sort s (means s m t) (type-side s ps ws t) k (label (w .records .name) k d (t / 2))
+sort-type s ps ws m t k d w e q z = let o = sort-of s ps ws m (t / 2) k d w e q z in record { over = o .over; is = type-sort s m t (side-of s ps ws (t / 2)) k (label (w .records .name) k d (t / 2)) (o .over) (o .is) }
+
+-- Refs that are Error and have one name are one.
+module _ (s ps ws : Words) (m : SignedSol) (w : Meaning s ps ws m) where
+  error-node : (r : ℕ) → KindOf s ps ws r kind·error → r < 256 → kind-at (types-of ws) r ≡ kind·error
+  error-node r e h = sym (e .node h)
+
+  module _ (r : ℕ) (e : KindOf s ps ws r kind·error) (h : 256 ≤ r) where
+    error-place : place ps r ≢ 0
+    error-place = e .inside h (omega arith)
+
+    error-back : 1024 + (r - 1024) ≡ r
+    error-back = omega (arith, place-high ps r error-place)
+
+    error-in : r - 1024 < length ps
+    error-in = place-in ps r error-place
+
+    error-record : at s (at ps (r - 1024) + 1) ≡ kind·error
+    error-record = ap (λ p. at s (p + 1)) (sym (place-at ps r (place-high ps r error-place))) ∙ e .is h (omega arith)
+
+  error-both : (a b : ℕ) → KindOf s ps ws a kind·error → KindOf s ps ws b kind·error → 256 ≤ a → b < 256 → w .records .name a ≢ w .records .name b
+  error-both a b p q h l e = w .errors .both (a - 1024) b (error-in a p h) l (error-record a p h) (error-node b q l) (ap (w .records .name) (error-back a p h) ∙ e)
+
+  pub error-one : (a b : ℕ) → KindOf s ps ws a kind·error → KindOf s ps ws b kind·error → w .records .name a ≡ w .records .name b → a ≡ b
+  error-one a b p q e = ⊎-elim
+      (λ h. ⊎-elim (λ l. w .errors .nodes a b h l (error-node a p h) (error-node b q l) e) (λ l. absurd (error-both b a q p l h (sym e))) (lt-or b 256))
+      (λ h. ⊎-elim (λ l. absurd (error-both a b p q h l e)) (λ l. high h l) (lt-or b 256))
+      (lt-or a 256)
+    where
+      high : 256 ≤ a → 256 ≤ b → a ≡ b
+      high h l =
+          let x = error-back a p h in
+          let y = error-back b q l in
+          sym x ∙ ap (λ k. 1024 + k) (w .errors .records (a - 1024) (b - 1024) (error-in a p h) (error-in b q l) (error-record a p h) (error-record b q l) (ap (w .records .name) x ∙ e ∙ sym (ap (w .records .name) y))) ∙ y
 
 -- Two types of which a Param of the signature is one, and its type parameter the other; or the same.
 pub record Alike (s ps : Words) (x r : ℕ) : Type 0 where

@@ -1,8 +1,9 @@
 // Whether a candidate's signature, or an impl parameter of the caller's generics, and the question cannot unify: a test made before it is opened.
-// It goes by classes of types that have to be the same, and finds a clash: two types of one class that differ in kind, id or number of children, or in side where the kind is not its own inverse,
-// so that a type is met inverted that may not be; or a class that would contain itself, which is the occurs check (`cycles`). Where it finds none nothing is said.
+// It goes by classes of types that have to be the same, and finds a clash: two types of one class that differ in kind, id or number of children, or are different Errors, or differ in side where the kind is not its own inverse,
+// so that a type is met inverted that may not be (where a type meets its own inverse, its children meet theirs); or a class that would contain itself, which is the occurs check (`cycles`). Where it finds none nothing is said.
 // A type is twice a ref, and one more if it is inverted. Refs are read modulo 2,048: up to 255 roots of the question's table, from 256 on type parameters, from 1,024 on nodes of the signature's table by their records.
-// `links` has for each ref 0, or 1 and the type that the ref is, of the same class; `queue` has pairs of types that are the same and whose children are to be met.
+// `links` has for each ref 0, or 1 and the type that the ref is, of the same class; `queue` has pairs of types that are the same and whose children are to be met, in its first 256 words, and is worked off from its end;
+// after these it has, by refs modulo 256, 1 and the ref that was queued with its own inverse last; and in its last word how many links were gone to look for self-dual marks.
 ghost use mathlib.Core.Path.{_≡_};
 ghost use Prim.Native.Nat.{_+_, _-_, _*_, _/_, _%_, _<_, _≤_};
 ghost use mathlib.Core.Logic.{_≢_};
@@ -20,7 +21,7 @@ ghost use Rattle.opening.specs.Sound.{Sound};
 ghost use Rattle.clash.specs.Refs.{place, KindOf, IdOf, side-of, type-side, Bit, Sided, Alike};
 ghost use Rattle.clash.specs.Meaning.{turn as turn-of, record-side};
 ghost use Rattle.clash.specs.Links.{Finds, Links, Settles};
-ghost use Rattle.clash.specs.Meeting.{Puts, Meets, apart as apart-of};
+ghost use Rattle.clash.specs.Meeting.{Aside, Queues, Puts, Decides, Inverts, Meets, apart as apart-of};
 ghost use Rattle.clash.specs.Children.{Cells, Gathers};
 ghost use Rattle.clash.specs.Pairs.{Goes, Ends, ArgsMet, RootClash, Clashing};
 ghost use Rattle.clash.specs.Across.{sides-across, RecordMet, CellsMet};
@@ -39,7 +40,14 @@ const PARAMS: u32 = 256;
 
 const RECORDS: u32 = 1024;
 
+// So many pairs the queue has room for; the refs queued with their own inverses follow.
 const QUEUE: usize = 256;
+
+// The word of the queue that counts the links gone.
+const GONE: usize = 512;
+
+// At most so many pairs are worked off.
+const PAIRS: usize = 1024;
 
 // What a clash is told by, in place of the queue's end.
 const CLASH: usize = 1000;
@@ -49,6 +57,8 @@ const PARAM: u32 = 1;
 const STRUCT: u32 = 4;
 
 const UNION: u32 = 6;
+
+const ERROR: u32 = 13;
 
 // Up to as many words of a sheet and nodes of the question's table nothing more is tested than the roots of the arguments.
 const SMALL_SHEET: usize = 320;
@@ -288,7 +298,7 @@ fn settle(sheet: &[u32], places: &[u32], links: &mut [u32; 2048], x: u32) -> u32
 }
 
 // Links x to y, and queues the pair; nothing where the queue is full.
-fn put(links: &mut [u32; 2048], queue: &mut [u32; 256], end: usize, x: u32, y: u32) -> usize
+fn put(links: &mut [u32; 2048], queue: &mut [u32; 513], end: usize, x: u32, y: u32) -> usize
     ensures { λ r. ⌜ Puts (now (links .entry)) (now (queue .entry)) end x y (now (links .exit)) (now (queue .exit)) r ⌝ }
 {
     if end >= QUEUE {
@@ -338,13 +348,92 @@ fn sided_near(sheet: &[u32], k: u32, d: u32) -> bool
     true
 }
 
-// Meets two types of kind k.
+// Whether the self-dual mark of id d may be looked for: as long as few links were gone in this test. They are counted.
+fn may_look(queue: &mut [u32; 513], end: usize, d: u32) -> bool
+    ensures { λ _. ⌜ Aside (now (queue .entry)) end (now (queue .exit)) ⌝ }
+{
+    if d >= NEAR {
+        return false;
+    }
+    if end >= QUEUE {
+        return false;
+    }
+    let gone = queue[GONE];
+    if gone >= NEAR {
+        return false;
+    }
+    queue[GONE] = gone + d + 1;
+    true
+}
+
+// Whether a self-dual mark tells which ids of a kind are their own inverses.
+fn is_marked(k: u32) -> bool {
+    if k == STRUCT {
+        return true;
+    }
+    k == UNION
+}
+
+// Whether a kind and id is surely not its own inverse; of Structs and Unions, nothing is said where the mark may not be looked for.
+fn sided_once(sheet: &[u32], queue: &mut [u32; 513], end: usize, k: u32, d: u32) -> bool
+    ensures { λ r. ⌜ Decides (now (sheet .entry)) (now (queue .entry)) end k d (now (queue .exit)) r ⌝ }
+{
+    if is_marked(k) {
+        if may_look(queue, end, d) {
+            return sided_near(sheet, k, d);
+        }
+        return false;
+    }
+    sided(sheet, k, d)
+}
+
+// A type and its inverse, which are the same: queued, so that its children are met with their own inverses, unless that was done.
+fn mirror(queue: &mut [u32; 513], end: usize, x: u32, y: u32) -> usize
+    ensures { λ r. ⌜ Queues (now (queue .entry)) end x y (now (queue .exit)) r ⌝ }
+{
+    if end >= QUEUE {
+        return end;
+    }
+    let r = x / 2;
+    let at = QUEUE + words::wide(r % 256);
+    if queue[at] == r + 1 {
+        return end;
+    }
+    queue[at] = r + 1;
+    let pair = x % 4096 + 4096 * (y % 4096);
+    queue[end] = pair;
+    end + 1
+}
+
+// Meets two types of kind k and id d that differ in side.
+fn meet_inverted(
+    sheet: &[u32],
+    links: &mut [u32; 2048],
+    queue: &mut [u32; 513],
+    end: usize,
+    x: u32,
+    y: u32,
+    k: u32,
+    d: u32,
+) -> usize
+    ensures { λ r. ⌜ Inverts (now (sheet .entry)) (now (links .entry)) (now (queue .entry)) end x y k d (now (links .exit)) (now (queue .exit)) r ⌝ }
+{
+    if sided_once(sheet, queue, end, k, d) {
+        return CLASH;
+    }
+    if x / 2 == y / 2 {
+        return mirror(queue, end, x, y);
+    }
+    put(links, queue, end, x, y)
+}
+
+// Meets two types of kind k. Errors of different refs clash.
 fn meet_known(
     sheet: &[u32],
     places: &[u32],
     ws: &[u32],
     links: &mut [u32; 2048],
-    queue: &mut [u32; 256],
+    queue: &mut [u32; 513],
     end: usize,
     x: u32,
     y: u32,
@@ -355,17 +444,17 @@ fn meet_known(
     requires { ⌜ k ≢ 0 ⌝ }
     ensures { λ r. ⌜ Meets (now (sheet .entry)) (now (places .entry)) (now (ws .entry)) (now (links .entry)) (now (queue .entry)) end x y (now (links .exit)) (now (queue .exit)) r ⌝ }
 {
+    if k == ERROR {
+        if x / 2 != y / 2 {
+            return CLASH;
+        }
+    }
     let d = id(sheet, places, ws, x / 2);
     if d != id(sheet, places, ws, y / 2) {
         return CLASH;
     }
     if apart(sheet, places, ws, x, y) == 1 {
-        if sided(sheet, k, d) {
-            return CLASH;
-        }
-    }
-    if x / 2 == y / 2 {
-        return end;
+        return meet_inverted(sheet, links, queue, end, x, y, k, d);
     }
     put(links, queue, end, x, y)
 }
@@ -376,7 +465,7 @@ fn meet_roots(
     places: &[u32],
     ws: &[u32],
     links: &mut [u32; 2048],
-    queue: &mut [u32; 256],
+    queue: &mut [u32; 513],
     end: usize,
     x: u32,
     y: u32,
@@ -405,7 +494,7 @@ fn meet_found(
     places: &[u32],
     ws: &[u32],
     links: &mut [u32; 2048],
-    queue: &mut [u32; 256],
+    queue: &mut [u32; 513],
     end: usize,
     a: u32,
     b: u32,
@@ -426,7 +515,7 @@ fn meet(
     places: &[u32],
     ws: &[u32],
     links: &mut [u32; 2048],
-    queue: &mut [u32; 256],
+    queue: &mut [u32; 513],
     end: usize,
     a: u32,
     b: u32,
@@ -447,7 +536,7 @@ fn meet_all(
     places: &[u32],
     ws: &[u32],
     links: &mut [u32; 2048],
-    queue: &mut [u32; 256],
+    queue: &mut [u32; 513],
     end: usize,
     xs: Row,
     ys: Row,
@@ -483,12 +572,12 @@ fn across(sheet: &[u32], p: usize, ws: &[u32], x: u32, y: u32) -> u32
     (x % 2 + y % 2 + a) % 2
 }
 
-// Meets a type of the signature that has kind k, and whose record is at p, with a type of the question of a root.
+// Meets a type of the signature that has kind k, and whose record is at p, with a type of the question of a root. Two Errors clash.
 fn meet_record(
     sheet: &[u32],
     ws: &[u32],
     links: &mut [u32; 2048],
-    queue: &mut [u32; 256],
+    queue: &mut [u32; 513],
     end: usize,
     x: u32,
     y: u32,
@@ -504,14 +593,15 @@ fn meet_record(
     if table::kind_of(ws, y / 2) != k {
         return CLASH;
     }
+    if k == ERROR {
+        return CLASH;
+    }
     let d = words::offset(sheet, p, layout::NODE_ID);
     if d != table::id_of(ws, y / 2) {
         return CLASH;
     }
     if across(sheet, p, ws, x, y) == 1 {
-        if sided(sheet, k, d) {
-            return CLASH;
-        }
+        return meet_inverted(sheet, links, queue, end, x, y, k, d);
     }
     put(links, queue, end, x, y)
 }
@@ -522,7 +612,7 @@ fn meet_new(
     places: &[u32],
     ws: &[u32],
     links: &mut [u32; 2048],
-    queue: &mut [u32; 256],
+    queue: &mut [u32; 513],
     end: usize,
     x: u32,
     y: u32,
@@ -541,36 +631,32 @@ fn meet_new(
     meet(sheet, places, ws, links, queue, end, x, y)
 }
 
-// Meets a type of the signature with a type of the question of a root. Most are linked to each other already.
+// Meets a type of the signature with a type of the question of a root.
 fn meet_cell(
     sheet: &[u32],
     places: &[u32],
     ws: &[u32],
     links: &mut [u32; 2048],
-    queue: &mut [u32; 256],
+    queue: &mut [u32; 513],
     end: usize,
     x: u32,
     y: u32,
 ) -> usize
     ensures { λ r. ⌜ Meets (now (sheet .entry)) (now (places .entry)) (now (ws .entry)) (now (links .entry)) (now (queue .entry)) end x y (now (links .exit)) (now (queue .exit)) r ⌝ }
 {
-    let up = links[words::wide(x / 2 % 2048)];
-    if up == turn(x % 2, y) % 4096 + 1 {
-        return end;
-    }
-    if up == 0 {
+    if links[words::wide(x / 2 % 2048)] == 0 {
         return meet_new(sheet, places, ws, links, queue, end, x, y);
     }
     meet(sheet, places, ws, links, queue, end, x, y)
 }
 
-// Meets the types in the cells from a head with those of a row of the question, turned by b: a clash where there are more of one.
+// Meets the types in the cells from a head with those of a row of the question, turned by b: a clash where there are more of one. Most of them are linked to each other already, and need no call.
 fn meet_cells(
     sheet: &[u32],
     places: &[u32],
     ws: &[u32],
     links: &mut [u32; 2048],
-    queue: &mut [u32; 256],
+    queue: &mut [u32; 513],
     end: usize,
     head: usize,
     ys: Row,
@@ -589,9 +675,12 @@ fn meet_cells(
             return CLASH;
         }
         let x = own_type(words::offset(sheet, c, layout::CELL_TYPE));
-        e = meet_cell(sheet, places, ws, links, queue, e, x, turn(b, ys.types[j]));
-        if e == CLASH {
-            return e;
+        let y = turn(b, ys.types[j]);
+        if links[words::wide(x / 2 % 2048)] != turn(x % 2, y) % 4096 + 1 {
+            e = meet_cell(sheet, places, ws, links, queue, e, x, y);
+            if e == CLASH {
+                return e;
+            }
         }
         c = words::next(sheet, c);
         j += 1;
@@ -608,7 +697,7 @@ fn meet_across(
     places: &[u32],
     ws: &[u32],
     links: &mut [u32; 2048],
-    queue: &mut [u32; 256],
+    queue: &mut [u32; 513],
     end: usize,
     x: u32,
     y: u32,
@@ -647,13 +736,46 @@ fn meet_across(
     )
 }
 
+// Whether the ref of a type is marked in the queue as queued with its own inverse.
+fn is_mirrored(queue: &[u32; 513], x: u32) -> bool {
+    queue[QUEUE + words::wide(x / 2 % 256)] == x / 2 + 1
+}
+
+// Meets the types of a row with their own inverses, but for those whose refs have been queued so.
+fn meet_mirrored(
+    sheet: &[u32],
+    places: &[u32],
+    ws: &[u32],
+    links: &mut [u32; 2048],
+    queue: &mut [u32; 513],
+    end: usize,
+    xs: Row,
+) -> usize
+    requires { ⌜ xs .n ≤ 8 ⌝ }
+    ensures { λ r. ⌜ Goes (now (sheet .entry)) (now (places .entry)) (now (ws .entry)) (now (links .entry)) (now (queue .entry)) end (xs .n) 1 (xs .types) (xs .types) (now (links .exit)) (now (queue .exit)) r ⌝ }
+{
+    let mut e = end;
+    let mut j: usize = 0;
+    while j < xs.n {
+        let x = xs.types[j];
+        j += 1;
+        if !is_mirrored(queue, x) {
+            e = meet(sheet, places, ws, links, queue, e, x, turn(1, x));
+            if e == CLASH {
+                return e;
+            }
+        }
+    }
+    e
+}
+
 // Meets the children of two types, whichever they are.
 fn meet_rows(
     sheet: &[u32],
     places: &[u32],
     ws: &[u32],
     links: &mut [u32; 2048],
-    queue: &mut [u32; 256],
+    queue: &mut [u32; 513],
     end: usize,
     x: u32,
     y: u32,
@@ -665,6 +787,13 @@ fn meet_rows(
     if xs.n == UNTOLD {
         return end;
     }
+    let b = apart(sheet, places, ws, x, y);
+    if x / 2 == y / 2 {
+        if b == 1 {
+            return meet_mirrored(sheet, places, ws, links, queue, end, xs);
+        }
+        return end;
+    }
     let ys = children(sheet, places, ws, y / 2);
     if ys.n == UNTOLD {
         return end;
@@ -672,7 +801,6 @@ fn meet_rows(
     if xs.n != ys.n {
         return CLASH;
     }
-    let b = apart(sheet, places, ws, x, y);
     meet_all(sheet, places, ws, links, queue, end, xs, ys, b)
 }
 
@@ -682,7 +810,7 @@ fn meet_children(
     places: &[u32],
     ws: &[u32],
     links: &mut [u32; 2048],
-    queue: &mut [u32; 256],
+    queue: &mut [u32; 513],
     end: usize,
     x: u32,
     y: u32,
@@ -698,26 +826,30 @@ fn meet_children(
     meet_rows(sheet, places, ws, links, queue, end, x, y)
 }
 
-// Works off the queue, whose end is n: whether there is a clash.
+// Works off the queue, whose end is n, from its end, and at most 1,024 pairs: whether a clash is found.
 fn run(
     sheet: &[u32],
     places: &[u32],
     ws: &[u32],
     links: &mut [u32; 2048],
-    queue: &mut [u32; 256],
+    queue: &mut [u32; 513],
     n: usize,
 ) -> bool
     requires { ⌜ Packed (now ws) ⌝ }
     ensures { λ r. ⌜ Ends (now (sheet .entry)) (now (places .entry)) (now (ws .entry)) (now (links .entry)) (now (queue .entry)) n (now (links .exit)) r ⌝ }
 {
-    let mut k: usize = 0;
     let mut end = n;
-    while k < end {
-        if k >= QUEUE {
+    let mut left: usize = PAIRS;
+    while end != 0 {
+        if end > QUEUE {
             return false;
         }
-        let pair = queue[k];
-        k += 1;
+        if left == 0 {
+            return false;
+        }
+        left -= 1;
+        end -= 1;
+        let pair = queue[end];
         end = meet_children(
             sheet,
             places,
@@ -741,7 +873,7 @@ fn meet_args(
     places: &[u32],
     ws: &[u32],
     links: &mut [u32; 2048],
-    queue: &mut [u32; 256],
+    queue: &mut [u32; 513],
     p: Query,
     q: Query,
 ) -> usize
@@ -769,7 +901,7 @@ fn clash_args(sheet: &[u32], places: &[u32], ws: &[u32], p: Query, q: Query) -> 
     ensures { λ r. ⌜ Clashing (now (sheet .entry)) (now (places .entry)) (now (ws .entry)) p q r ⌝ }
 {
     let mut links = [0u32; 2048];
-    let mut queue = [0u32; 256];
+    let mut queue = [0u32; 513];
     let n = meet_args(sheet, places, ws, &mut links, &mut queue, p, q);
     if n == CLASH {
         return true;
@@ -780,7 +912,7 @@ fn clash_args(sheet: &[u32], places: &[u32], ws: &[u32], p: Query, q: Query) -> 
     cycles::cyclic(sheet, places, ws, &links)
 }
 
-// Whether the roots of two arguments clash.
+// Whether the roots of two arguments clash, as Errors of different refs do.
 fn root_clash(sheet: &[u32], places: &[u32], ws: &[u32], a: u32, b: u32) -> bool
     ensures { λ r. ⌜ RootClash (now (sheet .entry)) (now (places .entry)) (now (ws .entry)) a b r ⌝ }
 {
@@ -794,6 +926,11 @@ fn root_clash(sheet: &[u32], places: &[u32], ws: &[u32], a: u32, b: u32) -> bool
     }
     if k != l {
         return true;
+    }
+    if k == ERROR {
+        if a / 2 != b / 2 {
+            return true;
+        }
     }
     let d = id(sheet, places, ws, a / 2);
     if d != id(sheet, places, ws, b / 2) {

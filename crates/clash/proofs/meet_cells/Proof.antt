@@ -1,6 +1,7 @@
 -- `meet_cells`: cell by cell, as the row goes.
 use Prim.Native.Nat.{_-_}
-use Rattle.clash.specs.Across.{Crosses, crosses-start, crosses-more, crosses-fewer, cells-on, crosses-on}
+use mathlib.Core.Logic.{⊎-elim}
+use Rattle.clash.specs.Across.{Crosses, crosses-start, crosses-more, crosses-fewer, cells-on, crosses-on, meets-as, meets-passed}
 use borrow.Author.Needs.{needs}
 use Rattle.clash.proofs.meet_cells.Statement.{statement}
 use Rattle.clash.proofs.meet_cells.Tie as tie
@@ -32,6 +33,21 @@ element-copy-out-turn c = search needs
 turn-requires : tie.Need-turn-requires Inv-loop μ-loop
 turn-requires c κs = search needs
 
+wide-requires : tie.Need-wide-requires Inv-loop μ-loop
+wide-requires c κs = search needs
+
+mul-if2 : tie.Need-mul-if2 Inv-loop μ-loop
+mul-if2 c = search needs
+
+element-copy-out-if2 : tie.Need-element-copy-out-if2 Inv-loop μ-loop
+element-copy-out-if2 c = search needs
+
+turn-requires-2 : tie.Need-turn-requires-2 Inv-loop μ-loop
+turn-requires-2 c κs = search needs
+
+add-if2 : tie.Need-add-if2 Inv-loop μ-loop
+add-if2 c = search needs
+
 meet-cell-requires : tie.Need-meet-cell-requires Inv-loop μ-loop
 meet-cell-requires c κs = search needs
 
@@ -47,8 +63,13 @@ add-j c = search needs
 loop-less : tie.Need-loop-less Inv-loop μ-loop
 loop-less c = search needs
 
+-- Met, or linked to each other already.
 loop-again : tie.Need-loop-again Inv-loop μ-loop
-loop-again c = crosses-on _ _ _ _ _ _ _ _ _ _ _ _ _ _ (c .before .before .before .before .before .before .before .before .before .before .before .loop .inv) (search needs) (search needs) _ _ _ (c .before .before .before .before .before .before .before .before .offset .ensures) (c .before .before .before .before .before .before .before .own-type .ensures) (c .before .before .before .turn .ensures) _ _ _ (c .before .before .meet-cell .ensures) _ (c .next .ensures)
+loop-again c = crosses-on _ _ _ _ _ _ _ _ _ _ _ _ _ _ (c .before .before .before .before .before .before .before .before .before .before .before .loop .inv) (search needs) (search needs) _ _ _ (c .before .before .before .before .before .before .before .before .offset .ensures) (c .before .before .before .before .before .before .before .own-type .ensures) (c .before .before .before .before .before .turn .ensures) _ _ _
+    (⊎-elim
+    (λ a. meets-as _ _ _ _ _ _ _ _ _ _ _ _ _ _ (a .3 .ensures) (a .5) (a .6) (a .7))
+    (λ a. meets-passed _ _ _ _ _ _ _ _ _ _ _ (a .1) (a .2) (a .3))
+    (c .before .if2 .came)) _ (c .next .ensures)
 
 returns-3 : tie.Need-returns-3 Inv-loop μ-loop
 returns-3 c = search (needs, crosses-fewer)
@@ -69,6 +90,11 @@ meet-cells-spec =
     mul-turn
     element-copy-out-turn
     turn-requires
+    wide-requires
+    mul-if2
+    element-copy-out-if2
+    turn-requires-2
+    add-if2
     meet-cell-requires
     returns-2
     next-requires

@@ -1,15 +1,14 @@
--- `run`: pair by pair.
-use Prim.Native.Nat.{_-_}
-use Rattle.clash.specs.Pairs.{Ran, ran-start, ran-on, ends-clash, ends-not}
+-- `run`: pair by pair, the last first.
+use Rattle.clash.specs.Pairs.{Ran, ran-start, ran-last, ends-clash, ends-not}
 use borrow.Author.Needs.{needs}
 use Rattle.clash.proofs.run.Statement.{statement}
 use Rattle.clash.proofs.run.Tie as tie
 
 abbrev Inv-loop : tie.InvT-loop
-Inv-loop sheet places ws links₀ queue₀ n k₀ end₀ links queue k end = Ran sheet places ws links₀ queue₀ n links queue end
+Inv-loop sheet places ws links₀ queue₀ n end₀ left₀ links queue end left = Ran sheet places ws links₀ queue₀ n links queue end
 
 abbrev μ-loop : tie.MeasureT-loop
-μ-loop sheet places ws links₀ queue₀ n k₀ end₀ links queue k end = 256 - k
+μ-loop sheet places ws links₀ queue₀ n end₀ left₀ links queue end left = left
 
 loop-holds : tie.Need-loop-holds Inv-loop μ-loop
 loop-holds c = search (needs, ran-start)
@@ -17,29 +16,35 @@ loop-holds c = search (needs, ran-start)
 returns : tie.Need-returns Inv-loop μ-loop
 returns c = search (needs, ends-not)
 
+returns-2 : tie.Need-returns-2 Inv-loop μ-loop
+returns-2 c = search (needs, ends-not)
+
+sub-left : tie.Need-sub-left Inv-loop μ-loop
+sub-left c = search needs
+
+sub-end : tie.Need-sub-end Inv-loop μ-loop
+sub-end c = search needs
+
 mul-pair : tie.Need-mul-pair Inv-loop μ-loop
 mul-pair c = search needs
 
 element-copy-out-pair : tie.Need-element-copy-out-pair Inv-loop μ-loop
 element-copy-out-pair c = search needs
 
-add-k : tie.Need-add-k Inv-loop μ-loop
-add-k c = search needs
-
 meet-children-requires : tie.Need-meet-children-requires Inv-loop μ-loop
 meet-children-requires c κs = search needs
 
-returns-2 : tie.Need-returns-2 Inv-loop μ-loop
-returns-2 c = search (needs, ends-clash)
+returns-3 : tie.Need-returns-3 Inv-loop μ-loop
+returns-3 c = search (needs, ends-clash)
 
 loop-less : tie.Need-loop-less Inv-loop μ-loop
 loop-less c = search needs
 
 loop-again : tie.Need-loop-again Inv-loop μ-loop
-loop-again c = search (needs, ran-on)
+loop-again c = search (needs, ran-last)
 
-returns-3 : tie.Need-returns-3 Inv-loop μ-loop
-returns-3 c = search (needs, ends-not)
+returns-4 : tie.Need-returns-4 Inv-loop μ-loop
+returns-4 c = search (needs, ends-not)
 
 pub run-spec : {M : Type 1} → statement M
 run-spec =
@@ -49,11 +54,13 @@ run-spec =
     μ-loop
     loop-holds
     returns
+    returns-2
+    sub-left
+    sub-end
     mul-pair
     element-copy-out-pair
-    add-k
     meet-children-requires
-    returns-2
+    returns-3
     loop-less
     loop-again
-    returns-3)
+    returns-4)
