@@ -1,4 +1,4 @@
-// The chain rule for one record; in specs/Planes what passes note of each place of a slice in planes of a workspace.
+// The chain rule for one record, wherever it stands.
 ghost use mathlib.Core.Path.{_≡_};
 ghost use Rattle.rules.specs.Chains.{record-keeps};
 
