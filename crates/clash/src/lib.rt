@@ -46,8 +46,19 @@ const QUEUE: usize = 256;
 // The word of the queue that counts the links gone.
 const GONE: usize = 512;
 
-// At most so many pairs are worked off.
-const PAIRS: usize = 1024;
+// The words of the notes that say that one was used, and that none is to be used.
+const USED: usize = 254;
+
+const OFF: usize = 255;
+
+// The word of the queue that counts the unknowns that were linked.
+const BOUND: usize = 513;
+
+// A pair whose children were met stands in the queue until all below it is done, with this times one more than the unknowns that were linked before.
+const VISITED: u32 = 16777216;
+
+// So often the queue is looked at.
+const PAIRS: usize = 2048;
 
 // What a clash is told by, in place of the queue's end.
 const CLASH: usize = 1000;
@@ -298,7 +309,7 @@ fn settle(sheet: &[u32], places: &[u32], links: &mut [u32; 2048], x: u32) -> u32
 }
 
 // Links x to y, and queues the pair; nothing where the queue is full.
-fn put(links: &mut [u32; 2048], queue: &mut [u32; 513], end: usize, x: u32, y: u32) -> usize
+fn put(links: &mut [u32; 2048], queue: &mut [u32; 514], end: usize, x: u32, y: u32) -> usize
     ensures { λ r. ⌜ Puts (now (links .entry)) (now (queue .entry)) end x y (now (links .exit)) (now (queue .exit)) r ⌝ }
 {
     if end >= QUEUE {
@@ -349,7 +360,7 @@ fn sided_near(sheet: &[u32], k: u32, d: u32) -> bool
 }
 
 // Whether the self-dual mark of id d may be looked for: as long as few links were gone in this test. They are counted.
-fn may_look(queue: &mut [u32; 513], end: usize, d: u32) -> bool
+fn may_look(queue: &mut [u32; 514], end: usize, d: u32) -> bool
     ensures { λ _. ⌜ Aside (now (queue .entry)) end (now (queue .exit)) ⌝ }
 {
     if d >= NEAR {
@@ -375,7 +386,7 @@ fn is_marked(k: u32) -> bool {
 }
 
 // Whether a kind and id is surely not its own inverse; of Structs and Unions, nothing is said where the mark may not be looked for.
-fn sided_once(sheet: &[u32], queue: &mut [u32; 513], end: usize, k: u32, d: u32) -> bool
+fn sided_once(sheet: &[u32], queue: &mut [u32; 514], end: usize, k: u32, d: u32) -> bool
     ensures { λ r. ⌜ Decides (now (sheet .entry)) (now (queue .entry)) end k d (now (queue .exit)) r ⌝ }
 {
     if is_marked(k) {
@@ -388,7 +399,7 @@ fn sided_once(sheet: &[u32], queue: &mut [u32; 513], end: usize, k: u32, d: u32)
 }
 
 // A type and its inverse, which are the same: queued, so that its children are met with their own inverses, unless that was done.
-fn mirror(queue: &mut [u32; 513], end: usize, x: u32, y: u32) -> usize
+fn mirror(queue: &mut [u32; 514], end: usize, x: u32, y: u32) -> usize
     ensures { λ r. ⌜ Queues (now (queue .entry)) end x y (now (queue .exit)) r ⌝ }
 {
     if end >= QUEUE {
@@ -409,7 +420,7 @@ fn mirror(queue: &mut [u32; 513], end: usize, x: u32, y: u32) -> usize
 fn meet_inverted(
     sheet: &[u32],
     links: &mut [u32; 2048],
-    queue: &mut [u32; 513],
+    queue: &mut [u32; 514],
     end: usize,
     x: u32,
     y: u32,
@@ -433,7 +444,7 @@ fn meet_known(
     places: &[u32],
     ws: &[u32],
     links: &mut [u32; 2048],
-    queue: &mut [u32; 513],
+    queue: &mut [u32; 514],
     end: usize,
     x: u32,
     y: u32,
@@ -459,13 +470,22 @@ fn meet_known(
     put(links, queue, end, x, y)
 }
 
+// Counts an unknown that is linked, up to 127 and then from 0 on again.
+fn count_bound(queue: &mut [u32; 514], end: usize)
+    ensures { λ _. ⌜ Aside (now (queue .entry)) end (now (queue .exit)) ⌝ }
+{
+    if end < QUEUE {
+        queue[BOUND] = (queue[BOUND] % 128 + 1) % 128;
+    }
+}
+
 // Meets types of two roots: an unknown is linked to the other, and two that have a kind clash or are queued.
 fn meet_roots(
     sheet: &[u32],
     places: &[u32],
     ws: &[u32],
     links: &mut [u32; 2048],
-    queue: &mut [u32; 513],
+    queue: &mut [u32; 514],
     end: usize,
     x: u32,
     y: u32,
@@ -475,11 +495,13 @@ fn meet_roots(
     let k = kind(sheet, places, ws, x / 2);
     if k == 0 {
         link_apart(links, x, y);
+        count_bound(queue, end);
         return end;
     }
     let j = kind(sheet, places, ws, y / 2);
     if j == 0 {
         link(links, y, x);
+        count_bound(queue, end);
         return end;
     }
     if k != j {
@@ -494,7 +516,7 @@ fn meet_found(
     places: &[u32],
     ws: &[u32],
     links: &mut [u32; 2048],
-    queue: &mut [u32; 513],
+    queue: &mut [u32; 514],
     end: usize,
     a: u32,
     b: u32,
@@ -515,7 +537,7 @@ fn meet(
     places: &[u32],
     ws: &[u32],
     links: &mut [u32; 2048],
-    queue: &mut [u32; 513],
+    queue: &mut [u32; 514],
     end: usize,
     a: u32,
     b: u32,
@@ -524,6 +546,8 @@ fn meet(
 {
     let x = find(links, a);
     let y = find(links, b);
+    link_apart(links, a, x);
+    link_apart(links, b, y);
     if x == y {
         return end;
     }
@@ -536,7 +560,7 @@ fn meet_all(
     places: &[u32],
     ws: &[u32],
     links: &mut [u32; 2048],
-    queue: &mut [u32; 513],
+    queue: &mut [u32; 514],
     end: usize,
     xs: Row,
     ys: Row,
@@ -577,7 +601,7 @@ fn meet_record(
     sheet: &[u32],
     ws: &[u32],
     links: &mut [u32; 2048],
-    queue: &mut [u32; 513],
+    queue: &mut [u32; 514],
     end: usize,
     x: u32,
     y: u32,
@@ -612,7 +636,7 @@ fn meet_new(
     places: &[u32],
     ws: &[u32],
     links: &mut [u32; 2048],
-    queue: &mut [u32; 513],
+    queue: &mut [u32; 514],
     end: usize,
     x: u32,
     y: u32,
@@ -637,7 +661,7 @@ fn meet_cell(
     places: &[u32],
     ws: &[u32],
     links: &mut [u32; 2048],
-    queue: &mut [u32; 513],
+    queue: &mut [u32; 514],
     end: usize,
     x: u32,
     y: u32,
@@ -656,7 +680,7 @@ fn meet_cells(
     places: &[u32],
     ws: &[u32],
     links: &mut [u32; 2048],
-    queue: &mut [u32; 513],
+    queue: &mut [u32; 514],
     end: usize,
     head: usize,
     ys: Row,
@@ -697,7 +721,7 @@ fn meet_across(
     places: &[u32],
     ws: &[u32],
     links: &mut [u32; 2048],
-    queue: &mut [u32; 513],
+    queue: &mut [u32; 514],
     end: usize,
     x: u32,
     y: u32,
@@ -737,7 +761,7 @@ fn meet_across(
 }
 
 // Whether the ref of a type is marked in the queue as queued with its own inverse.
-fn is_mirrored(queue: &[u32; 513], x: u32) -> bool {
+fn is_mirrored(queue: &[u32; 514], x: u32) -> bool {
     queue[QUEUE + words::wide(x / 2 % 256)] == x / 2 + 1
 }
 
@@ -747,7 +771,7 @@ fn meet_mirrored(
     places: &[u32],
     ws: &[u32],
     links: &mut [u32; 2048],
-    queue: &mut [u32; 513],
+    queue: &mut [u32; 514],
     end: usize,
     xs: Row,
 ) -> usize
@@ -775,7 +799,7 @@ fn meet_rows(
     places: &[u32],
     ws: &[u32],
     links: &mut [u32; 2048],
-    queue: &mut [u32; 513],
+    queue: &mut [u32; 514],
     end: usize,
     x: u32,
     y: u32,
@@ -810,7 +834,7 @@ fn meet_children(
     places: &[u32],
     ws: &[u32],
     links: &mut [u32; 2048],
-    queue: &mut [u32; 513],
+    queue: &mut [u32; 514],
     end: usize,
     x: u32,
     y: u32,
@@ -826,17 +850,86 @@ fn meet_children(
     meet_rows(sheet, places, ws, links, queue, end, x, y)
 }
 
-// Works off the queue, whose end is n, from its end, and at most 1,024 pairs: whether a clash is found.
+// What the ref of a type is, whatever the candidate: a node of the question, or the place of a record.
+fn place_or_node(places: &[u32], t: u32) -> u32 {
+    if t / 2 < RECORDS {
+        return 8192 + t % 512;
+    }
+    let p = place_of(places, t / 2) as u32;
+    p % 4096 * 2 + t % 2
+}
+
+// A number for a pair, not 0.
+fn key_of(places: &[u32], pair: u32) -> u32 {
+    let a = place_or_node(places, pair % 4096);
+    let b = place_or_node(places, pair / 4096 % 4096);
+    a * 16384 + b + 1
+}
+
+// Where a pair's key stands if it is noted.
+fn note_place(key: u32) -> usize {
+    words::wide(key % 251)
+}
+
+// Whether the pair of a key is noted. That one was is noted too.
+fn is_noted(notes: &mut [u32; 256], key: u32) -> bool {
+    if notes[OFF] != 0 {
+        return false;
+    }
+    if notes[note_place(key)] != key {
+        return false;
+    }
+    notes[USED] = 1;
+    true
+}
+
+// Notes a pair that is done, if nothing below it was linked.
+fn note(places: &[u32], queue: &[u32; 514], notes: &mut [u32; 256], pair: u32) {
+    if pair / VISITED == queue[BOUND] % 128 + 1 {
+        let key = key_of(places, pair);
+        notes[note_place(key)] = key;
+    }
+}
+
+// Meets the children of the last pair of the queue, unless it is noted.
+fn visit(
+    sheet: &[u32],
+    places: &[u32],
+    ws: &[u32],
+    links: &mut [u32; 2048],
+    queue: &mut [u32; 514],
+    notes: &mut [u32; 256],
+    end: usize,
+) -> usize
+{
+    let pair = queue[end - 1] % VISITED;
+    if is_noted(notes, key_of(places, pair)) {
+        return end - 1;
+    }
+    queue[end - 1] = pair + VISITED * (queue[BOUND] % 128 + 1);
+    meet_children(
+        sheet,
+        places,
+        ws,
+        links,
+        queue,
+        end,
+        pair % 4096,
+        pair / 4096,
+    )
+}
+
+// Works off the queue, whose end is n, from its end: whether a clash is found.
 fn run(
     sheet: &[u32],
     places: &[u32],
     ws: &[u32],
     links: &mut [u32; 2048],
-    queue: &mut [u32; 513],
+    queue: &mut [u32; 514],
+    notes: &mut [u32; 256],
     n: usize,
 ) -> bool
     requires { ⌜ Packed (now ws) ⌝ }
-    ensures { λ r. ⌜ Ends (now (sheet .entry)) (now (places .entry)) (now (ws .entry)) (now (links .entry)) (now (queue .entry)) n (now (links .exit)) r ⌝ }
 {
     let mut end = n;
     let mut left: usize = PAIRS;
@@ -848,20 +941,15 @@ fn run(
             return false;
         }
         left -= 1;
-        end -= 1;
-        let pair = queue[end];
-        end = meet_children(
-            sheet,
-            places,
-            ws,
-            links,
-            queue,
-            end,
-            pair % 4096,
-            pair / 4096,
-        );
-        if end == CLASH {
-            return true;
+        let pair = queue[end - 1];
+        if pair >= VISITED {
+            end -= 1;
+            note(places, queue, notes, pair);
+        } else {
+            end = visit(sheet, places, ws, links, queue, notes, end);
+            if end == CLASH {
+                return true;
+            }
         }
     }
     false
@@ -873,7 +961,7 @@ fn meet_args(
     places: &[u32],
     ws: &[u32],
     links: &mut [u32; 2048],
-    queue: &mut [u32; 513],
+    queue: &mut [u32; 514],
     p: Query,
     q: Query,
 ) -> usize
@@ -895,18 +983,19 @@ fn meet_args(
 }
 
 // Whether the arguments of a signature clash with those of the question.
-fn clash_args(sheet: &[u32], places: &[u32], ws: &[u32], p: Query, q: Query) -> bool
+fn clash_args(sheet: &[u32], places: &[u32], ws: &[u32], notes: &mut [u32; 256], p: Query, q: Query) -> bool
     requires { ⌜ Packed (now ws) ⌝ }
     requires { ⌜ q .n ≤ 4 ⌝ }
     ensures { λ r. ⌜ Clashing (now (sheet .entry)) (now (places .entry)) (now (ws .entry)) p q r ⌝ }
 {
     let mut links = [0u32; 2048];
-    let mut queue = [0u32; 513];
+    let mut queue = [0u32; 514];
     let n = meet_args(sheet, places, ws, &mut links, &mut queue, p, q);
     if n == CLASH {
         return true;
     }
-    if run(sheet, places, ws, &mut links, &mut queue, n) {
+    notes[USED] = 0;
+    if run(sheet, places, ws, &mut links, &mut queue, notes, n) {
         return true;
     }
     cycles::cyclic(sheet, places, ws, &links)
@@ -968,7 +1057,7 @@ fn are_small(sheet: &[u32], ws: &[u32]) -> bool {
 }
 
 // Whether the arguments of a signature are found to clash with those of the question: by their roots, and then, unless all is small, by all that is below them.
-fn args_clash(sheet: &[u32], places: &[u32], ws: &[u32], p: Query, q: Query) -> bool
+fn args_clash(sheet: &[u32], places: &[u32], ws: &[u32], notes: &mut [u32; 256], p: Query, q: Query) -> bool
     requires { ⌜ Packed (now ws) ⌝ }
     requires { ⌜ q .n ≤ 4 ⌝ }
     ensures { λ r. ⌜ Clashing (now (sheet .entry)) (now (places .entry)) (now (ws .entry)) p q r ⌝ }
@@ -979,11 +1068,11 @@ fn args_clash(sheet: &[u32], places: &[u32], ws: &[u32], p: Query, q: Query) -> 
     if are_small(sheet, ws) {
         return false;
     }
-    clash_args(sheet, places, ws, p, q)
+    clash_args(sheet, places, ws, notes, p, q)
 }
 
 // Whether the signature of the impl whose record is at p clashes with question q.
-fn clash_at(sheet: &[u32], places: &[u32], ws: &[u32], q: Query, p: usize) -> bool
+fn clash_at(sheet: &[u32], places: &[u32], ws: &[u32], notes: &mut [u32; 256], q: Query, p: usize) -> bool
     requires { ⌜ Packed (now ws) ⌝ }
     requires { ⌜ q .n ≤ 4 ⌝ }
     requires { ⌜ length (cell-types (now sheet) (at (now sheet) (p + 5))) ≤ 4 ⌝ }
@@ -995,7 +1084,7 @@ fn clash_at(sheet: &[u32], places: &[u32], ws: &[u32], q: Query, p: usize) -> bo
     if a.n != q.n {
         return false;
     }
-    args_clash(sheet, places, ws, a, q)
+    args_clash(sheet, places, ws, notes, a, q)
 }
 
 // Whether a table has room for n nodes more.
@@ -1016,8 +1105,15 @@ fn impl_place(sheet: &[u32], i: usize) -> usize
     words::place(sheet, head, i)
 }
 
+// A candidate that was tested did not unify all the same: if a note was used, none is from now on.
+pub fn missed(notes: &mut [u32; 256]) {
+    if notes[USED] != 0 {
+        notes[OFF] = 1;
+    }
+}
+
 // Whether candidate i, whose signature takes n nodes, and question q clash. The places of the nodes of its signature's table are written to `places`.
-pub fn clashes(sheet: &[u32], ws: &[u32], places: &mut [u32], q: Query, i: usize, n: usize) -> bool
+pub fn clashes(sheet: &[u32], ws: &[u32], places: &mut [u32], notes: &mut [u32; 256], q: Query, i: usize, n: usize) -> bool
     requires { ⌜ SignatureTakes (now sheet) i n ⌝ }
     requires { ⌜ Sound (now sheet) ⌝ }
     requires { ⌜ i < many (now sheet) header·impls ⌝ }
@@ -1032,7 +1128,7 @@ pub fn clashes(sheet: &[u32], ws: &[u32], places: &mut [u32], q: Query, i: usize
         let p = impl_place(sheet, i);
         let head = words::offset(sheet, p, layout::IMPL_TABLE);
         let m = chart::index_chain(sheet, head, places, 0);
-        return clash_at(sheet, &places[..m], ws, q, p);
+        return clash_at(sheet, &places[..m], ws, notes, q, p);
     }
     false
 }
@@ -1072,7 +1168,8 @@ pub fn param_clashes(
     if has_room(ws, n) {
         let head = generics_head(sheet, g);
         let m = chart::index_chain(sheet, head, places, 0);
-        return args_clash(sheet, &places[..m], ws, p, q);
+        let mut notes = [0u32; 256];
+        return args_clash(sheet, &places[..m], ws, &mut notes, p, q);
     }
     false
 }
