@@ -3,7 +3,6 @@ use Prim.Native.Nat.{ℕ, _+_, _*_, _/_, _%_, _≤_, _<_}
 use mathlib.Core.Path.{_≡_, refl, sym, _∙_, ap, subst}
 use mathlib.Core.Bool.{Bool, true, false}
 use mathlib.Core.Logic.{_≢_, ⊎-elim}
-use native.Mathlib.Nat.{eq-or-lt-of-le}
 use native.Mathlib.Decide.{ℕ-discrete}
 use native.Mathlib.Omega.{arith}
 use lib.ListN.{length, set, length-set}
@@ -38,8 +37,21 @@ aside-set qs e i v l = record {
   };
 }
 
-pub aside-last : (qs : Words) (e v : ℕ) → e < 256 → Aside qs e (set qs 512 v)
-aside-last qs e v l = aside-set qs e 512 v (omega arith)
+pub aside-gone : (qs : Words) (e v : ℕ) → e < 256 → Aside qs e (set qs 512 v)
+aside-gone qs e v l = aside-set qs e 512 v (omega arith)
+
+pub aside-bound : (qs : Words) (e v : ℕ) → e < 256 → Aside qs e (set qs 513 v)
+aside-bound qs e v l = aside-set qs e 513 v (omega arith)
+
+-- A word of the queue is set to a pair of types that mean the same.
+pub queued-set : (s : Words) (m : SignedSol) (qs : Words) (i v k : ℕ) → means s m v ≡ means s m (v / 4096) → (k ≢ i → means s m (at qs k) ≡ means s m (at qs k / 4096)) → means s m (at (set qs i v) k) ≡ means s m (at (set qs i v) k / 4096)
+queued-set s m qs i v k q o = elim (ℕ-discrete k i) [
+  | no d ↦ rw (getD-set-other qs i k v 0 d) (o d)
+  | yes d ↦ ⊎-elim
+      (λ h. subst (λ w. means s m w ≡ means s m (w / 4096)) (sym (ap (at (set qs i v)) d ∙ getD-set-same qs i v 0 h)) q)
+      (λ h. subst (λ w. means s m w ≡ means s m (w / 4096)) (word-past (set qs i v) i (omega (arith, length-set qs i v)) ∙ ap (at (set qs i v)) (sym d)) refl)
+      (lt-or i (length qs))
+]
 
 -- A pair is queued.
 pub record Queues (qs : Words) (e x y : ℕ) (rs : Words) (r : ℕ) : Type 0 where
@@ -49,7 +61,7 @@ queues-pair : (qs : Words) (e x y : ℕ) → e < 256 → Queues qs e x y (set qs
 queues-pair qs e x y l = record {
   at = λ s m ls h q. record {
     linked = h .linked;
-    queued = λ i j. ⊎-elim (last s m q i) (λ o. rw (getD-set-other qs e i (x % 4096 + 4096 * (y % 4096)) 0 (omega arith)) (h .queued i o)) (eq-or-lt-of-le (let z : i ≤ e = omega arith in z));
+    queued = λ i j. queued-set s m qs e pair i (here s m q) (λ d. h .queued i (omega arith));
     free = omega arith;
   };
 }
@@ -65,12 +77,6 @@ queues-pair qs e x y l = record {
         ∙ q
         ∙ sym (means-mod s m y)
         ∙ ap (means s m) (let z : y % 4096 ≡ pair / 4096 = omega arith in z)
-
-    last : (s : Words) (m : SignedSol) → means s m x ≡ means s m y → (i : ℕ) → i ≡ e → means s m (at (set qs e pair) i) ≡ means s m (at (set qs e pair) i / 4096)
-    last s m q i o = ⊎-elim
-        (λ h. subst (λ v. means s m v ≡ means s m (v / 4096)) (sym (ap (at (set qs e pair)) o ∙ getD-set-same qs e pair 0 h)) (here s m q))
-        (λ h. subst (λ v. means s m v ≡ means s m (v / 4096)) (ap (at (set qs e pair)) (sym o) ∙ refl) (subst (λ v. means s m v ≡ means s m (v / 4096)) (word-past (set qs e pair) e (omega (arith, length-set qs e pair))) refl))
-        (lt-or e (length qs))
 
 -- The same, after a word from 256 on.
 pub queues-aside : (qs : Words) (e x y i v : ℕ) → e < 256 → Queues qs e x y (set (set qs (256 + i) v) e (x % 4096 + 4096 * (y % 4096))) (e + 1)
@@ -149,11 +155,11 @@ errors-same s ps ws x y k j ek ej zk zj e m w q = known-errors s ps ws x y k j (
 
 module _ (s ps ws ls qs : Words) (e x y : ℕ) where
   -- One has no kind.
-  pub roots-left : (ks : Words) → Links ls x y ks → Meets s ps ws ls qs e x y ks qs e
-  roots-left ks l = record { at = λ m w h q. record { linked = l .at s m (h .linked) q; queued = h .queued; free = h .free } }
+  pub roots-left : (ks rs : Words) → Links ls x y ks → Aside qs e rs → Meets s ps ws ls qs e x y ks rs e
+  roots-left ks rs l a = record { at = λ m w h q. a .at s m ks (record { linked = l .at s m (h .linked) q; queued = h .queued; free = h .free }) }
 
-  pub roots-right : (ks : Words) → Links ls y x ks → Meets s ps ws ls qs e x y ks qs e
-  roots-right ks l = record { at = λ m w h q. record { linked = l .at s m (h .linked) (sym q); queued = h .queued; free = h .free } }
+  pub roots-right : (ks rs : Words) → Links ls y x ks → Aside qs e rs → Meets s ps ws ls qs e x y ks rs e
+  roots-right ks rs l a = record { at = λ m w h q. a .at s m ks (record { linked = l .at s m (h .linked) (sym q); queued = h .queued; free = h .free }) }
 
   -- Both have one.
   pub roots-kinds : (k j : ℕ) → KindOf s ps ws (x / 2) k → KindOf s ps ws (y / 2) j → k ≢ 0 → j ≢ 0 → k ≢ j → Meets s ps ws ls qs e x y ls qs 1000
@@ -177,9 +183,16 @@ module _ (s ps ws ls qs : Words) (e x y : ℕ) where
 pub kind-as : (s ps ws : Words) (r k j : ℕ) → KindOf s ps ws r j → k ≡ j → KindOf s ps ws r k
 kind-as s ps ws r k j o e = subst (KindOf s ps ws r) (sym e) o
 
--- The roots of two types are met,
-pub meets-found : (s ps ws ls qs : Words) (e a b x y : ℕ) (ks rs : Words) (r : ℕ) → Finds ls a x → Finds ls b y → Meets s ps ws ls qs e x y ks rs r → Meets s ps ws ls qs e a b ks rs r
-meets-found s ps ws ls qs e a b x y ks rs r f g t = record { at = λ m w h q. t .at m w h (sym (f .at s m (h .linked)) ∙ q ∙ g .at s m (h .linked)) }
+-- Two types are linked to their roots, which are met,
+module _ (s ps ws ls qs : Words) (e a b x y : ℕ) (ks js : Words) (f : Finds ls a x) (g : Finds ls b y) (i : Links ls a x ks) (j : Links ks b y js) where
+  shortened : (m : SignedSol) → Holds s m ls qs e → Holds s m js qs e
+  shortened m h = record { linked = j .at s m (i .at s m (h .linked) (f .at s m (h .linked))) (g .at s m (h .linked)); queued = h .queued; free = h .free }
+
+  pub found-same : Meets s ps ws ls qs e a b js qs e
+  found-same = record { at = λ m w h q. shortened m h }
+
+  pub found-meets : (is rs : Words) (r : ℕ) → Meets s ps ws js qs e x y is rs r → Meets s ps ws ls qs e a b is rs r
+  found-meets is rs r t = record { at = λ m w h q. t .at m w (shortened m h) (sym (f .at s m (h .linked)) ∙ q ∙ g .at s m (h .linked)) }
 
 -- and what these settle to.
 module _ (s ps ws ls qs : Words) (e a b x y : ℕ) (ks js : Words) (f : Settles s ps ls a ks x) (g : Settles s ps ks b js y) where

@@ -1,12 +1,12 @@
 -- Pairs of types met in turn: the children of two types, the queue, and the arguments of two questions.
-use Prim.Native.Nat.{ℕ, zero, suc, _+_, _-_, _/_, _%_, _≤_, _<_}
+use Prim.Native.Nat.{ℕ, zero, suc, _+_, _-_, _*_, _/_, _%_, _≤_, _<_}
 use mathlib.Core.Path.{_≡_, refl, sym, _∙_, ap, subst}
 use mathlib.Core.Bool.{Bool, true, false}
 use mathlib.Core.List.{[], _∷_}
 use mathlib.Core.Logic.{_≢_}
 use native.Mathlib.Nat.{le-of-suc-le-suc, not-suc-le-zero}
 use native.Mathlib.Omega.{arith}
-use lib.ListN.{length, take, replicate}
+use lib.ListN.{length, set, take, replicate}
 use lib.Seq.{getD-take, length-take-le}
 use Rattle.rules.specs.Lists.{Words}
 use Rattle.rules.specs.Layout.{kind·error}
@@ -23,7 +23,7 @@ use Rattle.clash.specs.Refs.{KindOf, IdOf, Bit, bits-apart, Sided, type-
 use Rattle.clash.specs.Children.{Gathers}
 use Rattle.clash.specs.Links.{Linked, linked-none}
 use Rattle.clash.specs.Cycles.{Cyclic}
-use Rattle.clash.specs.Meeting.{Holds, Meets, apart, known-same, known-sides, kinds-same, errors-same}
+use Rattle.clash.specs.Meeting.{Holds, queued-set, Meets, apart, known-same, known-sides, kinds-same, errors-same}
 
 -- The first n of xs and ys, turned by b, mean the same one by one.
 pub record Pairs (s : Words) (m : SignedSol) (n b : ℕ) (xs ys : Words) : Type 0 where
@@ -120,22 +120,58 @@ pub record Ran (s ps ws ls qs : Words) (e : ℕ) (ks rs : Words) (r : ℕ) : Typ
 pub ran-start : (s ps ws ls qs : Words) (e : ℕ) → Ran s ps ws ls qs e ls qs e
 ran-start s ps ws ls qs e = record { at = λ m w h. h }
 
--- The last pair is taken.
-pub ran-last : (s ps ws ls qs : Words) (e : ℕ) (ks rs : Words) (r : ℕ) (is ts : Words) (u : ℕ) → Ran s ps ws ls qs e ks rs r → r ≢ 0 → r ≤ 256 → Meets s ps ws ks rs (r - 1) (at rs (r - 1) % 4096) (at rs (r - 1) / 4096) is ts u → Ran s ps ws ls qs e is ts u
-ran-last s ps ws ls qs e ks rs r is ts u g z f t = record {
+-- The last pair is done, or passed over.
+pub ran-less : (s ps ws ls qs : Words) (e : ℕ) (ks rs : Words) (r : ℕ) → Ran s ps ws ls qs e ks rs r → r ≢ 0 → r ≤ 256 → Ran s ps ws ls qs e ks rs (r - 1)
+ran-less s ps ws ls qs e ks rs r g z f = record {
   at = λ m w l.
       let h = g .at m w l in
-      t .at m w (record { linked = h .linked; queued = λ k j. h .queued k (omega arith); free = omega arith }) (means-mod s m (at rs (r - 1)) ∙ h .queued (r - 1) (omega arith));
+      record { linked = h .linked; queued = λ k j. h .queued k (omega arith); free = omega arith };
 }
+
+pub ran-on : (s ps ws ls qs : Words) (e : ℕ) (ks rs : Words) (r : ℕ) (is ts : Words) (u : ℕ) → Ran s ps ws ls qs e ks rs r → Ran s ps ws ks rs r is ts u → Ran s ps ws ls qs e is ts u
+ran-on s ps ws ls qs e ks rs r is ts u g t = record { at = λ m w l. t .at m w (g .at m w l) }
+
+-- The last pair is marked by u, and its children are met.
+pub ran-visit : (s ps ws ls qs : Words) (e u : ℕ) (ks rs : Words) (r : ℕ) → e ≢ 0 → Meets s ps ws ls (set qs (e - 1) (at qs (e - 1) % 16777216 + 16777216 * u)) e (at qs (e - 1) % 16777216 % 4096) (at qs (e - 1) % 16777216 / 4096) ks rs r → Ran s ps ws ls qs e ks rs r
+ran-visit s ps ws ls qs e u ks rs r z t = record {
+  at = λ m w h.
+      let q = same m (h .queued (e - 1) (omega arith)) in
+      t .at m w (record { linked = h .linked; queued = λ k j. queued-set s m qs (e - 1) marked k (kept m q) (λ d. h .queued k j); free = h .free }) q;
+}
+  where
+    word : ℕ
+    word = at qs (e - 1)
+
+    pair : ℕ
+    pair = word % 16777216
+
+    marked : ℕ
+    marked = pair + 16777216 * u
+
+    same : (m : SignedSol) → means s m word ≡ means s m (word / 4096) → means s m (pair % 4096) ≡ means s m (pair / 4096)
+    same m q =
+        ap (means s m) (let y : pair % 4096 ≡ word % 4096 = omega arith in y)
+        ∙ means-mod s m word
+        ∙ q
+        ∙ sym (means-mod s m (word / 4096))
+        ∙ ap (means s m) (let y : word / 4096 % 4096 ≡ pair / 4096 = omega arith in y)
+
+    kept : (m : SignedSol) → means s m (pair % 4096) ≡ means s m (pair / 4096) → means s m marked ≡ means s m (marked / 4096)
+    kept m q =
+        sym (means-mod s m marked)
+        ∙ ap (means s m) (let y : marked % 4096 ≡ pair % 4096 = omega arith in y)
+        ∙ q
+        ∙ ap (means s m) (let y : pair / 4096 ≡ marked / 4096 % 4096 = omega arith in y)
+        ∙ means-mod s m (marked / 4096)
 
 -- true: nothing gives such meanings. false: the links after it are of types that mean the same.
 pub record Ends (s ps ws ls qs : Words) (e : ℕ) (ks : Words) (b : Bool) : Type 0 where
   pub clash : b ≡ true → (m : SignedSol) → Meaning s ps ws m → Holds s m ls qs e → ⊥
   pub links : b ≡ false → (m : SignedSol) → Meaning s ps ws m → Holds s m ls qs e → Linked s m ks
 
-pub ends-clash : (s ps ws ls qs : Words) (e : ℕ) (ks rs : Words) (r : ℕ) (is ts : Words) (u : ℕ) → Ran s ps ws ls qs e ks rs r → r ≢ 0 → r ≤ 256 → Meets s ps ws ks rs (r - 1) (at rs (r - 1) % 4096) (at rs (r - 1) / 4096) is ts u → u ≡ 1000 → Ends s ps ws ls qs e is true
-ends-clash s ps ws ls qs e ks rs r is ts u g z f t q = record {
-  clash = λ b m w l. ((ran-last s ps ws ls qs e ks rs r is ts u g z f t) .at m w l) .free q;
+pub ends-clash : (s ps ws ls qs : Words) (e : ℕ) (ks rs : Words) (r : ℕ) (is ts : Words) (u : ℕ) → Ran s ps ws ls qs e ks rs r → Ran s ps ws ks rs r is ts u → u ≡ 1000 → Ends s ps ws ls qs e is true
+ends-clash s ps ws ls qs e ks rs r is ts u g t q = record {
+  clash = λ b m w l. (t .at m w (g .at m w l)) .free q;
   links = λ b. let z : _≡_ {A = ℕ} 0 1 = cc in absurd (omega arith);
 }
 

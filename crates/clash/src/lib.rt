@@ -2,8 +2,10 @@
 // It goes by classes of types that have to be the same, and finds a clash: two types of one class that differ in kind, id or number of children, or are different Errors, or differ in side where the kind is not its own inverse,
 // so that a type is met inverted that may not be (where a type meets its own inverse, its children meet theirs); or a class that would contain itself, which is the occurs check (`cycles`). Where it finds none nothing is said.
 // A type is twice a ref, and one more if it is inverted. Refs are read modulo 2,048: up to 255 roots of the question's table, from 256 on type parameters, from 1,024 on nodes of the signature's table by their records.
-// `links` has for each ref 0, or 1 and the type that the ref is, of the same class; `queue` has pairs of types that are the same and whose children are to be met, in its first 256 words, and is worked off from its end;
-// after these it has, by refs modulo 256, 1 and the ref that was queued with its own inverse last; and in its last word how many links were gone to look for self-dual marks.
+// `links` has for each ref 0, or 1 and the type that the ref is, of the same class; `queue` has pairs of types that are the same and whose children are to be met, in its first 256 words, and is worked off from its end:
+// a pair stands in it, marked, until all below it is done. After these it has, by refs modulo 256, 1 and the ref that was queued with its own inverse last; then how many links were gone to look for self-dual marks, and how many unknowns were linked.
+// `notes` has pairs that were worked off for an earlier candidate of the same question with no unknown linked meanwhile: these are passed over. Whatever the notes hold, a clash that is found is one, as a pair that is passed over says nothing;
+// but a clash may be missed by them, and so none is used any more once a candidate for which one was used did not unify.
 ghost use mathlib.Core.Path.{_≡_};
 ghost use Prim.Native.Nat.{_+_, _-_, _*_, _/_, _%_, _<_, _≤_};
 ghost use mathlib.Core.Logic.{_≢_};
@@ -23,7 +25,7 @@ ghost use Rattle.clash.specs.Meaning.{turn as turn-of, record-side};
 ghost use Rattle.clash.specs.Links.{Finds, Links, Settles};
 ghost use Rattle.clash.specs.Meeting.{Aside, Queues, Puts, Decides, Inverts, Meets, apart as apart-of};
 ghost use Rattle.clash.specs.Children.{Cells, Gathers};
-ghost use Rattle.clash.specs.Pairs.{Goes, Ends, ArgsMet, RootClash, Clashing};
+ghost use Rattle.clash.specs.Pairs.{Goes, Ran, Ends, ArgsMet, RootClash, Clashing};
 ghost use Rattle.clash.specs.Across.{sides-across, RecordMet, CellsMet};
 ghost use Rattle.clash.specs.Signatures.{Against, Room, ImplAt, Clashes};
 ghost use Rattle.clash.specs.Params.{Calling, ParamClashes};
@@ -46,18 +48,18 @@ const QUEUE: usize = 256;
 // The word of the queue that counts the links gone.
 const GONE: usize = 512;
 
-// The words of the notes that say that one was used, and that none is to be used.
+// The word of the queue that counts the unknowns that were linked, modulo 128.
+const BOUND: usize = 513;
+
+// A pair whose children were met stays in the queue until all below it is done, marked: this, times one more than that count was, is added to it.
+const VISITED: u32 = 16777216;
+
+// The pairs noted stand by their keys modulo 251; these words of the notes say whether one was used for the last candidate tested, and whether none is to be used.
 const USED: usize = 254;
 
 const OFF: usize = 255;
 
-// The word of the queue that counts the unknowns that were linked.
-const BOUND: usize = 513;
-
-// A pair whose children were met stands in the queue until all below it is done, with this times one more than the unknowns that were linked before.
-const VISITED: u32 = 16777216;
-
-// So often the queue is looked at.
+// At most so often the queue is looked at, twice for each pair.
 const PAIRS: usize = 2048;
 
 // What a clash is told by, in place of the queue's end.
@@ -851,11 +853,13 @@ fn meet_children(
 }
 
 // What the ref of a type is, whatever the candidate: a node of the question, or the place of a record.
-fn place_or_node(places: &[u32], t: u32) -> u32 {
+fn place_or_node(places: &[u32], t: u32) -> u32
+    ensures { λ r. ⌜ r < 8704 ⌝ }
+{
     if t / 2 < RECORDS {
         return 8192 + t % 512;
     }
-    let p = place_of(places, t / 2) as u32;
+    let p = words::word(places, words::wide(t / 2 - RECORDS));
     p % 4096 * 2 + t % 2
 }
 
@@ -867,11 +871,13 @@ fn key_of(places: &[u32], pair: u32) -> u32 {
 }
 
 // Where a pair's key stands if it is noted.
-fn note_place(key: u32) -> usize {
+fn note_place(key: u32) -> usize
+    ensures { λ r. ⌜ r < 251 ⌝ }
+{
     words::wide(key % 251)
 }
 
-// Whether the pair of a key is noted. That one was is noted too.
+// Whether the pair of a key is noted, and notes may be used. That one was used is kept.
 fn is_noted(notes: &mut [u32; 256], key: u32) -> bool {
     if notes[OFF] != 0 {
         return false;
@@ -883,7 +889,7 @@ fn is_noted(notes: &mut [u32; 256], key: u32) -> bool {
     true
 }
 
-// Notes a pair that is done, if nothing below it was linked.
+// Notes a pair that is done, if no unknown was linked since its children were met.
 fn note(places: &[u32], queue: &[u32; 514], notes: &mut [u32; 256], pair: u32) {
     if pair / VISITED == queue[BOUND] % 128 + 1 {
         let key = key_of(places, pair);
@@ -891,7 +897,7 @@ fn note(places: &[u32], queue: &[u32; 514], notes: &mut [u32; 256], pair: u32) {
     }
 }
 
-// Meets the children of the last pair of the queue, unless it is noted.
+// Marks the last pair of the queue and meets its children; if it is noted, it is taken off.
 fn visit(
     sheet: &[u32],
     places: &[u32],
@@ -901,6 +907,10 @@ fn visit(
     notes: &mut [u32; 256],
     end: usize,
 ) -> usize
+    requires { ⌜ Packed (now ws) ⌝ }
+    requires { ⌜ end ≢ 0 ⌝ }
+    requires { ⌜ end ≤ 256 ⌝ }
+    ensures { λ r. ⌜ Ran (now (sheet .entry)) (now (places .entry)) (now (ws .entry)) (now (links .entry)) (now (queue .entry)) end (now (links .exit)) (now (queue .exit)) r ⌝ }
 {
     let pair = queue[end - 1] % VISITED;
     if is_noted(notes, key_of(places, pair)) {
@@ -919,7 +929,7 @@ fn visit(
     )
 }
 
-// Works off the queue, whose end is n, from its end: whether a clash is found.
+// Works off the queue, whose end is n, from its end, a marked pair being done: whether a clash is found.
 fn run(
     sheet: &[u32],
     places: &[u32],
@@ -930,6 +940,7 @@ fn run(
     n: usize,
 ) -> bool
     requires { ⌜ Packed (now ws) ⌝ }
+    ensures { λ r. ⌜ Ends (now (sheet .entry)) (now (places .entry)) (now (ws .entry)) (now (links .entry)) (now (queue .entry)) n (now (links .exit)) r ⌝ }
 {
     let mut end = n;
     let mut left: usize = PAIRS;
@@ -983,7 +994,14 @@ fn meet_args(
 }
 
 // Whether the arguments of a signature clash with those of the question.
-fn clash_args(sheet: &[u32], places: &[u32], ws: &[u32], notes: &mut [u32; 256], p: Query, q: Query) -> bool
+fn clash_args(
+    sheet: &[u32],
+    places: &[u32],
+    ws: &[u32],
+    notes: &mut [u32; 256],
+    p: Query,
+    q: Query,
+) -> bool
     requires { ⌜ Packed (now ws) ⌝ }
     requires { ⌜ q .n ≤ 4 ⌝ }
     ensures { λ r. ⌜ Clashing (now (sheet .entry)) (now (places .entry)) (now (ws .entry)) p q r ⌝ }
@@ -1057,7 +1075,14 @@ fn are_small(sheet: &[u32], ws: &[u32]) -> bool {
 }
 
 // Whether the arguments of a signature are found to clash with those of the question: by their roots, and then, unless all is small, by all that is below them.
-fn args_clash(sheet: &[u32], places: &[u32], ws: &[u32], notes: &mut [u32; 256], p: Query, q: Query) -> bool
+fn args_clash(
+    sheet: &[u32],
+    places: &[u32],
+    ws: &[u32],
+    notes: &mut [u32; 256],
+    p: Query,
+    q: Query,
+) -> bool
     requires { ⌜ Packed (now ws) ⌝ }
     requires { ⌜ q .n ≤ 4 ⌝ }
     ensures { λ r. ⌜ Clashing (now (sheet .entry)) (now (places .entry)) (now (ws .entry)) p q r ⌝ }
@@ -1072,7 +1097,14 @@ fn args_clash(sheet: &[u32], places: &[u32], ws: &[u32], notes: &mut [u32; 256],
 }
 
 // Whether the signature of the impl whose record is at p clashes with question q.
-fn clash_at(sheet: &[u32], places: &[u32], ws: &[u32], notes: &mut [u32; 256], q: Query, p: usize) -> bool
+fn clash_at(
+    sheet: &[u32],
+    places: &[u32],
+    ws: &[u32],
+    notes: &mut [u32; 256],
+    q: Query,
+    p: usize,
+) -> bool
     requires { ⌜ Packed (now ws) ⌝ }
     requires { ⌜ q .n ≤ 4 ⌝ }
     requires { ⌜ length (cell-types (now sheet) (at (now sheet) (p + 5))) ≤ 4 ⌝ }
@@ -1113,7 +1145,15 @@ pub fn missed(notes: &mut [u32; 256]) {
 }
 
 // Whether candidate i, whose signature takes n nodes, and question q clash. The places of the nodes of its signature's table are written to `places`.
-pub fn clashes(sheet: &[u32], ws: &[u32], places: &mut [u32], notes: &mut [u32; 256], q: Query, i: usize, n: usize) -> bool
+pub fn clashes(
+    sheet: &[u32],
+    ws: &[u32],
+    places: &mut [u32],
+    notes: &mut [u32; 256],
+    q: Query,
+    i: usize,
+    n: usize,
+) -> bool
     requires { ⌜ SignatureTakes (now sheet) i n ⌝ }
     requires { ⌜ Sound (now sheet) ⌝ }
     requires { ⌜ i < many (now sheet) header·impls ⌝ }

@@ -10,6 +10,9 @@ meet-args-requires c κs = search needs
 returns : tie.Need-returns
 returns c = search (needs, clashing-args)
 
+element-write-notes : tie.Need-element-write-notes
+element-write-notes c = search needs
+
 run-requires : tie.Need-run-requires
 run-requires c κs = search needs
 
@@ -23,4 +26,13 @@ returns-3 : tie.Need-returns-3
 returns-3 c = search (needs, clashing-cyclic)
 
 pub clash-args-spec : {M : Type 1} → statement M
-clash-args-spec = tie.close (tie.spec meet-args-requires returns run-requires returns-2 cyclic-requires returns-3)
+clash-args-spec =
+    tie.close
+    (tie.spec
+    meet-args-requires
+    returns
+    element-write-notes
+    run-requires
+    returns-2
+    cyclic-requires
+    returns-3)

@@ -29,7 +29,7 @@ same-length : tie.Need-same-length
 same-length c = search needs
 
 returns : tie.Need-returns
-returns c = let start = c .before .before .before .before .before .before .before .before .before .before .before .before .before in clash-found _ (start .pre .1 .0) _ (start .pre .1 .1 .0) _ (c .before .before .before .before .before .before .before .impl-place .ensures) _ (c .before .before .before .before .before .before .offset .ensures) _ (start .pre .1 .1 .1 .0) _ _ (c .before .before .before .before .index-chain .ensures) (search needs) _ _ (start .pre .1 .1 .1 .1 .1 .0) (start .pre .1 .1 .1 .1 .1 .1 .0) (start .pre .1 .1 .1 .1 .1 .1 .1) _ (start .pre .0) (c .before .before .before .before .before .before .before .before .before .has-room .ensures .room (search needs)) _ (c .clash-at .ensures)
+returns c = let start = c .before .before .before .before .before .before .before .before .before .before .before .before .before .before in clash-found _ (start .pre .1 .0) _ (start .pre .1 .1 .0) _ (c .before .before .before .before .before .before .before .before .impl-place .ensures) _ (c .before .before .before .before .before .before .before .offset .ensures) _ (start .pre .1 .1 .1 .0) _ _ (c .before .before .before .before .before .index-chain .ensures) (search needs) _ _ (start .pre .1 .1 .1 .1 .1 .0) (start .pre .1 .1 .1 .1 .1 .1 .0) (start .pre .1 .1 .1 .1 .1 .1 .1) _ (start .pre .0) (c .before .before .before .before .before .before .before .before .before .before .has-room .ensures .room (search needs)) _ (c .clash-at .ensures)
 
 returns-2 : tie.Need-returns-2
 returns-2 c = search (needs, clashes-not)

@@ -1,5 +1,5 @@
--- `may_look`: the last word of the queue.
-use Rattle.clash.specs.Meeting.{aside-last}
+-- `may_look`: a word of the queue past the pairs.
+use Rattle.clash.specs.Meeting.{aside-gone}
 use borrow.Author.Needs.{needs}
 use Rattle.clash.proofs.may_look.Statement.{statement}
 use Rattle.clash.proofs.may_look.Tie as tie
@@ -26,7 +26,7 @@ element-write-queue : tie.Need-element-write-queue
 element-write-queue c = search needs
 
 returns-4 : tie.Need-returns-4
-returns-4 c = search (needs, aside-last)
+returns-4 c = search (needs, aside-gone)
 
 pub may-look-spec : {M : Type 1} → statement M
 may-look-spec =

@@ -10,6 +10,9 @@ kind-requires c κs = search needs
 link-apart-requires : tie.Need-link-apart-requires
 link-apart-requires c κs = search needs
 
+count-bound-requires : tie.Need-count-bound-requires
+count-bound-requires c κs = search needs
+
 returns : tie.Need-returns
 returns c = search (needs, roots-left)
 
@@ -18,6 +21,9 @@ kind-requires-2 c κs = search needs
 
 link-requires : tie.Need-link-requires
 link-requires c κs = search needs
+
+count-bound-requires-2 : tie.Need-count-bound-requires-2
+count-bound-requires-2 c κs = search needs
 
 returns-2 : tie.Need-returns-2
 returns-2 c = search (needs, roots-right)
@@ -37,9 +43,11 @@ meet-roots-spec =
     (tie.spec
     kind-requires
     link-apart-requires
+    count-bound-requires
     returns
     kind-requires-2
     link-requires
+    count-bound-requires-2
     returns-2
     returns-3
     meet-known-requires

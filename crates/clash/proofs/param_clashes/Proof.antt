@@ -29,7 +29,7 @@ same-length : tie.Need-same-length
 same-length c = search needs
 
 returns-2 : tie.Need-returns-2
-returns-2 c = let start = c .before .before .before .before .before .before .before .before .before .before .before .before .before .before .before in param-found _ _ (start .pre .1 .0) _ (c .before .before .before .before .before .before .generics-head .ensures) _ (start .pre .1 .1 .0) _ _ (c .before .before .before .before .index-chain .ensures) (search needs) _ _ _ (start .pre .1 .1 .1 .1 .0) (start .pre .1 .1 .1 .1 .1 .0) (start .pre .1 .1 .1 .1 .1 .1 .0) (start .pre .1 .1 .1 .1 .1 .1 .1) (search needs) _ (start .pre .0) (c .before .before .before .before .before .before .before .before .has-room .ensures .room (search needs)) _ (c .args-clash .ensures)
+returns-2 c = let start = c .before .before .before .before .before .before .before .before .before .before .before .before .before .before .before .before in param-found _ _ (start .pre .1 .0) _ (c .before .before .before .before .before .before .before .generics-head .ensures) _ (start .pre .1 .1 .0) _ _ (c .before .before .before .before .before .index-chain .ensures) (search needs) _ _ _ (start .pre .1 .1 .1 .1 .0) (start .pre .1 .1 .1 .1 .1 .0) (start .pre .1 .1 .1 .1 .1 .1 .0) (start .pre .1 .1 .1 .1 .1 .1 .1) (search needs) _ (start .pre .0) (c .before .before .before .before .before .before .before .before .before .has-room .ensures .room (search needs)) _ (c .args-clash .ensures)
 
 returns-3 : tie.Need-returns-3
 returns-3 c = search (needs, param-not)
