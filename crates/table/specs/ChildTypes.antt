@@ -19,7 +19,7 @@ use Rattle.rules.specs.Solutions.{rep}
 use Rattle.table.specs.declared.Row.{Row}
 use Rattle.table.specs.Packing.{types-of, node-of, node-from, eight, kind-at, head·up, head·arity, Packed}
 use Rattle.table.specs.Nodes.{node-in, types-few}
-use Rattle.table.specs.Reads.{inside, known-here}
+use Rattle.table.specs.Reads.{inside, known-here, digit}
 
 -- The type of a root that a type is, by the words of its node, in the table or past it.
 unfoldable pub type-in : Words → Ty → Ty
@@ -72,6 +72,38 @@ types-row ws n x y z = record {
 pub types-row-of : (ws : Words) (n x y z a b c d e f g h : ℕ) → a ≡ word-in ws (x % 512) → b ≡ word-in ws (x / 512 % 512) → c ≡ word-in ws (x / 262144 % 512) → d ≡ word-in ws (y % 512) → e ≡ word-in ws (y / 512 % 512) → f ≡ word-in ws (y / 262144 % 512) → g ≡ word-in ws (z % 512) → h ≡ word-in ws (z / 512 % 512) →
     _≡_ {A = Row} (record { n = n; types = a ∷ b ∷ c ∷ d ∷ e ∷ f ∷ g ∷ h ∷ [] }) (types-row ws n x y z)
 types-row-of ws n x y z a b c d e f g h ea eb ec ed ee ef eg eh = λ t. record { n = n; types = ea t ∷ eb t ∷ ec t ∷ ed t ∷ ee t ∷ ef t ∷ eg t ∷ eh t ∷ [] }
+
+-- The types of roots that the types in the words of children of node n are; the first m of them.
+unfoldable pub types-at : Words → ℕ → Words
+types-at ws n = (types-row ws 8 (at ws (4 * n + 2)) (at ws (4 * n + 3)) (at ws (4 * n + 4))) .types
+
+abbrev pub row-at : Words → ℕ → ℕ → Row
+row-at ws n m = record { n = m; types = types-at ws n }
+
+pub types-at-length : (ws : Words) (n : ℕ) → length (types-at ws n) ≡ 8
+unfolding types-at
+types-at-length ws n = refl
+
+pub digit-small : (j w d : ℕ) → d ≡ digit j w → d < 512
+digit-small zero w d e = omega arith
+digit-small (suc zero) w d e = omega arith
+digit-small (suc (suc j)) w d e = omega arith
+
+types-at-here : (ws : Words) (n j : ℕ) → j < 8 → word-in ws (digit (j % 3) (at ws (4 * n + (2 + j / 3)))) ≡ at (types-at ws n) j
+unfolding types-at
+types-at-here ws n zero h = refl
+types-at-here ws n (suc zero) h = refl
+types-at-here ws n (suc (suc zero)) h = refl
+types-at-here ws n (suc (suc (suc zero))) h = refl
+types-at-here ws n (suc (suc (suc (suc zero)))) h = refl
+types-at-here ws n (suc (suc (suc (suc (suc zero))))) h = refl
+types-at-here ws n (suc (suc (suc (suc (suc (suc zero)))))) h = refl
+types-at-here ws n (suc (suc (suc (suc (suc (suc (suc zero))))))) h = refl
+types-at-here ws n (suc (suc (suc (suc (suc (suc (suc (suc k)))))))) h = absurd (omega arith)
+
+-- w is the word of child j of node n, and d its digit there.
+pub child-type-at : (ws : Words) (n m j w d r : ℕ) → j < 8 → m ≡ n → w ≡ at ws (4 * m + (2 + j / 3)) → d ≡ digit (j % 3) w → r ≡ word-in ws d → r ≡ at (types-at ws n) j
+child-type-at ws n m j w d r h em ew ed er = er ∙ ap (word-in ws) (ed ∙ ap (digit (j % 3)) (ew ∙ ap (λ k. at ws (4 * k + (2 + j / 3))) em)) ∙ types-at-here ws n j h
 
 -- How many children node n has, by its head h, where that is told: it is its own root then.
 pub record OwnArity (h n r : ℕ) : Type 0 where
@@ -130,3 +162,8 @@ known-in ws n known = inside ws n (kind-at (types-of ws) n) refl known
 
 pub known-place : (ws : Words) (n m w k : ℕ) → Packed ws → kind-at (types-of ws) n ≢ 0 → m ≡ n → w ≡ 4 * m → k ≤ 4 → w + k < length ws
 known-place ws n m w k p known e ew h = omega (arith, p .long, known-in ws n known, types-few ws)
+
+-- h is the head of known node n.
+pub own-row : (ws : Words) (n m h v : ℕ) → kind-at (types-of ws) n ≢ 0 → m ≡ n → h ≡ at ws (4 * m + 1) → OwnArity h n v → ChildTypes ws n (row-at ws n v)
+unfolding types-at
+own-row ws n m h v known e eh o = types-own ws n n (4 * n) h v (at ws (4 * n + 2)) (at ws (4 * n + 3)) (at ws (4 * n + 4)) known refl refl (eh ∙ ap (λ k. at ws (4 * k + 1)) e) o refl refl refl (row-at ws n v) refl

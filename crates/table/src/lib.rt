@@ -19,7 +19,7 @@ ghost use Rattle.rules.specs.Limits.{limit·nodes};
 ghost use Rattle.table.specs.Packing.{table·length, types-of, node-from, with-head, Packed, Put, Rewritten, Pushes, Becomes, Roots, Head, Above, TypeWords, up-at, kind-at, inverted-at, id-at};
 ghost use Rattle.table.specs.Writes.{triple, last};
 ghost use Rattle.table.specs.Joins.{moved, root-node};
-ghost use Rattle.table.specs.ChildTypes.{type-in, types-row, OwnArity, ChildTypes};
+ghost use Rattle.table.specs.ChildTypes.{type-in, types-row, types-at, row-at, OwnArity, ChildTypes};
 
 // The words of a table of the most nodes, and its most nodes.
 pub const TABLE: usize = 1025;
@@ -227,6 +227,26 @@ pub fn child_types(ws: &[u32], n: u32) -> Row
         ws[w + MORE_CHILDREN],
         ws[w + LAST_CHILDREN],
     )
+}
+
+// How many children known node n has; 9 where it is not its own root.
+pub fn own_children(ws: &[u32], n: u32) -> usize
+    requires { ⌜ Packed (now ws) ⌝ }
+    requires { ⌜ kind-at (types-of (now ws)) n ≢ 0 ⌝ }
+    ensures { λ r. ⌜ ChildTypes (now (ws .entry)) n (row-at (now (ws .entry)) n r) ⌝ }
+{
+    own_arity(ws[NODE * wide(n) + HEAD], n)
+}
+
+// The type of a root that child j of node n is, read without tests.
+pub fn child_type(ws: &[u32], n: u32, j: usize) -> u32
+    requires { ⌜ Packed (now ws) ⌝ }
+    requires { ⌜ n < 256 ⌝ }
+    requires { ⌜ j < 8 ⌝ }
+    ensures { λ r. ⌜ r ≡ at (types-at (now (ws .entry)) n) j ⌝ }
+{
+    let w = ws[NODE * wide(n) + (CHILDREN + j / 3)];
+    type_read(ws, digit_of(j % 3, w))
 }
 
 // Whether a type is inverted.
