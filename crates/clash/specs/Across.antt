@@ -17,10 +17,10 @@ use Rattle.rules.specs.SignedTerms.{SignedSol, turned}
 use Rattle.table.specs.declared.Row.{Row}
 use Rattle.table.specs.Packing.{types-of, kind-at, id-at, inverted-at}
 use Rattle.table.specs.Nodes.{types-few}
-use Rattle.table.specs.ChildTypes.{ChildTypes, known-in}
+use Rattle.table.specs.ChildTypes.{ChildTypes, known-in, row-at, types-at-length}
 use Rattle.clash.specs.Meaning.{odd, means, means-turn, turn, row, record-types, record-side, Meaning, made-parts, type-sort}
 use Rattle.clash.specs.Refs.{place, KindOf, kind-node, kind-record, id-node, id-record, side-of, side-node, side-record, type-side, Bit, bit-yes, bit-no, bit-sum, bit-odd, place-high}
-use Rattle.clash.specs.Meeting.{Holds, Inverts, Meets, Puts, apart, roots-kinds, roots-errors, known-ids, known-inverted, roots-put}
+use Rattle.clash.specs.Meeting.{Holds, Aside, Inverts, Meets, Puts, apart, roots-kinds, roots-errors, known-ids, known-inverted, roots-put}
 use Rattle.clash.specs.Children.{cell-type, cell-types-are, cells-none, cells-more, over-record, gathers-node}
 use Rattle.clash.specs.Pairs.{row-length, row-same, row-rest}
 
@@ -93,15 +93,6 @@ record-put s ws ls qs e x y p ks rs r u = record { at = λ ps ep. roots-put s ps
 pub record-met : (s ps ws ls qs : Words) (e x y p : ℕ) (ks rs : Words) (r : ℕ) → p ≡ place ps (x / 2) → RecordMet s ws ls qs e x y p ks rs r → Meets s ps ws ls qs e x y ks rs r
 record-met s ps ws ls qs e x y p ks rs r ep t = t .at ps ep
 
--- A pair that is met, or passed over: what comes after, by other names.
-pub meets-as : (s ps ws ls qs : Words) (e x y : ℕ) (ks rs : Words) (r : ℕ) (is ts : Words) (u : ℕ) → Meets s ps ws ls qs e x y ks rs r → is ≡ ks → ts ≡ rs → u ≡ r → Meets s ps ws ls qs e x y is ts u
-meets-as s ps ws ls qs e x y ks rs r is ts u t ei et eu =
-    subst (λ (v : Words). Meets s ps ws ls qs e x y v ts u) (sym ei)
-    (subst (λ (v : Words). Meets s ps ws ls qs e x y ks v u) (sym et) (subst (Meets s ps ws ls qs e x y ks rs) (sym eu) t))
-
-pub meets-passed : (s ps ws ls qs : Words) (e x y : ℕ) (is ts : Words) (u : ℕ) → is ≡ ls → ts ≡ qs → u ≡ e → Meets s ps ws ls qs e x y is ts u
-meets-passed s ps ws ls qs e x y is ts u ei et eu = meets-as s ps ws ls qs e x y ls qs e is ts u (record { at = λ m w h q. h }) ei et eu
-
 -- The cells from h mean what a row does, turned by b.
 pub record Matches (s : Words) (m : SignedSol) (h b : ℕ) (o : Row) : Type 0 where
   pub same : row s m (record-types s h) ≡ turned s (odd b) (row s m (take (o .n) (o .types)))
@@ -118,11 +109,11 @@ pub record Crosses (s ps ws ls qs : Words) (e h b : ℕ) (o : Row) (ks rs : Word
   pub met : CellsMet s ps ws ls qs e h b o ks rs r
   pub rest : (m : SignedSol) → Matches s m h b o → row s m (map (cell-type s) (chain-of (length s - j) s c)) ≡ turned s (odd b) (row s m (drop j (take (o .n) (o .types))))
 
-pub crosses-start : (s ps ws ls qs : Words) (e h b : ℕ) (o : Row) → 8 < length s → o .n ≤ 8 → o .n ≤ length (o .types) → Crosses s ps ws ls qs e h b o ls qs e h 0
+pub crosses-start : (s ps ws ls qs : Words) (e h b y n : ℕ) → 8 < length s → n ≤ 8 → Crosses s ps ws ls qs e h b (row-at ws y n) ls qs e h 0
 unfolding cell-types chain
-crosses-start s ps ws ls qs e h b o f n l = record {
+crosses-start s ps ws ls qs e h b y n f l = record {
   few = omega arith;
-  long = l;
+  long = omega (arith, types-at-length ws y);
   fuel = omega arith;
   met = record { at = λ m w k q. k };
   rest = λ m q. ap (λ k. row s m (map (cell-type s) (chain-of k s h))) (let z : length s - 0 ≡ length s = omega arith in z) ∙ ap (row s m) (sym (cell-types-are s (chain s h))) ∙ q .same;
@@ -159,31 +150,36 @@ module _ (s ps ws ls qs : Words) (e h b : ℕ) (o : Row) (ks rs : Words) (r c j 
           ∙ ap (λ (x : Words). turned s (odd b) (row s m x))
           (drop-cons (take (o .n) (o .types)) j 0 (omega (arith, count)) ∙ (λ t. getD-take (o .n) (o .types) j 0 l t ∷ drop (sym (add-one j) t) (take (o .n) (o .types))))
 
-      module _ (v x y : ℕ) (ev : v ≡ at s (c + 1)) (ex : x ≡ 2048 + v % 2048) (ey : y ≡ turn b (at (o .types) j)) (is ts : Words) (u : ℕ) (t : Meets s ps ws ks rs r x y is ts u) where
+      crosses-next : {is ts : Words} {u : ℕ} → CellsMet s ps ws ls qs e h b o is ts u → (n : ℕ) → n ≡ at s c → Crosses s ps ws ls qs e h b o is ts u n (j + 1)
+      crosses-next g n en = record {
+        few = omega arith;
+        long = k .long;
+        fuel = k .fuel;
+        met = g;
+        rest = λ m q. ap (λ i. row s m (map (cell-type s) (chain-of (length s - (j + 1)) s i))) en ∙ row-rest s m (odd b) _ _ _ _ (pair m q);
+      }
+
+      -- It is passed over,
+      pub crosses-over : (n : ℕ) → n ≡ at s c → Crosses s ps ws ls qs e h b o ks rs r n (j + 1)
+      crosses-over n en = crosses-next (k .met) n en
+
+      -- or met, other words of the queue having changed.
+      module _ (v x g y : ℕ) (ev : v ≡ at s (c + 1)) (ex : x ≡ 2048 + v % 2048) (eg : g ≡ at (o .types) j) (ey : y ≡ turn b g) (us : Words) (a : Aside rs r us) (is ts : Words) (u : ℕ) (t : Meets s ps ws ks us r x y is ts u) where
         pub cells-on : CellsMet s ps ws ls qs e h b o is ts u
         cells-on = record {
-          at = λ m w d q. t .at m w (k .met .at m w d q)
+          at = λ m w d q. t .at m w (a .at s m ks (k .met .at m w d q))
               (ap (means s m) (ex ∙ ap (λ i. 2048 + i % 2048) ev)
               ∙ row-same s m (odd b) _ _ (pair m q) 0 (omega arith)
               ∙ sym (means-turn s m b (at (o .types) j))
-              ∙ ap (means s m) (sym ey));
+              ∙ ap (means s m) (sym (ey ∙ ap (turn b) eg)));
         }
 
         pub crosses-on : (n : ℕ) → n ≡ at s c → Crosses s ps ws ls qs e h b o is ts u n (j + 1)
-        crosses-on n en = record {
-          few = omega arith;
-          long = k .long;
-          fuel = k .fuel;
-          met = cells-on;
-          rest = λ m q. ap (λ i. row s m (map (cell-type s) (chain-of (length s - (j + 1)) s i))) en ∙ row-rest s m (odd b) _ _ _ _ (pair m q);
-        }
+        crosses-on n en = crosses-next cells-on n en
 
--- A row that is told has at most eight types.
-pub row-few : (ws : Words) (n : ℕ) (o : Row) → ChildTypes ws n o → o .n ≢ 9 → o .n ≤ 8
-row-few ws n o c z = c .few z
-
-pub row-long : (ws : Words) (n : ℕ) (o : Row) → ChildTypes ws n o → o .n ≢ 9 → o .n ≤ length (o .types)
-row-long ws n o c z = c .long z
+-- A node has at most eight children where they are told.
+pub own-few : (ws : Words) (n m : ℕ) → ChildTypes ws n (row-at ws n m) → m ≢ 9 → m ≤ 8
+own-few ws n m c z = c .few z
 
 -- The children of a type that has a record and of a type of a node.
 pub across-meets : (s ps ws ls qs : Words) (e x y k j p h i b : ℕ) (o : Row) (ks rs : Words) (r : ℕ) →

@@ -43,6 +43,12 @@ aside-gone qs e v l = aside-set qs e 512 v (omega arith)
 pub aside-bound : (qs : Words) (e v : ℕ) → e < 256 → Aside qs e (set qs 513 v)
 aside-bound qs e v l = aside-set qs e 513 v (omega arith)
 
+pub aside-met : (qs : Words) (e v : ℕ) → e ≤ 256 → Aside qs e (set qs 514 v)
+aside-met qs e v l = aside-set qs e 514 v (omega arith)
+
+pub aside-only : (qs : Words) (e v : ℕ) → e ≤ 256 → Aside qs e (set qs 515 v)
+aside-only qs e v l = aside-set qs e 515 v (omega arith)
+
 -- A word of the queue is set to a pair of types that mean the same.
 pub queued-set : (s : Words) (m : SignedSol) (qs : Words) (i v k : ℕ) → means s m v ≡ means s m (v / 4096) → (k ≢ i → means s m (at qs k) ≡ means s m (at qs k / 4096)) → means s m (at (set qs i v) k) ≡ means s m (at (set qs i v) k / 4096)
 queued-set s m qs i v k q o = elim (ℕ-discrete k i) [

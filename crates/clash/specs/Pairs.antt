@@ -23,7 +23,7 @@ use Rattle.clash.specs.Refs.{KindOf, IdOf, Bit, bits-apart, Sided, type-
 use Rattle.clash.specs.Children.{Gathers}
 use Rattle.clash.specs.Links.{Linked, linked-none}
 use Rattle.clash.specs.Cycles.{Cyclic}
-use Rattle.clash.specs.Meeting.{Holds, queued-set, Meets, apart, known-same, known-sides, kinds-same, errors-same}
+use Rattle.clash.specs.Meeting.{Holds, queued-set, aside-met, aside-only, Meets, apart, known-same, known-sides, kinds-same, errors-same}
 
 -- The first n of xs and ys, turned by b, mean the same one by one.
 pub record Pairs (s : Words) (m : SignedSol) (n b : ℕ) (xs ys : Words) : Type 0 where
@@ -131,12 +131,13 @@ ran-less s ps ws ls qs e ks rs r g z f = record {
 pub ran-on : (s ps ws ls qs : Words) (e : ℕ) (ks rs : Words) (r : ℕ) (is ts : Words) (u : ℕ) → Ran s ps ws ls qs e ks rs r → Ran s ps ws ks rs r is ts u → Ran s ps ws ls qs e is ts u
 ran-on s ps ws ls qs e ks rs r is ts u g t = record { at = λ m w l. t .at m w (g .at m w l) }
 
--- The last pair is marked by u, and its children are met.
-pub ran-visit : (s ps ws ls qs : Words) (e u : ℕ) (ks rs : Words) (r : ℕ) → e ≢ 0 → Meets s ps ws ls (set qs (e - 1) (at qs (e - 1) % 16777216 + 16777216 * u)) e (at qs (e - 1) % 16777216 % 4096) (at qs (e - 1) % 16777216 / 4096) ks rs r → Ran s ps ws ls qs e ks rs r
-ran-visit s ps ws ls qs e u ks rs r z t = record {
+-- The last pair is marked by u, and its children are met: which are to be, v, stands aside.
+pub ran-visit : (s ps ws ls qs : Words) (e u v : ℕ) (ks rs : Words) (r : ℕ) → e ≢ 0 → e ≤ 256 → Meets s ps ws ls (set (set (set qs (e - 1) (at qs (e - 1) % 16777216 + 16777216 * u)) 514 0) 515 v) e (at qs (e - 1) % 16777216 % 4096) (at qs (e - 1) % 16777216 / 4096) ks rs r → Ran s ps ws ls qs e ks rs r
+ran-visit s ps ws ls qs e u v ks rs r z f t = record {
   at = λ m w h.
       let q = same m (h .queued (e - 1) (omega arith)) in
-      t .at m w (record { linked = h .linked; queued = λ k j. queued-set s m qs (e - 1) marked k (kept m q) (λ d. h .queued k j); free = h .free }) q;
+      let o : Holds s m ls (set qs (e - 1) marked) e = record { linked = h .linked; queued = λ k j. queued-set s m qs (e - 1) marked k (kept m q) (λ d. h .queued k j); free = h .free } in
+      t .at m w ((aside-only (set (set qs (e - 1) marked) 514 0) e v f) .at s m ls ((aside-met (set qs (e - 1) marked) e 0 f) .at s m ls o)) q;
 }
   where
     word : ℕ

@@ -3,8 +3,10 @@
 // so that a type is met inverted that may not be (where a type meets its own inverse, its children meet theirs); or a class that would contain itself, which is the occurs check (`cycles`). Where it finds none nothing is said.
 // A type is twice a ref, and one more if it is inverted. Refs are read modulo 2,048: up to 255 roots of the question's table, from 256 on type parameters, from 1,024 on nodes of the signature's table by their records.
 // `links` has for each ref 0, or 1 and the type that the ref is, of the same class; `queue` has pairs of types that are the same and whose children are to be met, in its first 256 words, and is worked off from its end:
-// a pair stands in it, marked, until all below it is done. After these it has, by refs modulo 256, 1 and the ref that was queued with its own inverse last; then how many links were gone to look for self-dual marks, and how many unknowns were linked.
-// `notes` has pairs that were worked off for an earlier candidate of the same question with no unknown linked meanwhile: these are passed over. Whatever the notes hold, a clash that is found is one, as a pair that is passed over says nothing;
+// a pair stands in it, marked, until all below it is done. After these it has, by refs modulo 256, 1 and the ref that was queued with its own inverse last; then how many links were gone to look for self-dual marks, how many unknowns were linked,
+// and which children of the pair in hand were met, and which are to be.
+// `notes` has pairs that were met for an earlier candidate of the same question, each with the children that are to be met for a later one, as bits: none where the pair was worked off with no unknown linked meanwhile, so that it is passed over,
+// and otherwise those that were not linked to each other already. Whatever the notes hold, a clash that is found is one, as children that are passed over say nothing;
 // but a clash may be missed by them, and so none is used any more once a candidate for which one was used did not unify.
 ghost use mathlib.Core.Path.{_≡_};
 ghost use Prim.Native.Nat.{_+_, _-_, _*_, _/_, _%_, _<_, _≤_};
@@ -17,6 +19,7 @@ ghost use Rattle.rules.specs.Transfer.{cell-types};
 ghost use Rattle.rules.specs.Solutions.{AllIn};
 ghost use Rattle.rules.specs.Neat.{Neat};
 ghost use Rattle.table.specs.Packing.{types-of, kind-at, Packed};
+ghost use Rattle.table.specs.ChildTypes.{row-at};
 ghost use Rattle.queries.specs.Queries.{query-of};
 ghost use Rattle.queries.specs.Takes.{SignatureTakes, ParamTakes};
 ghost use Rattle.opening.specs.Sound.{Sound};
@@ -51,13 +54,24 @@ const GONE: usize = 512;
 // The word of the queue that counts the unknowns that were linked, modulo 128.
 const BOUND: usize = 513;
 
+// The words of the queue that have, as bits, the children of the pair in hand that were met, and those that are to be.
+const MET: usize = 514;
+
+const ONLY: usize = 515;
+
+// All children.
+const ALL: u32 = 511;
+
 // A pair whose children were met stays in the queue until all below it is done, marked: this, times one more than that count was, is added to it.
 const VISITED: u32 = 16777216;
 
-// The pairs noted stand by their keys modulo 251; these words of the notes say whether one was used for the last candidate tested, and whether none is to be used.
-const USED: usize = 254;
+// A pair noted has its key at that modulo 251, and the children that are to be met so many words behind it.
+const MASKS: usize = 251;
 
-const OFF: usize = 255;
+// These words of the notes say whether one was used for the last candidate tested, and whether none is to be used.
+const USED: usize = 510;
+
+const OFF: usize = 511;
 
 // At most so often the queue is looked at, twice for each pair.
 const PAIRS: usize = 2048;
@@ -311,7 +325,7 @@ fn settle(sheet: &[u32], places: &[u32], links: &mut [u32; 2048], x: u32) -> u32
 }
 
 // Links x to y, and queues the pair; nothing where the queue is full.
-fn put(links: &mut [u32; 2048], queue: &mut [u32; 514], end: usize, x: u32, y: u32) -> usize
+fn put(links: &mut [u32; 2048], queue: &mut [u32; 516], end: usize, x: u32, y: u32) -> usize
     ensures { λ r. ⌜ Puts (now (links .entry)) (now (queue .entry)) end x y (now (links .exit)) (now (queue .exit)) r ⌝ }
 {
     if end >= QUEUE {
@@ -362,7 +376,7 @@ fn sided_near(sheet: &[u32], k: u32, d: u32) -> bool
 }
 
 // Whether the self-dual mark of id d may be looked for: as long as few links were gone in this test. They are counted.
-fn may_look(queue: &mut [u32; 514], end: usize, d: u32) -> bool
+fn may_look(queue: &mut [u32; 516], end: usize, d: u32) -> bool
     ensures { λ _. ⌜ Aside (now (queue .entry)) end (now (queue .exit)) ⌝ }
 {
     if d >= NEAR {
@@ -388,7 +402,7 @@ fn is_marked(k: u32) -> bool {
 }
 
 // Whether a kind and id is surely not its own inverse; of Structs and Unions, nothing is said where the mark may not be looked for.
-fn sided_once(sheet: &[u32], queue: &mut [u32; 514], end: usize, k: u32, d: u32) -> bool
+fn sided_once(sheet: &[u32], queue: &mut [u32; 516], end: usize, k: u32, d: u32) -> bool
     ensures { λ r. ⌜ Decides (now (sheet .entry)) (now (queue .entry)) end k d (now (queue .exit)) r ⌝ }
 {
     if is_marked(k) {
@@ -401,7 +415,7 @@ fn sided_once(sheet: &[u32], queue: &mut [u32; 514], end: usize, k: u32, d: u32)
 }
 
 // A type and its inverse, which are the same: queued, so that its children are met with their own inverses, unless that was done.
-fn mirror(queue: &mut [u32; 514], end: usize, x: u32, y: u32) -> usize
+fn mirror(queue: &mut [u32; 516], end: usize, x: u32, y: u32) -> usize
     ensures { λ r. ⌜ Queues (now (queue .entry)) end x y (now (queue .exit)) r ⌝ }
 {
     if end >= QUEUE {
@@ -422,7 +436,7 @@ fn mirror(queue: &mut [u32; 514], end: usize, x: u32, y: u32) -> usize
 fn meet_inverted(
     sheet: &[u32],
     links: &mut [u32; 2048],
-    queue: &mut [u32; 514],
+    queue: &mut [u32; 516],
     end: usize,
     x: u32,
     y: u32,
@@ -446,7 +460,7 @@ fn meet_known(
     places: &[u32],
     ws: &[u32],
     links: &mut [u32; 2048],
-    queue: &mut [u32; 514],
+    queue: &mut [u32; 516],
     end: usize,
     x: u32,
     y: u32,
@@ -473,7 +487,7 @@ fn meet_known(
 }
 
 // Counts an unknown that is linked, up to 127 and then from 0 on again.
-fn count_bound(queue: &mut [u32; 514], end: usize)
+fn count_bound(queue: &mut [u32; 516], end: usize)
     ensures { λ _. ⌜ Aside (now (queue .entry)) end (now (queue .exit)) ⌝ }
 {
     if end < QUEUE {
@@ -487,7 +501,7 @@ fn meet_roots(
     places: &[u32],
     ws: &[u32],
     links: &mut [u32; 2048],
-    queue: &mut [u32; 514],
+    queue: &mut [u32; 516],
     end: usize,
     x: u32,
     y: u32,
@@ -518,7 +532,7 @@ fn meet_found(
     places: &[u32],
     ws: &[u32],
     links: &mut [u32; 2048],
-    queue: &mut [u32; 514],
+    queue: &mut [u32; 516],
     end: usize,
     a: u32,
     b: u32,
@@ -539,7 +553,7 @@ fn meet(
     places: &[u32],
     ws: &[u32],
     links: &mut [u32; 2048],
-    queue: &mut [u32; 514],
+    queue: &mut [u32; 516],
     end: usize,
     a: u32,
     b: u32,
@@ -562,7 +576,7 @@ fn meet_all(
     places: &[u32],
     ws: &[u32],
     links: &mut [u32; 2048],
-    queue: &mut [u32; 514],
+    queue: &mut [u32; 516],
     end: usize,
     xs: Row,
     ys: Row,
@@ -603,7 +617,7 @@ fn meet_record(
     sheet: &[u32],
     ws: &[u32],
     links: &mut [u32; 2048],
-    queue: &mut [u32; 514],
+    queue: &mut [u32; 516],
     end: usize,
     x: u32,
     y: u32,
@@ -638,7 +652,7 @@ fn meet_new(
     places: &[u32],
     ws: &[u32],
     links: &mut [u32; 2048],
-    queue: &mut [u32; 514],
+    queue: &mut [u32; 516],
     end: usize,
     x: u32,
     y: u32,
@@ -663,7 +677,7 @@ fn meet_cell(
     places: &[u32],
     ws: &[u32],
     links: &mut [u32; 2048],
-    queue: &mut [u32; 514],
+    queue: &mut [u32; 516],
     end: usize,
     x: u32,
     y: u32,
@@ -676,42 +690,64 @@ fn meet_cell(
     meet(sheet, places, ws, links, queue, end, x, y)
 }
 
-// Meets the types in the cells from a head with those of a row of the question, turned by b: a clash where there are more of one. Most of them are linked to each other already, and need no call.
+// Keeps that child j of the pair in hand was met.
+fn count_met(queue: &mut [u32; 516], end: usize, j: usize)
+    ensures { λ _. ⌜ Aside (now (queue .entry)) end (now (queue .exit)) ⌝ }
+{
+    if end <= QUEUE {
+        queue[MET] = queue[MET] | (1 << (j % 8));
+    }
+}
+
+// Meets the types in the cells from a head with the n children of a node of the question, turned by b: a clash where there are more of one. Of the children only those are met that are to be; most of them are linked to each other already, and need no call.
 fn meet_cells(
     sheet: &[u32],
     places: &[u32],
     ws: &[u32],
     links: &mut [u32; 2048],
-    queue: &mut [u32; 514],
+    queue: &mut [u32; 516],
     end: usize,
     head: usize,
-    ys: Row,
+    y: u32,
+    n: usize,
     b: u32,
 ) -> usize
+    requires { ⌜ Packed (now ws) ⌝ }
     requires { ⌜ 8 < length (now sheet) ⌝ }
-    requires { ⌜ ys .n ≤ 8 ⌝ }
-    requires { ⌜ ys .n ≤ length (ys .types) ⌝ }
-    ensures { λ r. ⌜ CellsMet (now (sheet .entry)) (now (places .entry)) (now (ws .entry)) (now (links .entry)) (now (queue .entry)) end head b ys (now (links .exit)) (now (queue .exit)) r ⌝ }
+    requires { ⌜ y < 256 ⌝ }
+    requires { ⌜ n ≤ 8 ⌝ }
+    ensures { λ r. ⌜ CellsMet (now (sheet .entry)) (now (places .entry)) (now (ws .entry)) (now (links .entry)) (now (queue .entry)) end head b (row-at (now (ws .entry)) y n) (now (links .exit)) (now (queue .exit)) r ⌝ }
 {
     let mut e = end;
     let mut c = head;
     let mut j: usize = 0;
+    let mut left = queue[ONLY];
     while c != 0 {
-        if j >= ys.n {
+        if j >= n {
             return CLASH;
         }
-        let x = own_type(words::offset(sheet, c, layout::CELL_TYPE));
-        let y = turn(b, ys.types[j]);
-        if links[words::wide(x / 2 % 2048)] != turn(x % 2, y) % 4096 + 1 {
-            e = meet_cell(sheet, places, ws, links, queue, e, x, y);
-            if e == CLASH {
-                return e;
-            }
+        if left == 0 {
+            return e;
         }
+        let cell = c;
+        let at = j;
+        let bit = left % 2;
         c = words::next(sheet, c);
         j += 1;
+        left = left / 2;
+        if bit == 1 {
+            let x = own_type(words::offset(sheet, cell, layout::CELL_TYPE));
+            let z = turn(b, table::child_type(ws, y, at));
+            if links[words::wide(x / 2 % 2048)] != turn(x % 2, z) % 4096 + 1 {
+                count_met(queue, e, at);
+                e = meet_cell(sheet, places, ws, links, queue, e, x, z);
+                if e == CLASH {
+                    return e;
+                }
+            }
+        }
     }
-    if j != ys.n {
+    if j != n {
         return CLASH;
     }
     e
@@ -723,7 +759,7 @@ fn meet_across(
     places: &[u32],
     ws: &[u32],
     links: &mut [u32; 2048],
-    queue: &mut [u32; 514],
+    queue: &mut [u32; 516],
     end: usize,
     x: u32,
     y: u32,
@@ -742,8 +778,8 @@ fn meet_across(
     if table::kind_of(ws, y / 2) == 0 {
         return end;
     }
-    let ys = table::child_types(ws, y / 2);
-    if ys.n == UNTOLD {
+    let n = table::own_children(ws, y / 2);
+    if n == UNTOLD {
         return end;
     }
     let p = place_of(places, x / 2);
@@ -757,13 +793,14 @@ fn meet_across(
         queue,
         end,
         words::wide(head),
-        ys,
+        y / 2,
+        n,
         b,
     )
 }
 
 // Whether the ref of a type is marked in the queue as queued with its own inverse.
-fn is_mirrored(queue: &[u32; 514], x: u32) -> bool {
+fn is_mirrored(queue: &[u32; 516], x: u32) -> bool {
     queue[QUEUE + words::wide(x / 2 % 256)] == x / 2 + 1
 }
 
@@ -773,7 +810,7 @@ fn meet_mirrored(
     places: &[u32],
     ws: &[u32],
     links: &mut [u32; 2048],
-    queue: &mut [u32; 514],
+    queue: &mut [u32; 516],
     end: usize,
     xs: Row,
 ) -> usize
@@ -801,7 +838,7 @@ fn meet_rows(
     places: &[u32],
     ws: &[u32],
     links: &mut [u32; 2048],
-    queue: &mut [u32; 514],
+    queue: &mut [u32; 516],
     end: usize,
     x: u32,
     y: u32,
@@ -836,7 +873,7 @@ fn meet_children(
     places: &[u32],
     ws: &[u32],
     links: &mut [u32; 2048],
-    queue: &mut [u32; 514],
+    queue: &mut [u32; 516],
     end: usize,
     x: u32,
     y: u32,
@@ -877,34 +914,57 @@ fn note_place(key: u32) -> usize
     words::wide(key % 251)
 }
 
-// Whether the pair of a key is noted, and notes may be used. That one was used is kept.
-fn is_noted(notes: &mut [u32; 256], key: u32) -> bool {
+// Which children of the pair of a key are to be met: all where it is not noted, or notes may not be used. That one was used is kept.
+fn noted(notes: &mut [u32; 512], key: u32) -> u32 {
     if notes[OFF] != 0 {
-        return false;
+        return ALL;
     }
-    if notes[note_place(key)] != key {
-        return false;
+    let at = note_place(key);
+    if notes[at] != key {
+        return ALL;
     }
     notes[USED] = 1;
-    true
+    notes[at + MASKS]
 }
 
-// Notes a pair that is done, if no unknown was linked since its children were met.
-fn note(places: &[u32], queue: &[u32; 514], notes: &mut [u32; 256], pair: u32) {
+// Notes which children of the pair of a key are to be met.
+fn note_mask(notes: &mut [u32; 512], key: u32, mask: u32) {
+    let at = note_place(key);
+    notes[at] = key;
+    notes[at + MASKS] = mask;
+}
+
+// Notes that a pair that is done is to be passed over, if no unknown was linked since its children were met.
+fn note(places: &[u32], queue: &[u32; 516], notes: &mut [u32; 512], pair: u32) {
     if pair / VISITED == queue[BOUND] % 128 + 1 {
-        let key = key_of(places, pair);
-        notes[note_place(key)] = key;
+        note_mask(notes, key_of(places, pair), 0);
     }
 }
 
-// Marks the last pair of the queue and meets its children; if it is noted, it is taken off.
+// Notes which children of a pair of a record and a node were met, if any was, all having been to be.
+fn note_met(queue: &[u32; 516], notes: &mut [u32; 512], key: u32, pair: u32) {
+    if queue[ONLY] != ALL {
+        return;
+    }
+    if pair % 4096 / 2 < RECORDS {
+        return;
+    }
+    if pair / 4096 / 2 >= NODES {
+        return;
+    }
+    if queue[MET] != 0 {
+        note_mask(notes, key, queue[MET]);
+    }
+}
+
+// Marks the last pair of the queue and meets those of its children that are to be met; if none is, it is taken off.
 fn visit(
     sheet: &[u32],
     places: &[u32],
     ws: &[u32],
     links: &mut [u32; 2048],
-    queue: &mut [u32; 514],
-    notes: &mut [u32; 256],
+    queue: &mut [u32; 516],
+    notes: &mut [u32; 512],
     end: usize,
 ) -> usize
     requires { ⌜ Packed (now ws) ⌝ }
@@ -913,20 +973,21 @@ fn visit(
     ensures { λ r. ⌜ Ran (now (sheet .entry)) (now (places .entry)) (now (ws .entry)) (now (links .entry)) (now (queue .entry)) end (now (links .exit)) (now (queue .exit)) r ⌝ }
 {
     let pair = queue[end - 1] % VISITED;
-    if is_noted(notes, key_of(places, pair)) {
+    let key = key_of(places, pair);
+    let mask = noted(notes, key);
+    if mask == 0 {
         return end - 1;
     }
     queue[end - 1] = pair + VISITED * (queue[BOUND] % 128 + 1);
-    meet_children(
-        sheet,
-        places,
-        ws,
-        links,
-        queue,
-        end,
-        pair % 4096,
-        pair / 4096,
-    )
+    queue[MET] = 0;
+    queue[ONLY] = mask;
+    let x = pair % 4096;
+    let y = pair / 4096;
+    let e = meet_children(sheet, places, ws, links, queue, end, x, y);
+    if e != CLASH {
+        note_met(queue, notes, key, pair);
+    }
+    e
 }
 
 // Works off the queue, whose end is n, from its end, a marked pair being done: whether a clash is found.
@@ -935,8 +996,8 @@ fn run(
     places: &[u32],
     ws: &[u32],
     links: &mut [u32; 2048],
-    queue: &mut [u32; 514],
-    notes: &mut [u32; 256],
+    queue: &mut [u32; 516],
+    notes: &mut [u32; 512],
     n: usize,
 ) -> bool
     requires { ⌜ Packed (now ws) ⌝ }
@@ -972,7 +1033,7 @@ fn meet_args(
     places: &[u32],
     ws: &[u32],
     links: &mut [u32; 2048],
-    queue: &mut [u32; 514],
+    queue: &mut [u32; 516],
     p: Query,
     q: Query,
 ) -> usize
@@ -998,7 +1059,7 @@ fn clash_args(
     sheet: &[u32],
     places: &[u32],
     ws: &[u32],
-    notes: &mut [u32; 256],
+    notes: &mut [u32; 512],
     p: Query,
     q: Query,
 ) -> bool
@@ -1007,7 +1068,7 @@ fn clash_args(
     ensures { λ r. ⌜ Clashing (now (sheet .entry)) (now (places .entry)) (now (ws .entry)) p q r ⌝ }
 {
     let mut links = [0u32; 2048];
-    let mut queue = [0u32; 514];
+    let mut queue = [0u32; 516];
     let n = meet_args(sheet, places, ws, &mut links, &mut queue, p, q);
     if n == CLASH {
         return true;
@@ -1079,7 +1140,7 @@ fn args_clash(
     sheet: &[u32],
     places: &[u32],
     ws: &[u32],
-    notes: &mut [u32; 256],
+    notes: &mut [u32; 512],
     p: Query,
     q: Query,
 ) -> bool
@@ -1101,7 +1162,7 @@ fn clash_at(
     sheet: &[u32],
     places: &[u32],
     ws: &[u32],
-    notes: &mut [u32; 256],
+    notes: &mut [u32; 512],
     q: Query,
     p: usize,
 ) -> bool
@@ -1138,7 +1199,7 @@ fn impl_place(sheet: &[u32], i: usize) -> usize
 }
 
 // A candidate that was tested did not unify all the same: if a note was used, none is from now on.
-pub fn missed(notes: &mut [u32; 256]) {
+pub fn missed(notes: &mut [u32; 512]) {
     if notes[USED] != 0 {
         notes[OFF] = 1;
     }
@@ -1149,7 +1210,7 @@ pub fn clashes(
     sheet: &[u32],
     ws: &[u32],
     places: &mut [u32],
-    notes: &mut [u32; 256],
+    notes: &mut [u32; 512],
     q: Query,
     i: usize,
     n: usize,
@@ -1208,7 +1269,7 @@ pub fn param_clashes(
     if has_room(ws, n) {
         let head = generics_head(sheet, g);
         let m = chart::index_chain(sheet, head, places, 0);
-        let mut notes = [0u32; 256];
+        let mut notes = [0u32; 512];
         return args_clash(sheet, &places[..m], ws, &mut notes, p, q);
     }
     false

@@ -122,7 +122,7 @@ fn begin(
 }
 
 // Opens a candidate behind slot 4, in slices for a small sheet.
-fn open_small(sheet: &[u32], sets: &[u32], ws: &mut [u32], notes: &mut [u32; 256], f: Finder, q: Query, i: usize) -> Queries
+fn open_small(sheet: &[u32], sets: &[u32], ws: &mut [u32], notes: &mut [u32; 512], f: Finder, q: Query, i: usize) -> Queries
     requires { ⌜ Sound (finder-of (now sheet) f) ⌝ }
     requires { ⌜ Asking (now ws) q ⌝ }
     requires { ⌜ 7692 ≤ length (now ws) ⌝ }
@@ -141,7 +141,7 @@ fn open_middle(
     sheet: &[u32],
     sets: &[u32],
     ws: &mut [u32],
-    notes: &mut [u32; 256],
+    notes: &mut [u32; 512],
     f: Finder,
     q: Query,
     i: usize,
@@ -160,7 +160,7 @@ fn open_middle(
 }
 
 // The same in slices for any sheet.
-fn open_wide(sheet: &[u32], sets: &[u32], ws: &mut [u32], notes: &mut [u32; 256], f: Finder, q: Query, i: usize) -> Queries
+fn open_wide(sheet: &[u32], sets: &[u32], ws: &mut [u32], notes: &mut [u32; 512], f: Finder, q: Query, i: usize) -> Queries
     requires { ⌜ Sound (finder-of (now sheet) f) ⌝ }
     requires { ⌜ Asking (now ws) q ⌝ }
     requires { ⌜ 7692 ≤ length (now ws) ⌝ }
@@ -174,7 +174,7 @@ fn open_wide(sheet: &[u32], sets: &[u32], ws: &mut [u32], notes: &mut [u32; 256]
 }
 
 // Opens a candidate behind slot 4: the table there is that of its sub-questions.
-fn open_one(sheet: &[u32], sets: &[u32], ws: &mut [u32], notes: &mut [u32; 256], f: Finder, q: Query, i: usize) -> Queries
+fn open_one(sheet: &[u32], sets: &[u32], ws: &mut [u32], notes: &mut [u32; 512], f: Finder, q: Query, i: usize) -> Queries
     requires { ⌜ Sound (finder-of (now sheet) f) ⌝ }
     requires { ⌜ Asking (now ws) q ⌝ }
     requires { ⌜ 7692 ≤ length (now ws) ⌝ }
@@ -258,7 +258,7 @@ fn candidates(
             count,
         };
     }
-    let mut notes = [0u32; 256];
+    let mut notes = [0u32; 512];
     let mut stand = n;
     let mut cur = count;
     let mut id = steps::next_id(sheet, sets, found, 0);
@@ -286,7 +286,7 @@ fn candidate(
     sheet: &[u32],
     sets: &[u32],
     ws: &mut [u32],
-    notes: &mut [u32; 256],
+    notes: &mut [u32; 512],
     f: Finder,
     q: Query,
     i: usize,

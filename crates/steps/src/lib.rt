@@ -458,7 +458,7 @@ pub fn open_candidate(
     ws: &mut [u32],
     places: &mut [u32],
     map: &mut [u32],
-    notes: &mut [u32; 256],
+    notes: &mut [u32; 512],
     f: Finder,
     q: Query,
     i: usize,

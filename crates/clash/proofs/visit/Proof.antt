@@ -16,8 +16,8 @@ element-copy-out-pair c = search needs
 key-of-requires : tie.Need-key-of-requires
 key-of-requires c κs = search needs
 
-is-noted-requires : tie.Need-is-noted-requires
-is-noted-requires c κs = search needs
+noted-requires : tie.Need-noted-requires
+noted-requires c κs = search needs
 
 sub-result : tie.Need-sub-result
 sub-result c = search needs
@@ -46,11 +46,23 @@ mul-queue-2 c = search needs
 element-write-queue : tie.Need-element-write-queue
 element-write-queue c = search needs
 
+element-write-queue-2 : tie.Need-element-write-queue-2
+element-write-queue-2 c = search needs
+
+element-write-queue-3 : tie.Need-element-write-queue-3
+element-write-queue-3 c = search needs
+
 meet-children-requires : tie.Need-meet-children-requires
 meet-children-requires c κs = search needs
 
+note-met-requires : tie.Need-note-met-requires
+note-met-requires c κs = search needs
+
 returns-2 : tie.Need-returns-2
 returns-2 c = search (needs, ran-visit)
+
+returns-3 : tie.Need-returns-3
+returns-3 c = search (needs, ran-visit)
 
 pub visit-spec : {M : Type 1} → statement M
 visit-spec =
@@ -60,7 +72,7 @@ visit-spec =
     mul-pair
     element-copy-out-pair
     key-of-requires
-    is-noted-requires
+    noted-requires
     sub-result
     returns
     element-copy-out-queue
@@ -70,5 +82,9 @@ visit-spec =
     sub-queue
     mul-queue-2
     element-write-queue
+    element-write-queue-2
+    element-write-queue-3
     meet-children-requires
-    returns-2)
+    note-met-requires
+    returns-2
+    returns-3)
