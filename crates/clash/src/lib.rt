@@ -1016,8 +1016,23 @@ fn impl_place(sheet: &[u32], i: usize) -> usize
     words::place(sheet, head, i)
 }
 
+// A candidate that was tested did not unify all the same: if a note was used, none is from now on.
+pub fn missed(notes: &mut [u32; 256]) {
+    if notes[254] != 0 {
+        notes[255] = 1;
+    }
+}
+
 // Whether candidate i, whose signature takes n nodes, and question q clash. The places of the nodes of its signature's table are written to `places`.
-pub fn clashes(sheet: &[u32], ws: &[u32], places: &mut [u32], q: Query, i: usize, n: usize) -> bool
+pub fn clashes(
+    sheet: &[u32],
+    ws: &[u32],
+    places: &mut [u32],
+    notes: &mut [u32; 256],
+    q: Query,
+    i: usize,
+    n: usize,
+) -> bool
     requires { ⌜ SignatureTakes (now sheet) i n ⌝ }
     requires { ⌜ Sound (now sheet) ⌝ }
     requires { ⌜ i < many (now sheet) header·impls ⌝ }

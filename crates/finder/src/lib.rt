@@ -122,7 +122,15 @@ fn begin(
 }
 
 // Opens a candidate behind slot 4, in slices for a small sheet.
-fn open_small(sheet: &[u32], sets: &[u32], ws: &mut [u32], f: Finder, q: Query, i: usize) -> Queries
+fn open_small(
+    sheet: &[u32],
+    sets: &[u32],
+    ws: &mut [u32],
+    notes: &mut [u32; 256],
+    f: Finder,
+    q: Query,
+    i: usize,
+) -> Queries
     requires { ⌜ Sound (finder-of (now sheet) f) ⌝ }
     requires { ⌜ Asking (now ws) q ⌝ }
     requires { ⌜ 7692 ≤ length (now ws) ⌝ }
@@ -133,7 +141,7 @@ fn open_small(sheet: &[u32], sets: &[u32], ws: &mut [u32], f: Finder, q: Query, 
 {
     let mut places = [0u32; SMALL];
     let mut map = [0u32; MIDDLE];
-    steps::open_candidate(sheet, sets, ws, &mut places, &mut map, f, q, i)
+    steps::open_candidate(sheet, sets, ws, &mut places, &mut map, notes, f, q, i)
 }
 
 // The same in slices for a sheet of middle size.
@@ -141,6 +149,7 @@ fn open_middle(
     sheet: &[u32],
     sets: &[u32],
     ws: &mut [u32],
+    notes: &mut [u32; 256],
     f: Finder,
     q: Query,
     i: usize,
@@ -155,11 +164,19 @@ fn open_middle(
 {
     let mut places = [0u32; MIDDLE];
     let mut map = [0u32; MARKS];
-    steps::open_candidate(sheet, sets, ws, &mut places, &mut map, f, q, i)
+    steps::open_candidate(sheet, sets, ws, &mut places, &mut map, notes, f, q, i)
 }
 
 // The same in slices for any sheet.
-fn open_wide(sheet: &[u32], sets: &[u32], ws: &mut [u32], f: Finder, q: Query, i: usize) -> Queries
+fn open_wide(
+    sheet: &[u32],
+    sets: &[u32],
+    ws: &mut [u32],
+    notes: &mut [u32; 256],
+    f: Finder,
+    q: Query,
+    i: usize,
+) -> Queries
     requires { ⌜ Sound (finder-of (now sheet) f) ⌝ }
     requires { ⌜ Asking (now ws) q ⌝ }
     requires { ⌜ 7692 ≤ length (now ws) ⌝ }
@@ -169,11 +186,19 @@ fn open_wide(sheet: &[u32], sets: &[u32], ws: &mut [u32], f: Finder, q: Query, i
 {
     let mut places = [0u32; WIDE];
     let mut map = [0u32; WIDE];
-    steps::open_candidate(sheet, sets, ws, &mut places, &mut map, f, q, i)
+    steps::open_candidate(sheet, sets, ws, &mut places, &mut map, notes, f, q, i)
 }
 
 // Opens a candidate behind slot 4: the table there is that of its sub-questions.
-fn open_one(sheet: &[u32], sets: &[u32], ws: &mut [u32], f: Finder, q: Query, i: usize) -> Queries
+fn open_one(
+    sheet: &[u32],
+    sets: &[u32],
+    ws: &mut [u32],
+    notes: &mut [u32; 256],
+    f: Finder,
+    q: Query,
+    i: usize,
+) -> Queries
     requires { ⌜ Sound (finder-of (now sheet) f) ⌝ }
     requires { ⌜ Asking (now ws) q ⌝ }
     requires { ⌜ 7692 ≤ length (now ws) ⌝ }
@@ -182,12 +207,12 @@ fn open_one(sheet: &[u32], sets: &[u32], ws: &mut [u32], f: Finder, q: Query, i:
     ensures { λ r. ⌜ Opens (now (sheet .entry)) (now (ws .entry)) (query-of q) i r (now (ws .exit)) ⌝ }
 {
     if sheet.len() <= SMALL_SHEET {
-        return open_small(sheet, sets, ws, f, q, i);
+        return open_small(sheet, sets, ws, notes, f, q, i);
     }
     if sheet.len() <= MIDDLE_SHEET {
-        return open_middle(sheet, sets, ws, f, q, i);
+        return open_middle(sheet, sets, ws, notes, f, q, i);
     }
-    open_wide(sheet, sets, ws, f, q, i)
+    open_wide(sheet, sets, ws, notes, f, q, i)
 }
 
 // A question, with `depth` levels left for it and what it asks: `_find_impl`.
@@ -229,7 +254,7 @@ pub fn question(
     }
 }
 
-// The candidates of a question by id: what each gives is added behind the n results that stand.
+// The candidates of a question by id: what each gives is added behind the n results that stand. The notes of their tests are lent from one to the next.
 fn candidates(
     sheet: &[u32],
     sets: &[u32],
@@ -257,11 +282,12 @@ fn candidates(
             count,
         };
     }
+    let mut notes = [0u32; 256];
     let mut stand = n;
     let mut cur = count;
     let mut id = steps::next_id(sheet, sets, found, 0);
     while id < steps::NONE {
-        let one = candidate(sheet, sets, ws, f, q, id, depth, stand, cur);
+        let one = candidate(sheet, sets, ws, &mut notes, f, q, id, depth, stand, cur);
         match one {
             Asked::Refused { number, count } => {
                 return Asked::Refused { number, count };
@@ -284,6 +310,7 @@ fn candidate(
     sheet: &[u32],
     sets: &[u32],
     ws: &mut [u32],
+    notes: &mut [u32; 256],
     f: Finder,
     q: Query,
     i: usize,
@@ -299,7 +326,7 @@ fn candidate(
     requires { ⌜ n ≤ 4 ⌝ }
     ensures { λ r. ⌜ CandidateStep (f .limit) (try-candidate (ask-below depth (finder-of (now (sheet .entry)) f)) (now (sheet .entry)) (types-of (now (ws .entry))) (query-of q) i) n count (now (ws .entry)) r (now (ws .exit)) ⌝ }
 {
-    let qs = open_one(sheet, sets, ws, f, q, i);
+    let qs = open_one(sheet, sets, ws, notes, f, q, i);
     if qs.n == steps::FULL {
         return Asked::Refused { number: 14, count };
     }

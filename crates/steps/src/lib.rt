@@ -451,13 +451,14 @@ fn open_copy(
     open_part(sheet, &mut ws[SUB..], places, map, q, i)
 }
 
-// Opens a candidate behind slot 4: the table there is that of its sub-questions. One that clashes with the question is found unfit before that.
+// Opens a candidate behind slot 4: the table there is that of its sub-questions. One that clashes with the question is found unfit before that. One that is found unfit only by the copy is told to the notes.
 pub fn open_candidate(
     sheet: &[u32],
     sets: &[u32],
     ws: &mut [u32],
     places: &mut [u32],
     map: &mut [u32],
+    notes: &mut [u32; 256],
     f: Finder,
     q: Query,
     i: usize,
@@ -471,10 +472,14 @@ pub fn open_candidate(
     ensures { λ r. ⌜ Opens (now (sheet .entry)) (now (ws .entry)) (query-of q) i r (now (ws .exit)) ⌝ }
 {
     let takes = wide_offset(sets, SETS, i);
-    if clash::clashes(sheet, ws, places, q, i, takes) {
+    if clash::clashes(sheet, ws, places, notes, q, i, takes) {
         return no_questions(UNFIT);
     }
-    open_copy(sheet, ws, places, map, f, q, i)
+    let qs = open_copy(sheet, ws, places, map, f, q, i);
+    if qs.n == UNFIT {
+        clash::missed(notes);
+    }
+    qs
 }
 
 // `find_impl_candidates` for a question.
