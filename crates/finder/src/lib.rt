@@ -122,7 +122,15 @@ fn begin(
 }
 
 // Opens a candidate behind slot 4, in slices for a small sheet.
-fn open_small(sheet: &[u32], sets: &[u32], ws: &mut [u32], notes: &mut [u32; 512], f: Finder, q: Query, i: usize) -> Queries
+fn open_small(
+    sheet: &[u32],
+    sets: &[u32],
+    ws: &mut [u32],
+    notes: &mut [u32; 512],
+    f: Finder,
+    q: Query,
+    i: usize,
+) -> Queries
     requires { ⌜ Sound (finder-of (now sheet) f) ⌝ }
     requires { ⌜ Asking (now ws) q ⌝ }
     requires { ⌜ 7692 ≤ length (now ws) ⌝ }
@@ -160,7 +168,15 @@ fn open_middle(
 }
 
 // The same in slices for any sheet.
-fn open_wide(sheet: &[u32], sets: &[u32], ws: &mut [u32], notes: &mut [u32; 512], f: Finder, q: Query, i: usize) -> Queries
+fn open_wide(
+    sheet: &[u32],
+    sets: &[u32],
+    ws: &mut [u32],
+    notes: &mut [u32; 512],
+    f: Finder,
+    q: Query,
+    i: usize,
+) -> Queries
     requires { ⌜ Sound (finder-of (now sheet) f) ⌝ }
     requires { ⌜ Asking (now ws) q ⌝ }
     requires { ⌜ 7692 ≤ length (now ws) ⌝ }
@@ -174,7 +190,15 @@ fn open_wide(sheet: &[u32], sets: &[u32], ws: &mut [u32], notes: &mut [u32; 512]
 }
 
 // Opens a candidate behind slot 4: the table there is that of its sub-questions.
-fn open_one(sheet: &[u32], sets: &[u32], ws: &mut [u32], notes: &mut [u32; 512], f: Finder, q: Query, i: usize) -> Queries
+fn open_one(
+    sheet: &[u32],
+    sets: &[u32],
+    ws: &mut [u32],
+    notes: &mut [u32; 512],
+    f: Finder,
+    q: Query,
+    i: usize,
+) -> Queries
     requires { ⌜ Sound (finder-of (now sheet) f) ⌝ }
     requires { ⌜ Asking (now ws) q ⌝ }
     requires { ⌜ 7692 ≤ length (now ws) ⌝ }
@@ -230,7 +254,7 @@ pub fn question(
     }
 }
 
-// The candidates of a question by id: what each gives is added behind the n results that stand.
+// The candidates of a question by id: what each gives is added behind the n results that stand. The notes of their tests are lent from one to the next.
 fn candidates(
     sheet: &[u32],
     sets: &[u32],

@@ -451,7 +451,7 @@ fn open_copy(
     open_part(sheet, &mut ws[SUB..], places, map, q, i)
 }
 
-// Opens a candidate behind slot 4: the table there is that of its sub-questions. One that clashes with the question is found unfit before that.
+// Opens a candidate behind slot 4: the table there is that of its sub-questions. One that clashes with the question is found unfit before that. One that is found unfit only by the copy is told to the notes.
 pub fn open_candidate(
     sheet: &[u32],
     sets: &[u32],

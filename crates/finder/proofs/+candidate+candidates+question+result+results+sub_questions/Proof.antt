@@ -45,8 +45,8 @@ use Rattle.finder.proofs.+candidate+candidates+question+result+results+
   close,
 }
 
-abbrev μ-candidate : Measures 3 candidate-kinds.ps ℕ
-μ-candidate κs a = 20 * (a .1 .1 .1 .1 .1 .1 .0) + 16
+abbrev μ-candidate : Measures 4 candidate-kinds.ps ℕ
+μ-candidate κs a = 20 * (a .1 .1 .1 .1 .1 .1 .1 .0) + 16
 
 abbrev μ-candidates : Measures 3 candidates-kinds.ps ℕ
 μ-candidates κs a = 20 * (a .1 .1 .1 .1 .1 .1 .0) + 18
@@ -63,12 +63,12 @@ abbrev μ-results : Measures 3 results-kinds.ps ℕ
 abbrev μ-sub-questions : Measures 3 sub-questions-kinds.ps ℕ
 μ-sub-questions κs a = 20 * (a .1 .1 .1 .1 .1 .1 .0) + 2 + 3 * (a .1 .1 .1 .1 .0 .n - a .1 .1 .1 .1 .1 .0)
 
-abbrev candidate-at : ℕ → In 3 candidate-kinds.ps
-candidate-at t = and 3 candidate-kinds.ps (is 3 candidate-kinds.ps μ-candidate t) candidate.Pre
+abbrev candidate-at : ℕ → In 4 candidate-kinds.ps
+candidate-at t = and 4 candidate-kinds.ps (is 4 candidate-kinds.ps μ-candidate t) candidate.Pre
 
-abbrev candidate-below : ℕ → In 3 candidate-kinds.ps
+abbrev candidate-below : ℕ → In 4 candidate-kinds.ps
 candidate-below t =
-    and 3 candidate-kinds.ps (falls 3 candidate-kinds.ps _<_ μ-candidate t) candidate.Pre
+    and 4 candidate-kinds.ps (falls 4 candidate-kinds.ps _<_ μ-candidate t) candidate.Pre
 
 abbrev candidates-at : ℕ → In 3 candidates-kinds.ps
 candidates-at t =
@@ -161,30 +161,30 @@ candidate-part-sub-questions-end t c = omega arith
 
 -- src/lib.rt:280:9
 candidate-sub-questions-requires : (t : ℕ) → candidate-lts.Need-sub-questions-requires (candidate-calls t) (candidate-at t) candidate.Post
-candidate-sub-questions-requires t c κs = (omega (arith, opened-few _ _ _ _ _ _ (c .before .before .before .before .before .before .before .open-one .ensures) (c .before .before .before .if1 .left) (c .before .if2 .left)), (search needs, (search (needs, opened-tail, c .before .before .before .before .before .before .before .open-one .ensures, c .before .before .before .if1 .left, c .before .if2 .left), (search (needs, opened-part, c .before .before .before .before .before .before .before .open-one .ensures, c .before .before .before .if1 .left, c .before .if2 .left, c .before .before .before .before .before .before .before .before .before .before .before .before .pre), search needs))))
+candidate-sub-questions-requires t c κs = (omega (arith, opened-few _ _ _ _ _ _ (c .before .before .before .before .before .before .before .open-one .ensures) (c .before .before .before .if1 .left) (c .before .if2 .left)), (search needs, (search (needs, opened-tail, c .before .before .before .before .before .before .before .open-one .ensures, c .before .before .before .if1 .left, c .before .if2 .left), (search (needs, opened-part, c .before .before .before .before .before .before .before .open-one .ensures, c .before .before .before .if1 .left, c .before .if2 .left, c .before .before .before .before .before .before .before .before .before .before .before .before .before .pre), omega (arith, c .before .before .before .before .before .before .before .before .before .before .before .before .before .pre)))))
 
 -- src/lib.rt:281:50
 candidate-cast-settle-wrapped : (t : ℕ) → candidate-lts.Need-cast-settle-wrapped (candidate-calls t) (candidate-at t) candidate.Post
-candidate-cast-settle-wrapped t c = omega (arith, few-impls _ _ _ (c .before .before .before .before .before .before .before .before .before .before .before .before .before .before .before .before .pre .1 .0), c .before .before .before .before .before .before .before .before .before .before .before .before .before .before .before .before .pre)
+candidate-cast-settle-wrapped t c = omega (arith, few-impls _ _ _ (c .before .before .before .before .before .before .before .before .before .before .before .before .before .before .before .before .before .pre .1 .0), c .before .before .before .before .before .before .before .before .before .before .before .before .before .before .before .before .before .pre)
 
 -- src/lib.rt:281:5
 candidate-settle-wrapped-requires : (t : ℕ) → candidate-lts.Need-settle-wrapped-requires (candidate-calls t) (candidate-at t) candidate.Post
-candidate-settle-wrapped-requires t c κs = (omega (arith, c .before .before .before .before .before .before .before .before .before .before .before .before .before .before .before .before .pre), (omega arith, (search (needs, opened-long, c .before .before .before .before .before .before .before .before .before .before .before .open-one .ensures, c .before .before .before .before .before .before .before .if1 .left, c .before .before .before .before .before .if2 .left, c .before .before .before .before .before .before .before .before .before .before .before .before .before .before .before .before .pre, c .before .before .before .sub-questions .ensures, c .before .before .before .sub-questions .kept .1 .1 .0), (opened-sub _ _ _ _ _ _ (c .before .before .before .before .before .before .before .before .before .before .before .open-one .ensures) (c .before .before .before .before .before .before .before .if1 .left) (c .before .before .before .before .before .if2 .left) _ _ _ _ _ (omega (arith, c .before .before .before .before .before .before .before .before .before .before .before .before .before .before .before .before .pre)) (c .before .before .before .sub-questions .ensures) (c .before .before .before .sub-questions .kept .1 .1 .0), omega (arith, few-impls _ _ _ (c .before .before .before .before .before .before .before .before .before .before .before .before .before .before .before .before .pre .1 .0), c .before .before .before .before .before .before .before .before .before .before .before .before .before .before .before .before .pre)))))
+candidate-settle-wrapped-requires t c κs = (omega (arith, c .before .before .before .before .before .before .before .before .before .before .before .before .before .before .before .before .before .pre), (omega arith, (search (needs, opened-long, c .before .before .before .before .before .before .before .before .before .before .before .open-one .ensures, c .before .before .before .before .before .before .before .if1 .left, c .before .before .before .before .before .if2 .left, c .before .before .before .before .before .before .before .before .before .before .before .before .before .before .before .before .before .pre, c .before .before .before .sub-questions .ensures, c .before .before .before .sub-questions .kept .1 .1 .0), (opened-sub _ _ _ _ _ _ (c .before .before .before .before .before .before .before .before .before .before .before .open-one .ensures) (c .before .before .before .before .before .before .before .if1 .left) (c .before .before .before .before .before .if2 .left) _ _ _ _ _ (omega (arith, c .before .before .before .before .before .before .before .before .before .before .before .before .before .before .before .before .before .pre)) (c .before .before .before .sub-questions .ensures) (c .before .before .before .sub-questions .kept .1 .1 .0), omega (arith, few-impls _ _ _ (c .before .before .before .before .before .before .before .before .before .before .before .before .before .before .before .before .before .pre .1 .0), c .before .before .before .before .before .before .before .before .before .before .before .before .before .before .before .before .before .pre)))))
 
 -- src/lib.rt:254:1
 candidate-same-length-3 : (t : ℕ) → candidate-lts.Need-same-length-3 (candidate-calls t) (candidate-at t) candidate.Post
-candidate-same-length-3 t c = search (needs, opened-long, c .before .before .before .before .before .before .before .before .before .before .before .before .before .before .open-one .ensures, c .before .before .before .before .before .before .before .before .before .before .if1 .left, c .before .before .before .before .before .before .before .before .if2 .left, c .before .before .before .before .before .before .before .before .before .before .before .before .before .before .before .before .before .before .before .pre, c .before .before .before .before .before .before .sub-questions .ensures, c .before .before .before .before .before .before .sub-questions .kept .1 .1 .0, c .before .before .settle-wrapped .kept)
+candidate-same-length-3 t c = search (needs, opened-long, c .before .before .before .before .before .before .before .before .before .before .before .before .before .before .open-one .ensures, c .before .before .before .before .before .before .before .before .before .before .if1 .left, c .before .before .before .before .before .before .before .before .if2 .left, c .before .before .before .before .before .before .before .before .before .before .before .before .before .before .before .before .before .before .before .before .pre, c .before .before .before .before .before .before .sub-questions .ensures, c .before .before .before .before .before .before .sub-questions .kept .1 .1 .0, c .before .before .settle-wrapped .kept)
 
 -- src/lib.rt:254:1
 candidate-returns-3 : (t : ℕ) → candidate-lts.Need-returns-3 (candidate-calls t) (candidate-at t) candidate.Post
-candidate-returns-3 t c = opened-steps _ _ _ _ _ _ (c .before .before .before .before .before .before .before .before .before .before .before .before .before .before .open-one .ensures) (c .before .before .before .before .before .before .before .before .before .before .if1 .left) (c .before .before .before .before .before .before .before .before .if2 .left) _ _ _ _ _ (omega (arith, c .before .before .before .before .before .before .before .before .before .before .before .before .before .before .before .before .before .before .before .pre)) (c .before .before .before .before .before .before .sub-questions .ensures) (c .before .before .before .before .before .before .sub-questions .kept .1 .1 .0) _ _ _ (omega (arith, c .before .before .before .before .before .before .before .before .before .before .before .before .before .before .before .before .before .before .before .pre)) (c .before .before .settle-wrapped .ensures)
+candidate-returns-3 t c = opened-steps _ _ _ _ _ _ (c .before .before .before .before .before .before .before .before .before .before .before .before .before .before .open-one .ensures) (c .before .before .before .before .before .before .before .before .before .before .if1 .left) (c .before .before .before .before .before .before .before .before .if2 .left) _ _ _ _ _ (omega (arith, c .before .before .before .before .before .before .before .before .before .before .before .before .before .before .before .before .before .before .before .before .pre)) (c .before .before .before .before .before .before .sub-questions .ensures) (c .before .before .before .before .before .before .sub-questions .kept .1 .1 .0) _ _ _ (omega (arith, c .before .before .before .before .before .before .before .before .before .before .before .before .before .before .before .before .before .before .before .before .pre)) (c .before .before .settle-wrapped .ensures)
 
 abbrev candidates-Inv-loop : candidates-lts.InvT-loop
-candidates-Inv-loop sheet sets ws₀ f basic q depth n count found stand₀ cur₀ id₀ ws stand cur id =
+candidates-Inv-loop sheet sets ws₀ f basic q depth n count found notes₀ stand₀ cur₀ id₀ ws notes stand cur id =
     Trying sheet sets f basic q depth found n count ws₀ ws id stand cur
 
 abbrev candidates-μ-loop : candidates-lts.MeasureT-loop
-candidates-μ-loop sheet sets ws₀ f basic q depth n count found stand₀ cur₀ id₀ ws stand cur id =
+candidates-μ-loop sheet sets ws₀ f basic q depth n count found notes₀ stand₀ cur₀ id₀ ws notes stand cur id =
     384 - id
 
 -- src/lib.rt:224:9
@@ -209,7 +209,7 @@ candidates-loop-holds t c = search (needs, trying-start, c .before .before .befo
 
 -- src/lib.rt:235:13
 candidates-candidate-requires : (t : ℕ) → candidates-lts.Need-candidate-requires (candidates-calls t) (candidates-at t) candidates.Post candidates-Inv-loop candidates-μ-loop
-candidates-candidate-requires t c κs = (omega arith, (search needs, (search (needs, trying-asking, c .before .before .loop .inv), (search (needs, trying-up, c .before .before .loop .inv), (search (needs, trying-long, c .before .before .loop .inv, c .before .before .before .before .before .before .before .before .before .before .before .pre), (search (needs, trying-low, c .before .before .loop .inv), search (needs, trying-few, c .before .before .loop .inv)))))))
+candidates-candidate-requires t c κs = (omega arith, (search needs, (search (needs, trying-asking, c .before .before .before .loop .inv), (search (needs, trying-up, c .before .before .before .loop .inv), (search (needs, trying-long, c .before .before .before .loop .inv, c .before .before .before .before .before .before .before .before .before .before .before .before .pre), (search (needs, trying-low, c .before .before .before .loop .inv), search (needs, trying-few, c .before .before .before .loop .inv)))))))
 
 -- src/lib.rt:237:30
 candidates-enum-known-one : (t : ℕ) → candidates-lts.Need-enum-known-one (candidates-calls t) (candidates-at t) candidates.Post candidates-Inv-loop candidates-μ-loop
@@ -221,7 +221,7 @@ candidates-same-length-2 t c = search needs
 
 -- src/lib.rt:238:17
 candidates-returns-2 : (t : ℕ) → candidates-lts.Need-returns-2 (candidates-calls t) (candidates-at t) candidates.Post candidates-Inv-loop candidates-μ-loop
-candidates-returns-2 t c = search (needs, trying-refused, c .before .before .before .before .before .before .before .before .before .before .before .before .find-candidates .ensures, c .before .before .before .before .before .before .before .before .loop .inv, c .before .before .before .before .before .candidate .ensures, c .before .before .before .before .before .before .before .before .before .before .before .before .before .before .before .before .before .pre)
+candidates-returns-2 t c = search (needs, trying-refused, c .before .before .before .before .before .before .before .before .before .before .before .before .before .find-candidates .ensures, c .before .before .before .before .before .before .before .before .before .loop .inv, c .before .before .before .before .before .candidate .ensures, c .before .before .before .before .before .before .before .before .before .before .before .before .before .before .before .before .before .before .pre)
 
 -- src/lib.rt:240:28
 candidates-enum-known-one-2 : (t : ℕ) → candidates-lts.Need-enum-known-one-2 (candidates-calls t) (candidates-at t) candidates.Post candidates-Inv-loop candidates-μ-loop
@@ -233,15 +233,15 @@ candidates-add-next-id t c = omega arith
 
 -- src/lib.rt:245:9
 candidates-next-id-requires-2 : (t : ℕ) → candidates-lts.Need-next-id-requires-2 (candidates-calls t) (candidates-at t) candidates.Post candidates-Inv-loop candidates-μ-loop
-candidates-next-id-requires-2 t c κs = (search (needs, searching-indexed, c .before .before .before .before .before .before .before .before .before .before .before .before .before .before .before .before .before .pre), (search (needs, searching-long, c .before .before .before .before .before .before .before .before .before .before .before .before .before .before .before .before .before .pre), (search (needs, few-impls, c .before .before .before .before .before .before .before .before .before .before .before .before .before .before .before .before .before .pre), (omega (arith, c .before .before .before .before .before .before .before .before .before .before .before .before .find-candidates .ensures .few), omega (arith, c .before .before .before .before .before .before .before .before .before .before .before .before .find-candidates .ensures .flag, c .before .before .before .before .before .before .before .before .before .before .before .before .before .before .before .before .before .pre)))))
+candidates-next-id-requires-2 t c κs = (search (needs, searching-indexed, c .before .before .before .before .before .before .before .before .before .before .before .before .before .before .before .before .before .before .pre), (search (needs, searching-long, c .before .before .before .before .before .before .before .before .before .before .before .before .before .before .before .before .before .before .pre), (search (needs, few-impls, c .before .before .before .before .before .before .before .before .before .before .before .before .before .before .before .before .before .before .pre), (omega (arith, c .before .before .before .before .before .before .before .before .before .before .before .before .before .find-candidates .ensures .few), omega (arith, c .before .before .before .before .before .before .before .before .before .before .before .before .before .find-candidates .ensures .flag, c .before .before .before .before .before .before .before .before .before .before .before .before .before .before .before .before .before .before .pre)))))
 
 -- src/lib.rt:234:5
 candidates-loop-less : (t : ℕ) → candidates-lts.Need-loop-less (candidates-calls t) (candidates-at t) candidates.Post candidates-Inv-loop candidates-μ-loop
-candidates-loop-less t c = search (needs, trying-less, c .next-id2 .ensures, c .before .before .before .before .before .before .before .before .loop-test .taken)
+candidates-loop-less t c = search (needs, trying-less, c .next-id2 .ensures, c .before .before .before .before .before .before .before .before .before .loop-test .taken)
 
 -- src/lib.rt:234:5
 candidates-loop-again : (t : ℕ) → candidates-lts.Need-loop-again (candidates-calls t) (candidates-at t) candidates.Post candidates-Inv-loop candidates-μ-loop
-candidates-loop-again t c = trying-on _ _ _ _ _ _ _ _ _ _ (c .before .before .before .before .before .before .before .before .before .before .before .before .before .before .before .before .before .before .pre .1 .0) (c .before .before .before .before .before .before .before .before .before .before .before .before .before .find-candidates .ensures) _ _ _ _ (c .before .before .before .before .before .before .before .before .before .loop .inv) (c .before .before .before .before .before .before .before .before .before .before .before .before .before .before .before .before .before .before .pre .1 .1 .0 .packed) (c .before .before .before .before .before .before .before .before .loop-test .taken) _ _ (c .before .before .before .before .before .before .candidate .ensures) _ _ _ (c .before .before .one2 .given .1) (c .next-id2 .ensures)
+candidates-loop-again t c = trying-on _ _ _ _ _ _ _ _ _ _ (c .before .before .before .before .before .before .before .before .before .before .before .before .before .before .before .before .before .before .before .pre .1 .0) (c .before .before .before .before .before .before .before .before .before .before .before .before .before .before .find-candidates .ensures) _ _ _ _ (c .before .before .before .before .before .before .before .before .before .before .loop .inv) (c .before .before .before .before .before .before .before .before .before .before .before .before .before .before .before .before .before .before .before .pre .1 .1 .0 .packed) (c .before .before .before .before .before .before .before .before .before .loop-test .taken) _ _ (c .before .before .before .before .before .before .candidate .ensures) _ _ _ (c .before .before .one2 .given .1) (c .next-id2 .ensures)
 
 -- src/lib.rt:204:1
 candidates-same-length-3 : (t : ℕ) → candidates-lts.Need-same-length-3 (candidates-calls t) (candidates-at t) candidates.Post candidates-Inv-loop candidates-μ-loop
