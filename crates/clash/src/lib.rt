@@ -325,7 +325,7 @@ fn settle(sheet: &[u32], places: &[u32], links: &mut [u32; 2048], x: u32) -> u32
 }
 
 // Links x to y, and queues the pair; nothing where the queue is full.
-fn put(links: &mut [u32; 2048], queue: &mut [u32; 516], end: usize, x: u32, y: u32) -> usize
+fn put(links: &mut [u32; 2048], queue: &mut [u32; 517], end: usize, x: u32, y: u32) -> usize
     ensures { λ r. ⌜ Puts (now (links .entry)) (now (queue .entry)) end x y (now (links .exit)) (now (queue .exit)) r ⌝ }
 {
     if end >= QUEUE {
@@ -376,7 +376,7 @@ fn sided_near(sheet: &[u32], k: u32, d: u32) -> bool
 }
 
 // Whether the self-dual mark of id d may be looked for: as long as few links were gone in this test. They are counted.
-fn may_look(queue: &mut [u32; 516], end: usize, d: u32) -> bool
+fn may_look(queue: &mut [u32; 517], end: usize, d: u32) -> bool
     ensures { λ _. ⌜ Aside (now (queue .entry)) end (now (queue .exit)) ⌝ }
 {
     if d >= NEAR {
@@ -402,7 +402,7 @@ fn is_marked(k: u32) -> bool {
 }
 
 // Whether a kind and id is surely not its own inverse; of Structs and Unions, nothing is said where the mark may not be looked for.
-fn sided_once(sheet: &[u32], queue: &mut [u32; 516], end: usize, k: u32, d: u32) -> bool
+fn sided_once(sheet: &[u32], queue: &mut [u32; 517], end: usize, k: u32, d: u32) -> bool
     ensures { λ r. ⌜ Decides (now (sheet .entry)) (now (queue .entry)) end k d (now (queue .exit)) r ⌝ }
 {
     if is_marked(k) {
@@ -415,7 +415,7 @@ fn sided_once(sheet: &[u32], queue: &mut [u32; 516], end: usize, k: u32, d: u32)
 }
 
 // A type and its inverse, which are the same: queued, so that its children are met with their own inverses, unless that was done.
-fn mirror(queue: &mut [u32; 516], end: usize, x: u32, y: u32) -> usize
+fn mirror(queue: &mut [u32; 517], end: usize, x: u32, y: u32) -> usize
     ensures { λ r. ⌜ Queues (now (queue .entry)) end x y (now (queue .exit)) r ⌝ }
 {
     if end >= QUEUE {
@@ -436,7 +436,7 @@ fn mirror(queue: &mut [u32; 516], end: usize, x: u32, y: u32) -> usize
 fn meet_inverted(
     sheet: &[u32],
     links: &mut [u32; 2048],
-    queue: &mut [u32; 516],
+    queue: &mut [u32; 517],
     end: usize,
     x: u32,
     y: u32,
@@ -460,7 +460,7 @@ fn meet_known(
     places: &[u32],
     ws: &[u32],
     links: &mut [u32; 2048],
-    queue: &mut [u32; 516],
+    queue: &mut [u32; 517],
     end: usize,
     x: u32,
     y: u32,
@@ -487,7 +487,7 @@ fn meet_known(
 }
 
 // Counts an unknown that is linked, up to 127 and then from 0 on again.
-fn count_bound(queue: &mut [u32; 516], end: usize)
+fn count_bound(queue: &mut [u32; 517], end: usize)
     ensures { λ _. ⌜ Aside (now (queue .entry)) end (now (queue .exit)) ⌝ }
 {
     if end < QUEUE {
@@ -501,7 +501,7 @@ fn meet_roots(
     places: &[u32],
     ws: &[u32],
     links: &mut [u32; 2048],
-    queue: &mut [u32; 516],
+    queue: &mut [u32; 517],
     end: usize,
     x: u32,
     y: u32,
@@ -532,7 +532,7 @@ fn meet_found(
     places: &[u32],
     ws: &[u32],
     links: &mut [u32; 2048],
-    queue: &mut [u32; 516],
+    queue: &mut [u32; 517],
     end: usize,
     a: u32,
     b: u32,
@@ -553,7 +553,7 @@ fn meet(
     places: &[u32],
     ws: &[u32],
     links: &mut [u32; 2048],
-    queue: &mut [u32; 516],
+    queue: &mut [u32; 517],
     end: usize,
     a: u32,
     b: u32,
@@ -576,7 +576,7 @@ fn meet_all(
     places: &[u32],
     ws: &[u32],
     links: &mut [u32; 2048],
-    queue: &mut [u32; 516],
+    queue: &mut [u32; 517],
     end: usize,
     xs: Row,
     ys: Row,
@@ -617,7 +617,7 @@ fn meet_record(
     sheet: &[u32],
     ws: &[u32],
     links: &mut [u32; 2048],
-    queue: &mut [u32; 516],
+    queue: &mut [u32; 517],
     end: usize,
     x: u32,
     y: u32,
@@ -652,7 +652,7 @@ fn meet_new(
     places: &[u32],
     ws: &[u32],
     links: &mut [u32; 2048],
-    queue: &mut [u32; 516],
+    queue: &mut [u32; 517],
     end: usize,
     x: u32,
     y: u32,
@@ -677,7 +677,7 @@ fn meet_cell(
     places: &[u32],
     ws: &[u32],
     links: &mut [u32; 2048],
-    queue: &mut [u32; 516],
+    queue: &mut [u32; 517],
     end: usize,
     x: u32,
     y: u32,
@@ -691,7 +691,7 @@ fn meet_cell(
 }
 
 // Keeps that child j of the pair in hand was met.
-fn count_met(queue: &mut [u32; 516], end: usize, j: usize)
+fn count_met(queue: &mut [u32; 517], end: usize, j: usize)
     ensures { λ _. ⌜ Aside (now (queue .entry)) end (now (queue .exit)) ⌝ }
 {
     if end <= QUEUE {
@@ -705,7 +705,7 @@ fn meet_cells(
     places: &[u32],
     ws: &[u32],
     links: &mut [u32; 2048],
-    queue: &mut [u32; 516],
+    queue: &mut [u32; 517],
     end: usize,
     head: usize,
     y: u32,
@@ -759,7 +759,7 @@ fn meet_across(
     places: &[u32],
     ws: &[u32],
     links: &mut [u32; 2048],
-    queue: &mut [u32; 516],
+    queue: &mut [u32; 517],
     end: usize,
     x: u32,
     y: u32,
@@ -800,7 +800,7 @@ fn meet_across(
 }
 
 // Whether the ref of a type is marked in the queue as queued with its own inverse.
-fn is_mirrored(queue: &[u32; 516], x: u32) -> bool {
+fn is_mirrored(queue: &[u32; 517], x: u32) -> bool {
     queue[QUEUE + words::wide(x / 2 % 256)] == x / 2 + 1
 }
 
@@ -810,7 +810,7 @@ fn meet_mirrored(
     places: &[u32],
     ws: &[u32],
     links: &mut [u32; 2048],
-    queue: &mut [u32; 516],
+    queue: &mut [u32; 517],
     end: usize,
     xs: Row,
 ) -> usize
@@ -838,7 +838,7 @@ fn meet_rows(
     places: &[u32],
     ws: &[u32],
     links: &mut [u32; 2048],
-    queue: &mut [u32; 516],
+    queue: &mut [u32; 517],
     end: usize,
     x: u32,
     y: u32,
@@ -873,7 +873,7 @@ fn meet_children(
     places: &[u32],
     ws: &[u32],
     links: &mut [u32; 2048],
-    queue: &mut [u32; 516],
+    queue: &mut [u32; 517],
     end: usize,
     x: u32,
     y: u32,
@@ -935,14 +935,14 @@ fn note_mask(notes: &mut [u32; 512], key: u32, mask: u32) {
 }
 
 // Notes that a pair that is done is to be passed over, if no unknown was linked since its children were met.
-fn note(places: &[u32], queue: &[u32; 516], notes: &mut [u32; 512], pair: u32) {
+fn note(places: &[u32], queue: &[u32; 517], notes: &mut [u32; 512], pair: u32) {
     if pair / VISITED == queue[BOUND] % 128 + 1 {
         note_mask(notes, key_of(places, pair), 0);
     }
 }
 
 // Notes which children of a pair of a record and a node were met, if any was, all having been to be.
-fn note_met(queue: &[u32; 516], notes: &mut [u32; 512], key: u32, pair: u32) {
+fn note_met(queue: &[u32; 517], notes: &mut [u32; 512], key: u32, pair: u32) {
     if queue[ONLY] != ALL {
         return;
     }
@@ -963,7 +963,7 @@ fn visit(
     places: &[u32],
     ws: &[u32],
     links: &mut [u32; 2048],
-    queue: &mut [u32; 516],
+    queue: &mut [u32; 517],
     notes: &mut [u32; 512],
     end: usize,
 ) -> usize
@@ -996,7 +996,7 @@ fn run(
     places: &[u32],
     ws: &[u32],
     links: &mut [u32; 2048],
-    queue: &mut [u32; 516],
+    queue: &mut [u32; 517],
     notes: &mut [u32; 512],
     n: usize,
 ) -> bool
@@ -1033,7 +1033,7 @@ fn meet_args(
     places: &[u32],
     ws: &[u32],
     links: &mut [u32; 2048],
-    queue: &mut [u32; 516],
+    queue: &mut [u32; 517],
     p: Query,
     q: Query,
 ) -> usize
@@ -1068,7 +1068,7 @@ fn clash_args(
     ensures { λ r. ⌜ Clashing (now (sheet .entry)) (now (places .entry)) (now (ws .entry)) p q r ⌝ }
 {
     let mut links = [0u32; 2048];
-    let mut queue = [0u32; 516];
+    let mut queue = [0u32; 517];
     let n = meet_args(sheet, places, ws, &mut links, &mut queue, p, q);
     if n == CLASH {
         return true;
