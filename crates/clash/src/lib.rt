@@ -65,7 +65,7 @@ const ALL: u32 = 511;
 // A pair whose children were met stays in the queue until all below it is done, marked: this, times one more than that count was, is added to it.
 const VISITED: u32 = 16777216;
 
-// A pair noted has its key at that modulo 251, and the children that are to be met so many words behind it.
+// The key of a pair noted stands at its place, itself modulo 251; the children that are to be met stand so many words behind it.
 const MASKS: usize = 251;
 
 // These words of the notes say whether one was used for the last candidate tested, and whether none is to be used.
@@ -941,7 +941,7 @@ fn note(places: &[u32], queue: &[u32; 517], notes: &mut [u32; 512], pair: u32) {
     }
 }
 
-// Notes which children of a pair of a record and a node were met, if any was, all having been to be.
+// Notes which children of a pair of a record and a node were met, if all were to be, and any was.
 fn note_met(queue: &[u32; 517], notes: &mut [u32; 512], key: u32, pair: u32) {
     if queue[ONLY] != ALL {
         return;
