@@ -73,6 +73,7 @@ pub mod SubQuestions
 pub mod CommonTerms
 pub mod CommonSides
 pub mod ErrorsApart
+pub mod Labels
 pub mod SignedTerms
 pub mod CallKeeps
 pub mod ResultLimits
