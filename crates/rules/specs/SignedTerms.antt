@@ -679,7 +679,20 @@ module _ (s : Words) (ts : Types) (υ : SignedSol) (g : ℕ → Bool → ℕ →
     unfolding signed-reading signed-of value rep
     read-up n h = ap (turned s ((node-at ts n) .up .0)) (shape-same (signed-of (δ n)) signed-reading n h (level n) (state-at ts (rep ts n)) refl ∙ sym (read-root n h))
 
--- A well-formed, readable table with upright roots has a solution with sides, its unknowns left free.
+-- The side that stands first in a term.
+unfoldable side-of : Signed → Bool
+side-of (svar n b) = b
+side-of (scon b k d t) = b
+side-of snil = false
+side-of (scons t u) = false
+
+-- An unknown, inverted or not, is not its own inverse.
+unknown-turns : (s : Words) (b : Bool) (r : ℕ) → inverse s (turned s b (svar r false)) ≢ turned s b (svar r false)
+unfolding inverse turned side-of
+unknown-turns s true r q = true≢false (sym (ap side-of q))
+unknown-turns s false r q = true≢false (ap side-of q)
+
+-- A well-formed, readable table with upright roots has a solution with sides, its unknowns left free: none of them is its own inverse.
 module _ (s : Words) (ν : ℕ → ℕ) (ts : Types) (formed : WellFormed ts) (free : Readable ts) (upright : RootsUpright ts) where
   abbrev labelled : ℕ → Bool → ℕ → ℕ → Signed → Signed
   labelled r i k d t = made s i k (label ν k d r) t
@@ -687,9 +700,19 @@ module _ (s : Words) (ν : ℕ → ℕ) (ts : Types) (formed : WellFormed ts) (f
   abbrev free-signed : SignedSol
   free-signed = signed-reading s ts (λ r. svar r false) labelled formed upright (rank ts) (readable-ranked ts formed free)
 
-  pub has-signed : (θ : SignedSol) × SignedSolves s ν ts θ
+  free-root : (n : ℕ) → n < length ts → free-signed (rep ts n) ≡ shape s ts (λ r. svar r false) labelled free-signed (rep ts n) (state-at ts (rep ts n))
+  free-root = read-root s ts (λ r. svar r false) labelled formed upright (rank ts) (readable-ranked ts formed free)
+
+  free-up : (n : ℕ) → n < length ts → free-signed n ≡ value s free-signed ((node-at ts n) .up)
+  free-up = read-up s ts (λ r. svar r false) labelled formed upright (rank ts) (readable-ranked ts formed free)
+
+  free-turns : (n : ℕ) → n < length ts → state-at ts (rep ts n) ≡ unknown → inverse s (free-signed n) ≢ free-signed n
+  unfolding shape value rep
+  free-turns n h q = subst (λ t. inverse s t ≢ t) (sym (free-up n h ∙ ap (turned s ((node-at ts n) .up .0)) (free-root n h ∙ ap (shape s ts (λ r. svar r false) labelled free-signed (rep ts n)) q))) (unknown-turns s ((node-at ts n) .up .0) (rep ts n))
+
+  pub has-signed : (θ : SignedSol) × SignedSolves s ν ts θ × ((n : ℕ) → n < length ts → state-at ts (rep ts n) ≡ unknown → inverse s (θ n) ≢ θ n)
   unfolding shape
-  has-signed = (free-signed, λ n h. (read-up s ts (λ r. svar r false) labelled formed upright (rank ts) (readable-ranked ts formed free) n h, go (rep ts n) (state-at ts (rep ts n)) (read-root s ts (λ r. svar r false) labelled formed upright (rank ts) (readable-ranked ts formed free) n h)))
+  has-signed = (free-signed, λ n h. (free-up n h, go (rep ts n) (state-at ts (rep ts n)) (free-root n h)), free-turns)
     where
       go : (r : ℕ) (st : TypeState) → free-signed r ≡ shape s ts (λ m. svar m false) labelled free-signed r st → SignedFits s ν free-signed r st
       go r unknown e = tt
@@ -1034,7 +1057,7 @@ module _ (s : Words) (ts : Types) (q : ImplType) (neat : Neat ts) (inside : AllI
       beyond : ℕ
       beyond = length (m .1)
 
-      h : (θ : SignedSol) × SignedSolves s ν (m .1) θ
+      h : (θ : SignedSol) × SignedSolves s ν (m .1) θ × ((n : ℕ) → n < length (m .1) → state-at (m .1) (rep (m .1) n) ≡ unknown → inverse s (θ n) ≢ θ n)
       h = has-signed s ν (m .1) (j .neat .proper .formed) (j .neat .proper .kept) (j .neat .upright)
 
       σ : SignedSol
