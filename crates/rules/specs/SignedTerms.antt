@@ -725,7 +725,7 @@ record SignedFollows (s : Words) (μ : ℕ → ℕ) (src : Types) (ps : Option (
   plain : (r : ℕ) (i : Bool) (k d : ℕ) (cs : List Ty) → r < length src → param-for ps (state-at src r) ≡ none → state-at src r ≡ known i k d cs → τ r ≡ made s i k (label μ k d r) (values s τ cs)
 
 -- Where parameters are given, a Param is what was given for it.
-unfoldable signed-given : Words → List Ty → SignedSol → SignedSol
+unfoldable pub signed-given : Words → List Ty → SignedSol → SignedSol
 signed-given s ps σ d = value s σ (getD ps d (false, 0))
 
 given-follows : (s : Words) (μ : ℕ → ℕ) (src : Types) (ps : List Ty) (σ τ : SignedSol) → SignedReads s μ src (signed-given s ps σ) τ → SignedFollows s μ src (some ps) σ τ
@@ -981,6 +981,12 @@ signed-first s ν ts us σ formed l same sv n h =
     let w = sv n (le-trans h l) in
     (w .0 ∙ ap (λ (x : TypeNode). value s σ (x .up)) (same n h), subst (λ (k : ℕ). SignedFits s ν σ k (state-at ts (rep ts n))) r (subst (SignedFits s ν σ (rep us n)) st (w .1)))
 
+-- The same in a solution of the table us that their join leaves: what is unknown there is not its own inverse, and Params are as π says of that solution.
+pub record SignedJoined (s : Words) (ts src : Types) (xs ys : List Ty) (us : Types) (π : SignedSol → SignedSol) : Type 0 where
+  pub common : SignedCommon s ts src xs ys
+  pub free : (n : ℕ) → n < length us → state-at us (rep us n) ≡ unknown → inverse s (common .σ n) ≢ common .σ n
+  pub given : (d : ℕ) → common .π d ≡ π (common .σ) d
+
 -- Where an import behind table ts unifies with a question of it, there are terms with sides that both are.
 module _ (s : Words) (ts : Types) (q : ImplType) (neat : Neat ts) (inside : AllIn (length ts) (q .1)) (src : Types) (tidy : Neat src) (flat : (n : ℕ) → n < length src → rep src n ≡ n) (ps : Option (List Ty)) (dst : Types) (more : length ts ≤ length dst) (first : (n : ℕ) → n < length ts → node-at dst n ≡ node-at ts n) (p : ImplType) (into : AllIn (length src) (p .1)) where
   abbrev come-in : ImplType × Types
@@ -1019,21 +1025,9 @@ module _ (s : Words) (ts : Types) (q : ImplType) (neat : Neat ts) (inside : AllI
   unfolding import-impl-type import-types
   new-error r u e = import-came src ps (p .1) dst r u e .2
 
-  import-signed : Brought dst (come-in .0 .1) (come-in .1) → (π : SignedSol → SignedSol) → ((μ : ℕ → ℕ) (σ τ : SignedSol) → SignedReads s μ src (π σ) τ → SignedFollows s μ src ps σ τ) → (unify-impl-type s (come-in .1) (come-in .0) q) .0 ≡ success → SignedCommon s ts src (p .1) (q .1)
+  import-signed : Brought dst (come-in .0 .1) (come-in .1) → (π : SignedSol → SignedSol) → ((μ : ℕ → ℕ) (σ τ : SignedSol) → SignedReads s μ src (π σ) τ → SignedFollows s μ src ps σ τ) → (unify-impl-type s (come-in .1) (come-in .0) q) .0 ≡ success → SignedJoined s ts src (p .1) (q .1) ((unify-impl-type s (come-in .1) (come-in .0) q) .1) π
   unfolding import-impl-type
-  import-signed b π follow won = record {
-    σ = σ;
-    name = ν;
-    solves = signed-first s ν ts (w .1) σ (neat .proper .formed) long (λ k l. import-first s src tidy flat ps dst (p .1) into ν beyond σ (π σ) k (le-trans l more) ∙ first k l) (r .0);
-    π = π σ;
-    τ = τ;
-    called = μ;
-    reads = reads;
-    same = sym (import-reads s src tidy flat ps dst (p .1) into ν beyond σ (π σ) (follow μ σ τ reads) (r .0)) ∙ r .1;
-    apart = λ x y hx hy rx ry ex ey e. distinct x y (le-trans hx long) (le-trans hy long) (old-root x hx rx) (old-root y hy ry) (old-error x hx ex) (old-error y hy ey) e;
-    apart-source = λ x y hx hy ex ey e. of-source x y ex ey e (went-to x) refl (went-to y) refl;
-    apart-both = λ x y hx hy ry ex ey e. of-both x y hy ry ex ey e (went-to x) refl;
-  }
+  import-signed b π follow won = record { common = both; free = h .2; given = λ d. refl }
     where
       w : ImplType × Types
       w = come-in
@@ -1104,13 +1098,31 @@ module _ (s : Words) (ts : Types) (q : ImplType) (neat : Neat ts) (inside : AllI
           lt-irrefl y (omega (arith, new-low x u eu, same))
       of-both x y hy ry ex ey e none eu = lt-irrefl beyond (omega (arith, below y (le-trans hy long), e, away x eu))
 
--- Where a candidate's signature unifies with the question, there are terms with sides that both are: the question in a solution of its table, the signature by some choice for its parameters.
-pub candidate-signed : (a : Finder) (w₀ : Words) → Ready a w₀ → (ts : Types) (q : ImplType) → Neat ts → AllIn (length ts) (q .1) → (i : ℕ) → i < many (a .sheet) header·impls → (met (a .sheet) ts q i) .0 ≡ success → SignedCommon (a .sheet) ts ((impl-signature (a .sheet) i) .0) ((impl-signature (a .sheet) i) .1 .1) (q .1)
+      both : SignedCommon s ts src (p .1) (q .1)
+      both = record {
+        σ = σ;
+        name = ν;
+        solves = signed-first s ν ts (w .1) σ (neat .proper .formed) long (λ k l. import-first s src tidy flat ps dst (p .1) into ν beyond σ (π σ) k (le-trans l more) ∙ first k l) (r .0);
+        π = π σ;
+        τ = τ;
+        called = μ;
+        reads = reads;
+        same = sym (import-reads s src tidy flat ps dst (p .1) into ν beyond σ (π σ) (follow μ σ τ reads) (r .0)) ∙ r .1;
+        apart = λ x y hx hy rx ry ex ey e. distinct x y (le-trans hx long) (le-trans hy long) (old-root x hx rx) (old-root y hy ry) (old-error x hx ex) (old-error y hy ey) e;
+        apart-source = λ x y hx hy ex ey e. of-source x y ex ey e (went-to x) refl (went-to y) refl;
+        apart-both = λ x y hx hy ry ex ey e. of-both x y hy ry ex ey e (went-to x) refl;
+      }
+
+-- Where a candidate's signature unifies with the question, there are terms with sides that both are: the question in a solution of its table, the signature by the fresh unknowns for its parameters.
+pub candidate-joined : (a : Finder) (w₀ : Words) → Ready a w₀ → (ts : Types) (q : ImplType) → Neat ts → AllIn (length ts) (q .1) → (i : ℕ) → i < many (a .sheet) header·impls → (met (a .sheet) ts q i) .0 ≡ success → SignedJoined (a .sheet) ts ((impl-signature (a .sheet) i) .0) ((impl-signature (a .sheet) i) .1 .1) (q .1) ((met (a .sheet) ts q i) .1) (signed-given (a .sheet) (fresh-params ts (fresh-count (a .sheet) i)))
 unfolding impl-signature
-candidate-signed a w₀ ready ts q neat inside i h won =
+candidate-joined a w₀ ready ts q neat inside i h won =
     let n = fresh-count (a .sheet) i in
     import-signed (a .sheet) ts q neat inside ((impl-signature (a .sheet) i) .0) (signature-neat a w₀ ready i h) (table-flat (a .sheet) (impl-table (a .sheet) i)) (some (fresh-params ts n)) (with-fresh ts n) (omega (arith, fresh-length ts n)) (fresh-first ts n)
     ((impl-signature (a .sheet) i) .1) (signature-in a w₀ ready i h) (signature-brought a w₀ ready ts q neat inside i h) (signed-given (a .sheet) (fresh-params ts n)) (λ μ. given-follows (a .sheet) μ ((impl-signature (a .sheet) i) .0) (fresh-params ts n)) won
+
+pub candidate-signed : (a : Finder) (w₀ : Words) → Ready a w₀ → (ts : Types) (q : ImplType) → Neat ts → AllIn (length ts) (q .1) → (i : ℕ) → i < many (a .sheet) header·impls → (met (a .sheet) ts q i) .0 ≡ success → SignedCommon (a .sheet) ts ((impl-signature (a .sheet) i) .0) ((impl-signature (a .sheet) i) .1 .1) (q .1)
+candidate-signed a w₀ ready ts q neat inside i h won = candidate-joined a w₀ ready ts q neat inside i h won .common
 
 -- So are there where an impl parameter of the caller's generics unifies with the question: its Params are types of their own.
 pub param-signed : (a : Finder) (w₀ : Words) → Ready a w₀ → (ts : Types) (q : ImplType) → Neat ts → AllIn (length ts) (q .1) → (p : ImplType) → AllIn (length ((impl-params (a .sheet) (a .generics)) .0)) (p .1) → (unify-impl-type (a .sheet) ((import-impl-type ((impl-params (a .sheet) (a .generics)) .0) none p ts) .1) ((import-impl-type ((impl-params (a .sheet) (a .generics)) .0) none p ts) .0) q) .0 ≡ success → SignedCommon (a .sheet) ts ((impl-params (a .sheet) (a .generics)) .0) (p .1) (q .1)
@@ -1119,4 +1131,4 @@ param-signed a w₀ ready ts q neat inside p into won =
     let src = (impl-params (a .sheet) (a .generics)) .0 in
     let tidy = impl-params-neat a w₀ ready (a .generics) (ready .generics) in
     import-signed (a .sheet) ts q neat inside src tidy (table-flat (a .sheet) (generics-table (a .sheet) (a .generics))) none ts (le-refl _) (λ k l. refl)
-    p into (query-brought src tidy none ts neat (low-none ts) p into) (λ σ. signed-itself (a .sheet)) (λ μ. none-follows (a .sheet) μ src (params-bare a w₀ ready)) won
+    p into (query-brought src tidy none ts neat (low-none ts) p into) (λ σ. signed-itself (a .sheet)) (λ μ. none-follows (a .sheet) μ src (params-bare a w₀ ready)) won .common
