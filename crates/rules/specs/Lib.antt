@@ -74,6 +74,8 @@ pub mod CommonTerms
 pub mod CommonSides
 pub mod ErrorsApart
 pub mod SignedTerms
+pub mod Labels
+pub mod LabelsCome
 pub mod CallKeeps
 pub mod ResultLimits
 pub mod AnswerSize
