@@ -29,12 +29,13 @@ pub record LabelsMeet (src : Types) (ps : Option (List Ty)) (dst : Types) (g f :
   pub source : (a b : ℕ) → a < length src → b < length src → param-for ps (state-at src a) ≡ none → param-for ps (state-at src b) ≡ none → g a ≡ g b → (i j : Bool) (k d k′ d′ : ℕ) (cs ds : List Ty) → state-at src a ≡ known i k d cs → state-at src b ≡ known j k′ d′ ds → labels g cs ≡ labels g ds
   pub both : (a b : ℕ) → a < length src → b < length dst → param-for ps (state-at src a) ≡ none → rep dst b ≡ b → g a ≡ f b → (i j : Bool) (k d k′ d′ : ℕ) (cs ds : List Ty) → state-at src a ≡ known i k d cs → state-at dst b ≡ known j k′ d′ ds → labels g cs ≡ labels f ds
 
--- Labels of the table that an import leaves: those of its first nodes are as before, what came has those of its source, and a label that nothing known had, but for Params, nothing known has.
+-- Labels of the table that an import leaves: those of its first nodes are as before, what came has those of its source, as the roots that went there have, and a label that nothing known had, but for Params, nothing known has.
 pub record LabelsCome (src : Types) (ps : Option (List Ty)) (dst : Types) (g f : ℕ → ℕ) (xs : List Ty) (res : List Ty × Transfer) : Type 0 where
   pub by : ℕ → ℕ
   pub old : (n : ℕ) → n < length dst → by n ≡ f n
   pub nodes : Labels by (res .1 .1)
   pub came : labels by (res .0) ≡ labels g xs
+  pub went : (r : ℕ) (u : Ty) → mapped (res .1 .0) r ≡ some u → (u .1 < length (res .1 .1)) × (by (u .1) ≡ g r)
   pub unheld : (l : ℕ) → Unheld f dst l → ((r : ℕ) → r < length src → param-for ps (state-at src r) ≡ none → g r ≡ l → state-at src r ≡ unknown) → Unheld by (res .1 .1) l
 
 -- Labels that agree on the nodes of a table agree on its types.
@@ -297,6 +298,7 @@ labels-come src tidy flat ps dst gd g f meet xs inside = record {
   old = a .more .agree;
   nodes = left-labels src formed flat (rank src) ranked ps dst g f meet gd _ frame (a .by) (a .more .holds);
   came = a .label;
+  went = a .more .holds .went;
   unheld = left-unheld src formed flat (rank src) ranked ps dst g f meet gd _ frame (a .by) (a .more .holds);
 }
   where

@@ -3,7 +3,7 @@ use Prim.Native.Nat.{ℕ, zero, suc, _+_, _-_, _<_, _≤_}
 use mathlib.Core.Path.{_≡_, refl, sym, _∙_, ap, subst}
 use mathlib.Core.Bool.{Bool, true, false}
 use mathlib.Core.List.{List, [], map}
-use mathlib.Core.Option.{none, some, Option·none-ne-some, Option·some-injective}
+use mathlib.Core.Option.{Option, none, some, Option·none-ne-some, Option·some-injective}
 use mathlib.Core.Logic.{_≢_, ⊎-elim}
 use native.Mathlib.Nat.{not-suc-le-zero, lt-irrefl}
 use native.Mathlib.Omega.{arith}
@@ -14,7 +14,7 @@ use Rattle.rules.specs.Lists.{Words, range}
 use Rattle.rules.specs.Layout.{header·impls, kind·param}
 use Rattle.rules.specs.Sheet.{many, impl-table}
 use Rattle.rules.specs.Types.{Ty, TypeState, unknown, known, TypeNode, Types, new-node, node-at, invert-if, state-at, success, ImplType}
-use Rattle.rules.specs.Transfer.{param-for, transfer-types, import-types, import-impl-type, new-nodes}
+use Rattle.rules.specs.Transfer.{mapped, param-for, transfer-types, import-types, import-impl-type, new-nodes}
 use Rattle.rules.specs.Search.{Finder, impl-signature, fresh-params, with-fresh}
 use Rattle.rules.specs.Solutions.{rep, AllIn, ChildrenIn, WellFormed, eqb-true, known≢}
 use Rattle.rules.specs.Pigeonholes.{lt-or}
@@ -25,7 +25,7 @@ use Rattle.rules.specs.SearchKeeps.{fresh-count, signed, met, signature-
 use Rattle.rules.specs.CommonTerms.{fresh-first}
 use Rattle.rules.specs.Labels.{labels, Labels, Unheld, impl-type-labels}
 use Rattle.rules.specs.LabelsCome.{LabelsMeet, LabelsCome, labels-same, labels-come}
-use Rattle.rules.specs.SignedTerms.{inverse, turned, value, SignedCommon, SignedJoined, signed-given, candidate-joined}
+use Rattle.rules.specs.SignedTerms.{Signed, svar, inverse, inverse-twice, turned, value, SignedSuits, SignedCommon, SignedJoined, signed-given, candidate-joined}
 
 -- Labels by which a source's types xs and a table's types ys are alike: f of the table's nodes, g of the source's and π of its parameters. A Param is labelled as its parameter, and the children of two known types of one label are alike, be they of the table or, but for Params, of the source.
 pub record Alike (ts src : Types) (xs ys : List Ty) (f g π : ℕ → ℕ) : Type 0 where
@@ -40,11 +40,12 @@ pub record Loose (ts src : Types) (f g : ℕ → ℕ) (l : ℕ) : Type 0 where
   pub table : Unheld f ts l
   pub source : (r : ℕ) → r < length src → g r ≡ l → (i : Bool) (k d : ℕ) (cs : List Ty) → state-at src r ≡ known i k d cs → k ≡ kind·param
 
--- What a source of n parameters and a table have in common, and what is loose: a node of the table, or a parameter, whose label nothing known has is not its own inverse.
+-- What a source of n parameters and a table have in common, and what is loose: a node of the table or of the source, or a parameter, whose label nothing known has is not its own inverse.
 pub record SignedLoose (s : Words) (ts src : Types) (n : ℕ) (xs ys : List Ty) : Type 0 where
   pub common : SignedCommon s ts src xs ys
   pub node : (f g π : ℕ → ℕ) → Alike ts src xs ys f g π → (k : ℕ) → k < length ts → Loose ts src f g (f k) → inverse s (common .σ k) ≢ common .σ k
   pub param : (f g π : ℕ → ℕ) → Alike ts src xs ys f g π → (d : ℕ) → d < n → Loose ts src f g (π d) → inverse s (common .π d) ≢ common .π d
+  pub source : (f g π : ℕ → ℕ) → Alike ts src xs ys f g π → (r : ℕ) → r < length src → Loose ts src f g (g r) → inverse s (common .τ r) ≢ common .τ r
 
 -- Node n as a type, upright.
 abbrev upright : ℕ → Ty
@@ -189,6 +190,15 @@ module _ (ts src : Types) (n : ℕ) (formed : WellFormed ts) (below : (k : ℕ) 
       go unknown q = q
       go (known i k d cs) q = absurd (plain-kind (fresh-params ts n) (state-at src r) p i k d cs q (w .source r h e i k d cs q))
 
+-- What is not its own inverse is not so inverted; an upright unknown is not.
+turned-not : (s : Words) (b : Bool) (t : Signed) → inverse s t ≢ t → inverse s (turned s b t) ≢ turned s b t
+unfolding turned
+turned-not s true t n e = n (sym (sym (inverse-twice s t) ∙ e))
+turned-not s false t n e = n e
+
+upright-not : (r : ℕ) → svar r true ≢ svar r false
+upright-not r e = let z : _≡_ {A = ℕ} 0 1 = cc in absurd (omega arith)
+
 -- A candidate whose signature unifies with the question.
 module _ (a : Finder) (w₀ : Words) (ready : Ready a w₀) (ts : Types) (q : ImplType) (neat : Neat ts) (inside : AllIn (length ts) (q .1)) (i : ℕ) (h : i < many (a .sheet) header·impls) (won : (met (a .sheet) ts q i) .0 ≡ success) where
   abbrev n : ℕ
@@ -202,6 +212,10 @@ module _ (a : Finder) (w₀ : Words) (ready : Ready a w₀) (ts : Types) (q : Im
 
   abbrev us : Types
   us = (met (a .sheet) ts q i) .1
+
+  -- Where a node of the source went.
+  abbrev went-to : ℕ → Option Ty
+  went-to = mapped ((transfer-types src (some (fresh-params ts n)) xs ([], with-fresh ts n)) .1 .0)
 
   src-flat : (k : ℕ) → k < length src → rep src k ≡ k
   unfolding impl-signature
@@ -228,26 +242,63 @@ module _ (a : Finder) (w₀ : Words) (ready : Ready a w₀) (ts : Types) (q : Im
         impl-type-labels (a .sheet) (come .by) ((signed (a .sheet) ts i) .1) ((signed (a .sheet) ts i) .0) q (b .neat .proper .formed) (b .inside) (in-more (length ts) (length ((signed (a .sheet) ts i) .1)) (omega (arith, fresh-length ts n, b .grown)) (q .1) inside) (b .neat .proper .kept) won
         (come .nodes) (come .came ∙ alike .args ∙ sym asked)
 
-    -- A node whose label nothing known has is unknown when they have met.
-    stays-unknown : (k : ℕ) → k < length (with-fresh ts n) → Loose ts src f g (by-params k) → state-at us (rep us k) ≡ unknown
+    -- A node whose label nothing known has is unknown when they have met,
+    left-unknown : (l k : ℕ) → Loose ts src f g l → k < length us → come .by k ≡ l → state-at us (rep us k) ≡ unknown
     unfolding import-impl-type import-types
-    stays-unknown k l w =
-        let good = signature-met a w₀ ready ts q neat inside i h .neat .proper .formed k (on k l) in
-        let unheld = come .unheld (by-params k) (fresh-unheld ts src n (neat .proper .formed) (signature-below a w₀ ready i h) xs (q .1) f g π alike (by-params k) (w .table)) (loose-source ts src n (neat .proper .formed) (signature-below a w₀ ready i h) xs (q .1) f g π alike (by-params k) w) in
-        left .1 (by-params k) unheld .at (rep us k) (good .0) (good .1) (sym (left .0 .up k (on k l)) ∙ come .old k l)
+    left-unknown l k w b e =
+        let good = signature-met a w₀ ready ts q neat inside i h .neat .proper .formed k b in
+        let unheld = come .unheld l (fresh-unheld ts src n (neat .proper .formed) (signature-below a w₀ ready i h) xs (q .1) f g π alike l (w .table)) (loose-source ts src n (neat .proper .formed) (signature-below a w₀ ready i h) xs (q .1) f g π alike l w) in
+        left .1 l unheld .at (rep us k) (good .0) (good .1) (sym (left .0 .up k b) ∙ e)
+
+    -- be it one that was there,
+    stays-unknown : (k : ℕ) → k < length (with-fresh ts n) → Loose ts src f g (by-params k) → state-at us (rep us k) ≡ unknown
+    stays-unknown k l w = left-unknown (by-params k) k w (on k l) (come .old k l)
+
+    -- or one that came.
+    came-unknown : (r : ℕ) (u : Ty) → Loose ts src f g (g r) → went-to r ≡ some u → (u .1 < length us) × (state-at us (rep us (u .1)) ≡ unknown)
+    unfolding import-impl-type import-types
+    came-unknown r u w e =
+        let x = come .went r u e in
+        let b : u .1 < length us = omega (arith, x .0, signature-met a w₀ ready ts q neat inside i h .len) in
+        (b, left-unknown (g r) (u .1) w b (x .1))
+
+  module _ (c : SignedJoined (a .sheet) ts src xs (q .1) us (signed-given (a .sheet) (fresh-params ts n)) went-to) (f g π : ℕ → ℕ) (alike : Alike ts src xs (q .1) f g π) where
+    loose-param : (d : ℕ) → d < n → Loose ts src f g (π d) → inverse (a .sheet) (c .common .π d) ≢ c .common .π d
+    unfolding signed-given value turned
+    loose-param d l w =
+        let b : length ts + d < length (with-fresh ts n) = omega (arith, fresh-length ts n) in
+        subst (λ t. inverse (a .sheet) t ≢ t) (sym (c .given d ∙ ap (value (a .sheet) (c .common .σ)) (fresh-param ts n d l))) (c .free (length ts + d) (on (length ts + d) b) (stays-unknown f g π alike (length ts + d) b (subst (Loose ts src f g) (sym (label-after (length ts) f π d)) w)))
+
+    loose-unknown : (r : ℕ) → r < length src → state-at src r ≡ unknown → Loose ts src f g (g r) → inverse (a .sheet) (c .common .τ r) ≢ c .common .τ r
+    unfolding value inverse
+    loose-unknown r l e w = go (went-to r) refl
+      where
+        go : (o : Option Ty) → went-to r ≡ o → inverse (a .sheet) (c .common .τ r) ≢ c .common .τ r
+        go (some u) q = let x = came-unknown f g π alike r u w q in subst (λ t. inverse (a .sheet) t ≢ t) (sym (c .came r u l e q)) (turned-not (a .sheet) (u .0) (c .common .σ (u .1)) (c .free (u .1) (x .0) (x .1)))
+        go none q = subst (λ t. inverse (a .sheet) t ≢ t) (sym (c .left r l e q)) (λ z. upright-not r z)
+
+    -- A node of the source with a loose label is unknown, or a Param.
+    loose-node : (r : ℕ) → r < length src → Loose ts src f g (g r) → inverse (a .sheet) (c .common .τ r) ≢ c .common .τ r
+    loose-node r l w = go (state-at src r) refl
+      where
+        go : (st : TypeState) → state-at src r ≡ st → inverse (a .sheet) (c .common .τ r) ≢ c .common .τ r
+        go unknown e = loose-unknown r l e w
+        go (known o k d cs) e =
+            let kd : k ≡ kind·param = w .source r l refl o k d cs e in
+            let st : state-at src r ≡ known o kind·param d cs = e ∙ ap (λ x. known o x d cs) kd in
+            let is : c .common .τ r ≡ turned (a .sheet) o (c .common .π d) = subst (SignedSuits (a .sheet) (c .common .called) (c .common .π) (c .common .τ) r) st (c .common .reads r l) in
+            subst (λ t. inverse (a .sheet) t ≢ t) (sym is) (turned-not (a .sheet) o (c .common .π d) (loose-param d (subst (ParamBelow n) st (signature-below a w₀ ready i h r) refl) (subst (Loose ts src f g) (alike .param r o d cs l st) w)))
 
   -- There are terms with sides that both are, and what is loose is not its own inverse.
   pub candidate-loose : SignedLoose (a .sheet) ts src n xs (q .1)
-  unfolding signed-given value turned
   candidate-loose = record {
     common = c .common;
     node = λ f g π alike k l w.
         let b : k < length (with-fresh ts n) = omega (arith, fresh-length ts n) in
         c .free k (on k b) (stays-unknown f g π alike k b (subst (Loose ts src f g) (sym (label-first (length ts) f π k l)) w));
-    param = λ f g π alike d l w.
-        let b : length ts + d < length (with-fresh ts n) = omega (arith, fresh-length ts n) in
-        subst (λ t. inverse (a .sheet) t ≢ t) (sym (c .given d ∙ ap (value (a .sheet) (c .common .σ)) (fresh-param ts n d l))) (c .free (length ts + d) (on (length ts + d) b) (stays-unknown f g π alike (length ts + d) b (subst (Loose ts src f g) (sym (label-after (length ts) f π d)) w)));
+    param = loose-param c;
+    source = loose-node c;
   }
     where
-      c : SignedJoined (a .sheet) ts src xs (q .1) us (signed-given (a .sheet) (fresh-params ts n))
+      c : SignedJoined (a .sheet) ts src xs (q .1) us (signed-given (a .sheet) (fresh-params ts n)) went-to
       c = candidate-joined a w₀ ready ts q neat inside i h won

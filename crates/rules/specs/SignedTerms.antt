@@ -954,6 +954,11 @@ module _ (s : Words) (src : Types) (tidy : Neat src) (flat : (n : ℕ) → n < l
   unfolding shape arrived
   source-left r u h q e = sym (source-root r h ∙ ap (shape s src arrived put source r) q ∙ rw (e, arrived))
 
+  -- and one that did not stays free.
+  source-free : (r : ℕ) → r < length src → state-at src r ≡ unknown → mapped (come .1 .0) r ≡ none → source r ≡ svar r false
+  unfolding shape arrived
+  source-free r h q e = source-root r h ∙ ap (shape s src arrived put source r) q ∙ rw (e, arrived)
+
   import-frame : Frame ([], dst) (come .1)
   unfolding transfer-types
   import-frame = each-frame (transfer-in (suc (length src)) src ps) (in-frame src ps (suc (length src))) xs ([], dst)
@@ -981,11 +986,13 @@ signed-first s ν ts us σ formed l same sv n h =
     let w = sv n (le-trans h l) in
     (w .0 ∙ ap (λ (x : TypeNode). value s σ (x .up)) (same n h), subst (λ (k : ℕ). SignedFits s ν σ k (state-at ts (rep ts n))) r (subst (SignedFits s ν σ (rep us n)) st (w .1)))
 
--- The same in a solution of the table us that their join leaves: what is unknown there is not its own inverse, and Params are as π says of that solution.
-pub record SignedJoined (s : Words) (ts src : Types) (xs ys : List Ty) (us : Types) (π : SignedSol → SignedSol) : Type 0 where
+-- The same in a solution of the table us that their join leaves: what is unknown there is not its own inverse, Params are as π says of that solution, and an unknown of the source is what it went to, or stays free.
+pub record SignedJoined (s : Words) (ts src : Types) (xs ys : List Ty) (us : Types) (π : SignedSol → SignedSol) (went : ℕ → Option Ty) : Type 0 where
   pub common : SignedCommon s ts src xs ys
   pub free : (n : ℕ) → n < length us → state-at us (rep us n) ≡ unknown → inverse s (common .σ n) ≢ common .σ n
   pub given : (d : ℕ) → common .π d ≡ π (common .σ) d
+  pub came : (r : ℕ) (u : Ty) → r < length src → state-at src r ≡ unknown → went r ≡ some u → common .τ r ≡ value s (common .σ) u
+  pub left : (r : ℕ) → r < length src → state-at src r ≡ unknown → went r ≡ none → common .τ r ≡ svar r false
 
 -- Where an import behind table ts unifies with a question of it, there are terms with sides that both are.
 module _ (s : Words) (ts : Types) (q : ImplType) (neat : Neat ts) (inside : AllIn (length ts) (q .1)) (src : Types) (tidy : Neat src) (flat : (n : ℕ) → n < length src → rep src n ≡ n) (ps : Option (List Ty)) (dst : Types) (more : length ts ≤ length dst) (first : (n : ℕ) → n < length ts → node-at dst n ≡ node-at ts n) (p : ImplType) (into : AllIn (length src) (p .1)) where
@@ -1025,9 +1032,15 @@ module _ (s : Words) (ts : Types) (q : ImplType) (neat : Neat ts) (inside : AllI
   unfolding import-impl-type import-types
   new-error r u e = import-came src ps (p .1) dst r u e .2
 
-  import-signed : Brought dst (come-in .0 .1) (come-in .1) → (π : SignedSol → SignedSol) → ((μ : ℕ → ℕ) (σ τ : SignedSol) → SignedReads s μ src (π σ) τ → SignedFollows s μ src ps σ τ) → (unify-impl-type s (come-in .1) (come-in .0) q) .0 ≡ success → SignedJoined s ts src (p .1) (q .1) ((unify-impl-type s (come-in .1) (come-in .0) q) .1) π
+  import-signed : Brought dst (come-in .0 .1) (come-in .1) → (π : SignedSol → SignedSol) → ((μ : ℕ → ℕ) (σ τ : SignedSol) → SignedReads s μ src (π σ) τ → SignedFollows s μ src ps σ τ) → (unify-impl-type s (come-in .1) (come-in .0) q) .0 ≡ success → SignedJoined s ts src (p .1) (q .1) ((unify-impl-type s (come-in .1) (come-in .0) q) .1) π went-to
   unfolding import-impl-type
-  import-signed b π follow won = record { common = both; free = h .2; given = λ d. refl }
+  import-signed b π follow won = record {
+    common = both;
+    free = h .2;
+    given = λ d. refl;
+    came = λ k u l e g. sym (source-left s src tidy flat ps dst (p .1) into ν beyond σ (π σ) k u l e g);
+    left = source-free s src tidy flat ps dst (p .1) into ν beyond σ (π σ);
+  }
     where
       w : ImplType × Types
       w = come-in
@@ -1114,7 +1127,7 @@ module _ (s : Words) (ts : Types) (q : ImplType) (neat : Neat ts) (inside : AllI
       }
 
 -- Where a candidate's signature unifies with the question, there are terms with sides that both are: the question in a solution of its table, the signature by the fresh unknowns for its parameters.
-pub candidate-joined : (a : Finder) (w₀ : Words) → Ready a w₀ → (ts : Types) (q : ImplType) → Neat ts → AllIn (length ts) (q .1) → (i : ℕ) → i < many (a .sheet) header·impls → (met (a .sheet) ts q i) .0 ≡ success → SignedJoined (a .sheet) ts ((impl-signature (a .sheet) i) .0) ((impl-signature (a .sheet) i) .1 .1) (q .1) ((met (a .sheet) ts q i) .1) (signed-given (a .sheet) (fresh-params ts (fresh-count (a .sheet) i)))
+pub candidate-joined : (a : Finder) (w₀ : Words) → Ready a w₀ → (ts : Types) (q : ImplType) → Neat ts → AllIn (length ts) (q .1) → (i : ℕ) → i < many (a .sheet) header·impls → (met (a .sheet) ts q i) .0 ≡ success → SignedJoined (a .sheet) ts ((impl-signature (a .sheet) i) .0) ((impl-signature (a .sheet) i) .1 .1) (q .1) ((met (a .sheet) ts q i) .1) (signed-given (a .sheet) (fresh-params ts (fresh-count (a .sheet) i))) (mapped ((transfer-types ((impl-signature (a .sheet) i) .0) (some (fresh-params ts (fresh-count (a .sheet) i))) ((impl-signature (a .sheet) i) .1 .1) ([], with-fresh ts (fresh-count (a .sheet) i))) .1 .0))
 unfolding impl-signature
 candidate-joined a w₀ ready ts q neat inside i h won =
     let n = fresh-count (a .sheet) i in
