@@ -41,6 +41,9 @@ aside-set qs e i v l = record {
 pub aside-last : (qs : Words) (e v : ℕ) → e < 256 → Aside qs e (set qs 512 v)
 aside-last qs e v l = aside-set qs e 512 v (omega arith)
 
+pub aside-noted : (qs : Words) (e v : ℕ) → e < 256 → Aside qs e (set qs 513 v)
+aside-noted qs e v l = aside-set qs e 513 v (omega arith)
+
 -- A pair is queued.
 pub record Queues (qs : Words) (e x y : ℕ) (rs : Words) (r : ℕ) : Type 0 where
   pub at : (s : Words) (m : SignedSol) (ls : Words) → Holds s m ls qs e → means s m x ≡ means s m y → Holds s m ls rs r
@@ -82,6 +85,10 @@ pub record Puts (ls qs : Words) (e x y : ℕ) (ks rs : Words) (r : ℕ) : Type 0
 
 pub puts-pair : (ls qs : Words) (e x y : ℕ) (ks : Words) → e < 256 → Links ls x y ks → Puts ls qs e x y ks (set qs e (x % 4096 + 4096 * (y % 4096))) (e + 1)
 puts-pair ls qs e x y ks l k = record { at = λ s m h q. (queues-pair qs e x y l) .at s m ks (record { linked = k .at s m (h .linked) q; queued = h .queued; free = h .free }) q }
+
+-- It is linked, and other words of the queue change.
+pub puts-noted : (ls qs : Words) (e x y : ℕ) (ks rs : Words) → Aside qs e rs → Links ls x y ks → Puts ls qs e x y ks rs e
+puts-noted ls qs e x y ks rs a l = record { at = λ s m h q. let g = a .at s m ls h in record { linked = l .at s m (g .linked) q; queued = g .queued; free = g .free } }
 
 -- Whether a kind and id is surely not its own inverse is told, and other words of the queue change.
 pub record Decides (s qs : Words) (e k d : ℕ) (rs : Words) (b : Bool) : Type 0 where

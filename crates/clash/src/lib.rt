@@ -1,12 +1,13 @@
 // Whether a candidate's signature, or an impl parameter of the caller's generics, and the question cannot unify: a test made before it is opened.
 // It goes by classes of types that have to be the same, and finds a clash: two types of one class that differ in kind, id or number of children, or are different Errors, or differ in side where the kind is not its own inverse,
-// so that a type is met inverted that may not be (where a type meets its own inverse, its children meet theirs); or a class that would contain itself, which is the occurs check (`cycles`). Where it finds none nothing is said.
+// so that a type is met inverted that may not be (where a type meets its own inverse, its children meet theirs); or an unknown that meets its own inverse and stays free (`loose`); or a class that would contain itself, which is the occurs check (`cycles`). Where it finds none nothing is said.
 // A type is twice a ref, and one more if it is inverted. Refs are read modulo 2,048: up to 255 roots of the question's table, from 256 on type parameters, from 1,024 on nodes of the signature's table by their records.
 // `links` has for each ref 0, or 1 and the type that the ref is, of the same class; `queue` has pairs of types that are the same and whose children are to be met, in its first 256 words, and is worked off from its end;
-// after these it has, by refs modulo 256, 1 and the ref that was queued with its own inverse last; and in its last word how many links were gone to look for self-dual marks.
+// after these it has, by refs modulo 256, 1 and the ref that was queued with its own inverse last; then how many links were gone to look for self-dual marks; and last 1 and an unknown that met its own inverse (`loose`).
 ghost use mathlib.Core.Path.{_≡_};
 ghost use Prim.Native.Nat.{_+_, _-_, _*_, _/_, _%_, _<_, _≤_};
 ghost use mathlib.Core.Logic.{_≢_};
+ghost use mathlib.Core.Bool.{false};
 ghost use lib.ListN.{length};
 ghost use Rattle.rules.specs.Sheet.{at, field, many};
 ghost use Rattle.rules.specs.Layout.{header·generics, header·impls, generics·table};
@@ -24,6 +25,7 @@ ghost use Rattle.clash.specs.Links.{Finds, Links, Settles};
 ghost use Rattle.clash.specs.Meeting.{Aside, Queues, Puts, Decides, Inverts, Meets, apart as apart-of};
 ghost use Rattle.clash.specs.Children.{Cells, Gathers};
 ghost use Rattle.clash.specs.Pairs.{Goes, Ends, ArgsMet, RootClash, Clashing};
+ghost use Rattle.clash.specs.Loose.{Opposed};
 ghost use Rattle.clash.specs.Across.{sides-across, RecordMet, CellsMet};
 ghost use Rattle.clash.specs.Signatures.{Against, Room, ImplAt, Clashes};
 ghost use Rattle.clash.specs.Params.{Calling, ParamClashes};
@@ -33,6 +35,7 @@ use queries::Query;
 use table::Row;
 
 mod cycles;
+mod loose;
 
 const NODES: u32 = 256;
 
@@ -45,6 +48,9 @@ const QUEUE: usize = 256;
 
 // The word of the queue that counts the links gone.
 const GONE: usize = 512;
+
+// The word of the queue that notes an unknown that met its own inverse.
+const NOTED: usize = 513;
 
 // At most so many pairs are worked off.
 const PAIRS: usize = 1024;
@@ -240,7 +246,7 @@ fn children(sheet: &[u32], places: &[u32], ws: &[u32], r: u32) -> Row
     cells(sheet, words::wide(head))
 }
 
-// The last of at most 16 links from a type.
+// The last of at most 16 links from a type. A ref that is linked to its own inverse is a root.
 fn find_far(links: &[u32; 2048], t: u32) -> u32
     ensures { λ x. ⌜ Finds (now (links .entry)) t x ⌝ }
 {
@@ -249,6 +255,9 @@ fn find_far(links: &[u32; 2048], t: u32) -> u32
     while left > 0 {
         let up = links[words::wide(x / 2 % 2048)];
         if up == 0 {
+            return x;
+        }
+        if (up - 1) / 2 == x / 2 % 2048 {
             return x;
         }
         x = turn(x % 2, up - 1);
@@ -265,6 +274,9 @@ fn find(links: &[u32; 2048], t: u32) -> u32
     if up == 0 {
         return t;
     }
+    if (up - 1) / 2 == t / 2 % 2048 {
+        return t;
+    }
     find_far(links, turn(t % 2, up - 1))
 }
 
@@ -274,15 +286,6 @@ fn link(links: &mut [u32; 2048], x: u32, y: u32)
 {
     let v = turn(x % 2, y);
     links[words::wide(x / 2 % 2048)] = v % 4096 + 1;
-}
-
-// The same, unless it is the ref of y.
-fn link_apart(links: &mut [u32; 2048], x: u32, y: u32)
-    ensures { λ _. ⌜ Links (now (links .entry)) x y (now (links .exit)) ⌝ }
-{
-    if x / 2 != y / 2 {
-        link(links, x, y);
-    }
 }
 
 // A root: a Param of the signature is linked to its type parameter, and the root of that is found.
@@ -298,7 +301,7 @@ fn settle(sheet: &[u32], places: &[u32], links: &mut [u32; 2048], x: u32) -> u32
 }
 
 // Links x to y, and queues the pair; nothing where the queue is full.
-fn put(links: &mut [u32; 2048], queue: &mut [u32; 513], end: usize, x: u32, y: u32) -> usize
+fn put(links: &mut [u32; 2048], queue: &mut [u32; 514], end: usize, x: u32, y: u32) -> usize
     ensures { λ r. ⌜ Puts (now (links .entry)) (now (queue .entry)) end x y (now (links .exit)) (now (queue .exit)) r ⌝ }
 {
     if end >= QUEUE {
@@ -349,7 +352,7 @@ fn sided_near(sheet: &[u32], k: u32, d: u32) -> bool
 }
 
 // Whether the self-dual mark of id d may be looked for: as long as few links were gone in this test. They are counted.
-fn may_look(queue: &mut [u32; 513], end: usize, d: u32) -> bool
+fn may_look(queue: &mut [u32; 514], end: usize, d: u32) -> bool
     ensures { λ _. ⌜ Aside (now (queue .entry)) end (now (queue .exit)) ⌝ }
 {
     if d >= NEAR {
@@ -375,7 +378,7 @@ fn is_marked(k: u32) -> bool {
 }
 
 // Whether a kind and id is surely not its own inverse; of Structs and Unions, nothing is said where the mark may not be looked for.
-fn sided_once(sheet: &[u32], queue: &mut [u32; 513], end: usize, k: u32, d: u32) -> bool
+fn sided_once(sheet: &[u32], queue: &mut [u32; 514], end: usize, k: u32, d: u32) -> bool
     ensures { λ r. ⌜ Decides (now (sheet .entry)) (now (queue .entry)) end k d (now (queue .exit)) r ⌝ }
 {
     if is_marked(k) {
@@ -388,7 +391,7 @@ fn sided_once(sheet: &[u32], queue: &mut [u32; 513], end: usize, k: u32, d: u32)
 }
 
 // A type and its inverse, which are the same: queued, so that its children are met with their own inverses, unless that was done.
-fn mirror(queue: &mut [u32; 513], end: usize, x: u32, y: u32) -> usize
+fn mirror(queue: &mut [u32; 514], end: usize, x: u32, y: u32) -> usize
     ensures { λ r. ⌜ Queues (now (queue .entry)) end x y (now (queue .exit)) r ⌝ }
 {
     if end >= QUEUE {
@@ -409,7 +412,7 @@ fn mirror(queue: &mut [u32; 513], end: usize, x: u32, y: u32) -> usize
 fn meet_inverted(
     sheet: &[u32],
     links: &mut [u32; 2048],
-    queue: &mut [u32; 513],
+    queue: &mut [u32; 514],
     end: usize,
     x: u32,
     y: u32,
@@ -433,7 +436,7 @@ fn meet_known(
     places: &[u32],
     ws: &[u32],
     links: &mut [u32; 2048],
-    queue: &mut [u32; 513],
+    queue: &mut [u32; 514],
     end: usize,
     x: u32,
     y: u32,
@@ -459,13 +462,37 @@ fn meet_known(
     put(links, queue, end, x, y)
 }
 
-// Meets types of two roots: an unknown is linked to the other, and two that have a kind clash or are queued.
+// Notes an unknown that meets its own inverse.
+fn note(queue: &mut [u32; 514], end: usize, r: u32)
+    ensures { λ _. ⌜ Aside (now (queue .entry)) end (now (queue .exit)) ⌝ }
+{
+    if end < QUEUE {
+        queue[NOTED] = r % 2048 + 1;
+    }
+}
+
+// Meets an unknown with its own inverse: it is linked to that, and noted.
+fn meet_opposed(
+    links: &mut [u32; 2048],
+    queue: &mut [u32; 514],
+    end: usize,
+    x: u32,
+    y: u32,
+) -> usize
+    ensures { λ r. ⌜ Puts (now (links .entry)) (now (queue .entry)) end x y (now (links .exit)) (now (queue .exit)) r ⌝ }
+{
+    note(queue, end, x / 2);
+    link(links, x, y);
+    end
+}
+
+// Meets types of two roots: an unknown is linked to the other, be it its own inverse, and two that have a kind clash or are queued.
 fn meet_roots(
     sheet: &[u32],
     places: &[u32],
     ws: &[u32],
     links: &mut [u32; 2048],
-    queue: &mut [u32; 513],
+    queue: &mut [u32; 514],
     end: usize,
     x: u32,
     y: u32,
@@ -474,7 +501,10 @@ fn meet_roots(
 {
     let k = kind(sheet, places, ws, x / 2);
     if k == 0 {
-        link_apart(links, x, y);
+        if x / 2 == y / 2 {
+            return meet_opposed(links, queue, end, x, y);
+        }
+        link(links, x, y);
         return end;
     }
     let j = kind(sheet, places, ws, y / 2);
@@ -494,7 +524,7 @@ fn meet_found(
     places: &[u32],
     ws: &[u32],
     links: &mut [u32; 2048],
-    queue: &mut [u32; 513],
+    queue: &mut [u32; 514],
     end: usize,
     a: u32,
     b: u32,
@@ -515,7 +545,7 @@ fn meet(
     places: &[u32],
     ws: &[u32],
     links: &mut [u32; 2048],
-    queue: &mut [u32; 513],
+    queue: &mut [u32; 514],
     end: usize,
     a: u32,
     b: u32,
@@ -536,7 +566,7 @@ fn meet_all(
     places: &[u32],
     ws: &[u32],
     links: &mut [u32; 2048],
-    queue: &mut [u32; 513],
+    queue: &mut [u32; 514],
     end: usize,
     xs: Row,
     ys: Row,
@@ -577,7 +607,7 @@ fn meet_record(
     sheet: &[u32],
     ws: &[u32],
     links: &mut [u32; 2048],
-    queue: &mut [u32; 513],
+    queue: &mut [u32; 514],
     end: usize,
     x: u32,
     y: u32,
@@ -612,7 +642,7 @@ fn meet_new(
     places: &[u32],
     ws: &[u32],
     links: &mut [u32; 2048],
-    queue: &mut [u32; 513],
+    queue: &mut [u32; 514],
     end: usize,
     x: u32,
     y: u32,
@@ -637,7 +667,7 @@ fn meet_cell(
     places: &[u32],
     ws: &[u32],
     links: &mut [u32; 2048],
-    queue: &mut [u32; 513],
+    queue: &mut [u32; 514],
     end: usize,
     x: u32,
     y: u32,
@@ -656,7 +686,7 @@ fn meet_cells(
     places: &[u32],
     ws: &[u32],
     links: &mut [u32; 2048],
-    queue: &mut [u32; 513],
+    queue: &mut [u32; 514],
     end: usize,
     head: usize,
     ys: Row,
@@ -697,7 +727,7 @@ fn meet_across(
     places: &[u32],
     ws: &[u32],
     links: &mut [u32; 2048],
-    queue: &mut [u32; 513],
+    queue: &mut [u32; 514],
     end: usize,
     x: u32,
     y: u32,
@@ -737,7 +767,7 @@ fn meet_across(
 }
 
 // Whether the ref of a type is marked in the queue as queued with its own inverse.
-fn is_mirrored(queue: &[u32; 513], x: u32) -> bool {
+fn is_mirrored(queue: &[u32; 514], x: u32) -> bool {
     queue[QUEUE + words::wide(x / 2 % 256)] == x / 2 + 1
 }
 
@@ -747,7 +777,7 @@ fn meet_mirrored(
     places: &[u32],
     ws: &[u32],
     links: &mut [u32; 2048],
-    queue: &mut [u32; 513],
+    queue: &mut [u32; 514],
     end: usize,
     xs: Row,
 ) -> usize
@@ -775,7 +805,7 @@ fn meet_rows(
     places: &[u32],
     ws: &[u32],
     links: &mut [u32; 2048],
-    queue: &mut [u32; 513],
+    queue: &mut [u32; 514],
     end: usize,
     x: u32,
     y: u32,
@@ -810,7 +840,7 @@ fn meet_children(
     places: &[u32],
     ws: &[u32],
     links: &mut [u32; 2048],
-    queue: &mut [u32; 513],
+    queue: &mut [u32; 514],
     end: usize,
     x: u32,
     y: u32,
@@ -832,7 +862,7 @@ fn run(
     places: &[u32],
     ws: &[u32],
     links: &mut [u32; 2048],
-    queue: &mut [u32; 513],
+    queue: &mut [u32; 514],
     n: usize,
 ) -> bool
     requires { ⌜ Packed (now ws) ⌝ }
@@ -873,7 +903,7 @@ fn meet_args(
     places: &[u32],
     ws: &[u32],
     links: &mut [u32; 2048],
-    queue: &mut [u32; 513],
+    queue: &mut [u32; 514],
     p: Query,
     q: Query,
 ) -> usize
@@ -894,20 +924,46 @@ fn meet_args(
     e
 }
 
-// Whether the arguments of a signature clash with those of the question.
-fn clash_args(sheet: &[u32], places: &[u32], ws: &[u32], p: Query, q: Query) -> bool
+// Whether an unknown that met its own inverse, if one is noted in the queue, stays free.
+fn noted_opposed(
+    sheet: &[u32],
+    places: &[u32],
+    ws: &[u32],
+    links: &[u32; 2048],
+    queue: &[u32; 514],
+    p: Query,
+    q: Query,
+) -> bool
     requires { ⌜ Packed (now ws) ⌝ }
     requires { ⌜ q .n ≤ 4 ⌝ }
-    ensures { λ r. ⌜ Clashing (now (sheet .entry)) (now (places .entry)) (now (ws .entry)) p q r ⌝ }
+    ensures { λ r. ⌜ Opposed (now (sheet .entry)) (now (places .entry)) (now (ws .entry)) (now (links .entry)) p q r ⌝ }
+{
+    let r = queue[NOTED];
+    if r == 0 {
+        return false;
+    }
+    loose::opposed(sheet, places, ws, links, p, q, r - 1)
+}
+
+// Whether the arguments of a signature clash with those of the question; of a candidate, whose Params are given types, if it is `given`.
+fn clash_args(sheet: &[u32], places: &[u32], ws: &[u32], p: Query, q: Query, given: bool) -> bool
+    requires { ⌜ Packed (now ws) ⌝ }
+    requires { ⌜ q .n ≤ 4 ⌝ }
+    ensures { λ r. ⌜ Clashing given (now (sheet .entry)) (now (places .entry)) (now (ws .entry)) p q r ⌝ }
 {
     let mut links = [0u32; 2048];
-    let mut queue = [0u32; 513];
+    let mut queue = [0u32; 514];
     let n = meet_args(sheet, places, ws, &mut links, &mut queue, p, q);
     if n == CLASH {
         return true;
     }
     if run(sheet, places, ws, &mut links, &mut queue, n) {
         return true;
+    }
+    if given {
+        if noted_opposed(sheet, places, ws, &links, &queue, p, q) {
+            return true;
+        }
     }
     cycles::cyclic(sheet, places, ws, &links)
 }
@@ -945,7 +1001,7 @@ fn root_clash(sheet: &[u32], places: &[u32], ws: &[u32], a: u32, b: u32) -> bool
 // Whether the arguments of a signature clash with those of the question by their roots alone.
 fn roots_clash(sheet: &[u32], places: &[u32], ws: &[u32], p: Query, q: Query) -> bool
     requires { ⌜ q .n ≤ 4 ⌝ }
-    ensures { λ r. ⌜ Clashing (now (sheet .entry)) (now (places .entry)) (now (ws .entry)) p q r ⌝ }
+    ensures { λ r. ⌜ Clashing false (now (sheet .entry)) (now (places .entry)) (now (ws .entry)) p q r ⌝ }
 {
     let mut k: usize = 0;
     while k < q.n {
@@ -968,10 +1024,10 @@ fn are_small(sheet: &[u32], ws: &[u32]) -> bool {
 }
 
 // Whether the arguments of a signature are found to clash with those of the question: by their roots, and then, unless all is small, by all that is below them.
-fn args_clash(sheet: &[u32], places: &[u32], ws: &[u32], p: Query, q: Query) -> bool
+fn args_clash(sheet: &[u32], places: &[u32], ws: &[u32], p: Query, q: Query, given: bool) -> bool
     requires { ⌜ Packed (now ws) ⌝ }
     requires { ⌜ q .n ≤ 4 ⌝ }
-    ensures { λ r. ⌜ Clashing (now (sheet .entry)) (now (places .entry)) (now (ws .entry)) p q r ⌝ }
+    ensures { λ r. ⌜ Clashing given (now (sheet .entry)) (now (places .entry)) (now (ws .entry)) p q r ⌝ }
 {
     if roots_clash(sheet, places, ws, p, q) {
         return true;
@@ -979,7 +1035,7 @@ fn args_clash(sheet: &[u32], places: &[u32], ws: &[u32], p: Query, q: Query) -> 
     if are_small(sheet, ws) {
         return false;
     }
-    clash_args(sheet, places, ws, p, q)
+    clash_args(sheet, places, ws, p, q, given)
 }
 
 // Whether the signature of the impl whose record is at p clashes with question q.
@@ -995,7 +1051,7 @@ fn clash_at(sheet: &[u32], places: &[u32], ws: &[u32], q: Query, p: usize) -> bo
     if a.n != q.n {
         return false;
     }
-    args_clash(sheet, places, ws, a, q)
+    args_clash(sheet, places, ws, a, q, true)
 }
 
 // Whether a table has room for n nodes more.
@@ -1072,7 +1128,7 @@ pub fn param_clashes(
     if has_room(ws, n) {
         let head = generics_head(sheet, g);
         let m = chart::index_chain(sheet, head, places, 0);
-        return args_clash(sheet, &places[..m], ws, p, q);
+        return args_clash(sheet, &places[..m], ws, p, q, false);
     }
     false
 }
