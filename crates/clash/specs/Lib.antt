@@ -6,6 +6,7 @@ pub mod Children
 pub mod Sizes
 pub mod Cycles
 pub mod Loose
+pub mod LooseAcross
 pub mod Pairs
 pub mod Across
 pub mod Readings

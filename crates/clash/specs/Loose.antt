@@ -16,7 +16,7 @@ use Rattle.rules.specs.Transfer.{type-of-word}
 use Rattle.rules.specs.Answer.{word-of-type}
 use Rattle.rules.specs.Solutions.{rep}
 use Rattle.rules.specs.Pigeonholes.{lt-or}
-use Rattle.rules.specs.SignedTerms.{SignedSol, inverse, inverse-twice, turned}
+use Rattle.rules.specs.SignedTerms.{SignedSol, inverse, turned}
 use Rattle.table.specs.declared.Row.{Row}
 use Rattle.table.specs.Packing.{types-of, kind-at}
 use Rattle.table.specs.Nodes.{types-few, type-word}
@@ -30,7 +30,7 @@ use Rattle.clash.specs.Links.{Linked, Finds}
 never : false ≡ true → ⊥
 never e = let z : _≡_ {A = ℕ} 0 1 = cc in omega arith
 
-held : (b : Bool) → not b ≡ false → b ≡ true
+pub held : (b : Bool) → not b ≡ false → b ≡ true
 held true e = refl
 held false e = absurd (never (sym e))
 

@@ -1,26 +1,25 @@
 -- Labels of refs are labels of the question's table and of the signature's: a reading by terms that a candidate and the question have in common is one in which what is loose is not its own inverse.
-use Prim.Native.Nat.{ℕ, zero, suc, _+_, _-_, _/_, _%_, _≤_, _<_}
+use Prim.Native.Nat.{ℕ, suc, _+_, _-_, _/_, _%_, _≤_, _<_}
 use mathlib.Core.Path.{_≡_, refl, sym, _∙_, ap, ap₂, subst}
-use mathlib.Core.Bool.{Bool, true, false}
+use mathlib.Core.Bool.{Bool, false}
 use mathlib.Core.List.{List, [], _∷_, map}
 use mathlib.Core.Logic.{_≢_}
 use native.Mathlib.Decide.{ℕ-discrete}
 use native.Mathlib.Omega.{arith}
-use lib.Dec.{eqb}
 use lib.ListN.{length, getD}
 use borrow.Author.Tests.{eq-eqb}
 use Rattle.rules.specs.Lists.{Words}
 use Rattle.rules.specs.Layout.{kind·param}
 use Rattle.rules.specs.Sheet.{at, chain}
-use Rattle.rules.specs.Types.{Ty, TypeState, unknown, known, Types, state-at, invert-if, find}
+use Rattle.rules.specs.Types.{Ty, TypeState, unknown, known, state-at, invert-if, find}
 use Rattle.rules.specs.Acyclic.{children}
 use Rattle.rules.specs.AcyclicLaws.{children-at}
 use Rattle.rules.specs.Transfer.{type-of-word, cell-types, node-state, table}
 use Rattle.rules.specs.Answer.{word-of-type}
 use Rattle.rules.specs.Solutions.{rep, AllIn, ChildrenIn, WellFormed, known≢}
 use Rattle.rules.specs.CheckedTables.{table-length, table-state, table-flat}
-use Rattle.rules.specs.SignedTerms.{SignedSol, inverse}
-use Rattle.rules.specs.Labels.{labels, Labels, Unheld}
+use Rattle.rules.specs.SignedTerms.{inverse}
+use Rattle.rules.specs.Labels.{labels, Labels}
 use Rattle.rules.specs.Loose.{Alike, Loose, SignedLoose}
 use Rattle.table.specs.Packing.{types-of, kind-in, id-in, kind-at}
 use Rattle.table.specs.Nodes.{types-few, type-word, word-type}
@@ -29,7 +28,7 @@ use Rattle.table.specs.ChildTypes.{type-in, type-there}
 use Rattle.queries.specs.declared.Query.{Query}
 use Rattle.queries.specs.Queries.{query-of}
 use Rattle.clash.specs.Refs.{place, place-at}
-use Rattle.clash.specs.Loose.{own-type, asked-type, labelled, kids, kids-low, kids-high, Labelling, LooseMeaning}
+use Rattle.clash.specs.Loose.{labelled, kids, kids-low, kids-high, Labelling, LooseMeaning}
 use Rattle.clash.specs.Readings.{names, node-term, reading, reading-node, reading-record, known-state, query-length, query-type, query-in, record-word, common-meaning}
 
 -- The node of a type's word.

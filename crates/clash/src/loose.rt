@@ -5,6 +5,7 @@ ghost use Prim.Native.Nat.{_+_, _%_, _<_, _≤_};
 ghost use lib.ListN.{length};
 ghost use Rattle.rules.specs.Sheet.{at};
 ghost use Rattle.table.specs.Packing.{Packed};
+ghost use Rattle.clash.specs.LooseAcross.{CellsAlike};
 ghost use Rattle.clash.specs.Loose.{TypesAlike, Kids, SameLabels, SameKids, Closes, NodeCloses, NodesClose, RecordCloses, RecordsClose, ArgsSame, Labels, Opposite, Witness, Opposed};
 use crate::NODES;
 use crate::PARAM;
@@ -82,8 +83,60 @@ fn same_labels(labels: &[u32; 2048], xs: Row, ys: Row) -> bool
     true
 }
 
-// Whether the children of two refs are labelled alike.
-fn same_children(
+// Whether the types in the cells from a head are labelled as those of a row, as many.
+fn same_cells(sheet: &[u32], labels: &[u32; 2048], head: usize, ys: Row) -> bool
+    requires { ⌜ 8 < length (now sheet) ⌝ }
+    requires { ⌜ ys .n ≤ 8 ⌝ }
+    requires { ⌜ ys .n ≤ length (ys .types) ⌝ }
+    ensures { λ r. ⌜ CellsAlike (now (sheet .entry)) (now (labels .entry)) head ys r ⌝ }
+{
+    let mut c = head;
+    let mut j: usize = 0;
+    while c != 0 {
+        if j >= ys.n {
+            return false;
+        }
+        let x = own_type(words::offset(sheet, c, layout::CELL_TYPE));
+        if !are_alike(labels, x, ys.types[j]) {
+            return false;
+        }
+        c = words::next(sheet, c);
+        j += 1;
+    }
+    j == ys.n
+}
+
+// Whether the children of a ref that has a record and of a node are labelled alike.
+fn same_across(
+    sheet: &[u32],
+    places: &[u32],
+    ws: &[u32],
+    labels: &[u32; 2048],
+    a: u32,
+    z: u32,
+) -> bool
+    requires { ⌜ Packed (now ws) ⌝ }
+    requires { ⌜ 1024 ≤ a ⌝ }
+    requires { ⌜ z < 256 ⌝ }
+    ensures { λ r. ⌜ SameKids (now (sheet .entry)) (now (places .entry)) (now (ws .entry)) (now (labels .entry)) a z r ⌝ }
+{
+    if sheet.len() <= 8 {
+        return false;
+    }
+    if table::kind_of(ws, z) == 0 {
+        return false;
+    }
+    let ys = table::child_types(ws, z);
+    if ys.n == UNTOLD {
+        return false;
+    }
+    let p = place_of(places, a);
+    let head = words::offset(sheet, p, layout::NODE_CHILDREN);
+    same_cells(sheet, labels, words::wide(head), ys)
+}
+
+// Whether the children of two refs, whichever they are, are labelled alike.
+fn same_kids(
     sheet: &[u32],
     places: &[u32],
     ws: &[u32],
@@ -106,6 +159,26 @@ fn same_children(
         return false;
     }
     same_labels(labels, xs, ys)
+}
+
+// Whether the children of two refs are labelled alike.
+fn same_children(
+    sheet: &[u32],
+    places: &[u32],
+    ws: &[u32],
+    labels: &[u32; 2048],
+    a: u32,
+    z: u32,
+) -> bool
+    requires { ⌜ Packed (now ws) ⌝ }
+    ensures { λ r. ⌜ SameKids (now (sheet .entry)) (now (places .entry)) (now (ws .entry)) (now (labels .entry)) a z r ⌝ }
+{
+    if RECORDS <= a {
+        if z < NODES {
+            return same_across(sheet, places, ws, labels, a, z);
+        }
+    }
+    same_kids(sheet, places, ws, labels, a, z)
 }
 
 // Whether a ref has another label than l, and its children are labelled as those of its label.

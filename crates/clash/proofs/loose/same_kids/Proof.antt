@@ -1,8 +1,8 @@
--- `same_children`: row by row.
+-- `same_kids`: row by row.
 use Rattle.clash.specs.Loose.{kids-not, kids-few, kids-same}
 use borrow.Author.Needs.{needs}
-use Rattle.clash.proofs.loose.same_children.Statement.{statement}
-use Rattle.clash.proofs.loose.same_children.Tie as tie
+use Rattle.clash.proofs.loose.same_kids.Statement.{statement}
+use Rattle.clash.proofs.loose.same_kids.Tie as tie
 
 kids-requires : tie.Need-kids-requires
 kids-requires c κs = search needs
@@ -25,8 +25,8 @@ same-labels-requires c κs = search (needs, kids-few)
 returns-4 : tie.Need-returns-4
 returns-4 c = search (needs, kids-same)
 
-pub same-children-spec : {M : Type 1} → statement M
-same-children-spec =
+pub same-kids-spec : {M : Type 1} → statement M
+same-kids-spec =
     tie.close
     (tie.spec
     kids-requires
