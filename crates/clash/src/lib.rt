@@ -486,7 +486,33 @@ fn meet_opposed(
     end
 }
 
-// Meets types of two roots: an unknown is linked to the other, be it its own inverse, and two that have a kind clash or are queued.
+// Meets an unknown with another type of a root: it is linked to that; but another unknown is linked to it where it is its own inverse.
+fn meet_unknown(
+    sheet: &[u32],
+    places: &[u32],
+    ws: &[u32],
+    links: &mut [u32; 2048],
+    queue: &mut [u32; 514],
+    end: usize,
+    x: u32,
+    y: u32,
+) -> usize
+    ensures { λ r. ⌜ Meets (now (sheet .entry)) (now (places .entry)) (now (ws .entry)) (now (links .entry)) (now (queue .entry)) end x y (now (links .exit)) (now (queue .exit)) r ⌝ }
+{
+    if x / 2 == y / 2 {
+        return meet_opposed(links, queue, end, x, y);
+    }
+    if links[words::wide(x / 2 % 2048)] != 0 {
+        if kind(sheet, places, ws, y / 2) == 0 {
+            link(links, y, x);
+            return end;
+        }
+    }
+    link(links, x, y);
+    end
+}
+
+// Meets types of two roots: an unknown is linked to the other, or it to that, and two that have a kind clash or are queued.
 fn meet_roots(
     sheet: &[u32],
     places: &[u32],
@@ -501,11 +527,7 @@ fn meet_roots(
 {
     let k = kind(sheet, places, ws, x / 2);
     if k == 0 {
-        if x / 2 == y / 2 {
-            return meet_opposed(links, queue, end, x, y);
-        }
-        link(links, x, y);
-        return end;
+        return meet_unknown(sheet, places, ws, links, queue, end, x, y);
     }
     let j = kind(sheet, places, ws, y / 2);
     if j == 0 {

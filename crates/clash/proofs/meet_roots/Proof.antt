@@ -1,5 +1,5 @@
 -- `meet_roots`: by the kinds.
-use Rattle.clash.specs.Meeting.{roots-left, roots-put, roots-right, roots-kinds, kind-as}
+use Rattle.clash.specs.Meeting.{roots-right, roots-kinds, kind-as}
 use borrow.Author.Needs.{needs}
 use Rattle.clash.proofs.meet_roots.Statement.{statement}
 use Rattle.clash.proofs.meet_roots.Tie as tie
@@ -7,48 +7,40 @@ use Rattle.clash.proofs.meet_roots.Tie as tie
 kind-requires : tie.Need-kind-requires
 kind-requires c κs = search needs
 
-meet-opposed-requires : tie.Need-meet-opposed-requires
-meet-opposed-requires c κs = search needs
+meet-unknown-requires : tie.Need-meet-unknown-requires
+meet-unknown-requires c κs = search needs
 
 returns : tie.Need-returns
-returns c = search (needs, roots-put)
+returns c = search needs
+
+kind-requires-2 : tie.Need-kind-requires-2
+kind-requires-2 c κs = search needs
 
 link-requires : tie.Need-link-requires
 link-requires c κs = search needs
 
 returns-2 : tie.Need-returns-2
-returns-2 c = search (needs, roots-left)
-
-kind-requires-2 : tie.Need-kind-requires-2
-kind-requires-2 c κs = search needs
-
-link-requires-2 : tie.Need-link-requires-2
-link-requires-2 c κs = search needs
+returns-2 c = search (needs, roots-right)
 
 returns-3 : tie.Need-returns-3
-returns-3 c = search (needs, roots-right)
-
-returns-4 : tie.Need-returns-4
-returns-4 c = search (needs, roots-kinds)
+returns-3 c = search (needs, roots-kinds)
 
 meet-known-requires : tie.Need-meet-known-requires
 meet-known-requires c κs = (search needs, (search (needs, kind-as), search needs))
 
-returns-5 : tie.Need-returns-5
-returns-5 c = search needs
+returns-4 : tie.Need-returns-4
+returns-4 c = search needs
 
 pub meet-roots-spec : {M : Type 1} → statement M
 meet-roots-spec =
     tie.close
     (tie.spec
     kind-requires
-    meet-opposed-requires
+    meet-unknown-requires
     returns
+    kind-requires-2
     link-requires
     returns-2
-    kind-requires-2
-    link-requires-2
     returns-3
-    returns-4
     meet-known-requires
-    returns-5)
+    returns-4)
