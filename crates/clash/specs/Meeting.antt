@@ -41,8 +41,8 @@ aside-set qs e i v l = record {
 pub aside-last : (qs : Words) (e v : ℕ) → e < 256 → Aside qs e (set qs 512 v)
 aside-last qs e v l = aside-set qs e 512 v (omega arith)
 
-pub aside-noted : (qs : Words) (e v : ℕ) → e < 256 → Aside qs e (set qs 513 v)
-aside-noted qs e v l = aside-set qs e 513 v (omega arith)
+pub aside-noted : (qs : Words) (e v : ℕ) → e < 256 → Aside qs e (set qs 516 v)
+aside-noted qs e v l = aside-set qs e 516 v (omega arith)
 
 -- A pair is queued.
 pub record Queues (qs : Words) (e x y : ℕ) (rs : Words) (r : ℕ) : Type 0 where

@@ -50,7 +50,7 @@ const QUEUE: usize = 256;
 const GONE: usize = 512;
 
 // The word of the queue that notes an unknown that met its own inverse.
-const NOTED: usize = 513;
+const NOTED: usize = 516;
 
 // At most so many pairs are worked off.
 const PAIRS: usize = 1024;
@@ -301,7 +301,7 @@ fn settle(sheet: &[u32], places: &[u32], links: &mut [u32; 2048], x: u32) -> u32
 }
 
 // Links x to y, and queues the pair; nothing where the queue is full.
-fn put(links: &mut [u32; 2048], queue: &mut [u32; 514], end: usize, x: u32, y: u32) -> usize
+fn put(links: &mut [u32; 2048], queue: &mut [u32; 517], end: usize, x: u32, y: u32) -> usize
     ensures { λ r. ⌜ Puts (now (links .entry)) (now (queue .entry)) end x y (now (links .exit)) (now (queue .exit)) r ⌝ }
 {
     if end >= QUEUE {
@@ -352,7 +352,7 @@ fn sided_near(sheet: &[u32], k: u32, d: u32) -> bool
 }
 
 // Whether the self-dual mark of id d may be looked for: as long as few links were gone in this test. They are counted.
-fn may_look(queue: &mut [u32; 514], end: usize, d: u32) -> bool
+fn may_look(queue: &mut [u32; 517], end: usize, d: u32) -> bool
     ensures { λ _. ⌜ Aside (now (queue .entry)) end (now (queue .exit)) ⌝ }
 {
     if d >= NEAR {
@@ -378,7 +378,7 @@ fn is_marked(k: u32) -> bool {
 }
 
 // Whether a kind and id is surely not its own inverse; of Structs and Unions, nothing is said where the mark may not be looked for.
-fn sided_once(sheet: &[u32], queue: &mut [u32; 514], end: usize, k: u32, d: u32) -> bool
+fn sided_once(sheet: &[u32], queue: &mut [u32; 517], end: usize, k: u32, d: u32) -> bool
     ensures { λ r. ⌜ Decides (now (sheet .entry)) (now (queue .entry)) end k d (now (queue .exit)) r ⌝ }
 {
     if is_marked(k) {
@@ -391,7 +391,7 @@ fn sided_once(sheet: &[u32], queue: &mut [u32; 514], end: usize, k: u32, d: u32)
 }
 
 // A type and its inverse, which are the same: queued, so that its children are met with their own inverses, unless that was done.
-fn mirror(queue: &mut [u32; 514], end: usize, x: u32, y: u32) -> usize
+fn mirror(queue: &mut [u32; 517], end: usize, x: u32, y: u32) -> usize
     ensures { λ r. ⌜ Queues (now (queue .entry)) end x y (now (queue .exit)) r ⌝ }
 {
     if end >= QUEUE {
@@ -412,7 +412,7 @@ fn mirror(queue: &mut [u32; 514], end: usize, x: u32, y: u32) -> usize
 fn meet_inverted(
     sheet: &[u32],
     links: &mut [u32; 2048],
-    queue: &mut [u32; 514],
+    queue: &mut [u32; 517],
     end: usize,
     x: u32,
     y: u32,
@@ -436,7 +436,7 @@ fn meet_known(
     places: &[u32],
     ws: &[u32],
     links: &mut [u32; 2048],
-    queue: &mut [u32; 514],
+    queue: &mut [u32; 517],
     end: usize,
     x: u32,
     y: u32,
@@ -463,7 +463,7 @@ fn meet_known(
 }
 
 // Notes an unknown that meets its own inverse.
-fn note(queue: &mut [u32; 514], end: usize, r: u32)
+fn note_opposed(queue: &mut [u32; 517], end: usize, r: u32)
     ensures { λ _. ⌜ Aside (now (queue .entry)) end (now (queue .exit)) ⌝ }
 {
     if end < QUEUE {
@@ -474,14 +474,14 @@ fn note(queue: &mut [u32; 514], end: usize, r: u32)
 // Meets an unknown with its own inverse: it is linked to that, and noted.
 fn meet_opposed(
     links: &mut [u32; 2048],
-    queue: &mut [u32; 514],
+    queue: &mut [u32; 517],
     end: usize,
     x: u32,
     y: u32,
 ) -> usize
     ensures { λ r. ⌜ Puts (now (links .entry)) (now (queue .entry)) end x y (now (links .exit)) (now (queue .exit)) r ⌝ }
 {
-    note(queue, end, x / 2);
+    note_opposed(queue, end, x / 2);
     link(links, x, y);
     end
 }
@@ -492,7 +492,7 @@ fn meet_unknown(
     places: &[u32],
     ws: &[u32],
     links: &mut [u32; 2048],
-    queue: &mut [u32; 514],
+    queue: &mut [u32; 517],
     end: usize,
     x: u32,
     y: u32,
@@ -518,7 +518,7 @@ fn meet_roots(
     places: &[u32],
     ws: &[u32],
     links: &mut [u32; 2048],
-    queue: &mut [u32; 514],
+    queue: &mut [u32; 517],
     end: usize,
     x: u32,
     y: u32,
@@ -546,7 +546,7 @@ fn meet_found(
     places: &[u32],
     ws: &[u32],
     links: &mut [u32; 2048],
-    queue: &mut [u32; 514],
+    queue: &mut [u32; 517],
     end: usize,
     a: u32,
     b: u32,
@@ -567,7 +567,7 @@ fn meet(
     places: &[u32],
     ws: &[u32],
     links: &mut [u32; 2048],
-    queue: &mut [u32; 514],
+    queue: &mut [u32; 517],
     end: usize,
     a: u32,
     b: u32,
@@ -588,7 +588,7 @@ fn meet_all(
     places: &[u32],
     ws: &[u32],
     links: &mut [u32; 2048],
-    queue: &mut [u32; 514],
+    queue: &mut [u32; 517],
     end: usize,
     xs: Row,
     ys: Row,
@@ -629,7 +629,7 @@ fn meet_record(
     sheet: &[u32],
     ws: &[u32],
     links: &mut [u32; 2048],
-    queue: &mut [u32; 514],
+    queue: &mut [u32; 517],
     end: usize,
     x: u32,
     y: u32,
@@ -664,7 +664,7 @@ fn meet_new(
     places: &[u32],
     ws: &[u32],
     links: &mut [u32; 2048],
-    queue: &mut [u32; 514],
+    queue: &mut [u32; 517],
     end: usize,
     x: u32,
     y: u32,
@@ -689,7 +689,7 @@ fn meet_cell(
     places: &[u32],
     ws: &[u32],
     links: &mut [u32; 2048],
-    queue: &mut [u32; 514],
+    queue: &mut [u32; 517],
     end: usize,
     x: u32,
     y: u32,
@@ -708,7 +708,7 @@ fn meet_cells(
     places: &[u32],
     ws: &[u32],
     links: &mut [u32; 2048],
-    queue: &mut [u32; 514],
+    queue: &mut [u32; 517],
     end: usize,
     head: usize,
     ys: Row,
@@ -749,7 +749,7 @@ fn meet_across(
     places: &[u32],
     ws: &[u32],
     links: &mut [u32; 2048],
-    queue: &mut [u32; 514],
+    queue: &mut [u32; 517],
     end: usize,
     x: u32,
     y: u32,
@@ -789,7 +789,7 @@ fn meet_across(
 }
 
 // Whether the ref of a type is marked in the queue as queued with its own inverse.
-fn is_mirrored(queue: &[u32; 514], x: u32) -> bool {
+fn is_mirrored(queue: &[u32; 517], x: u32) -> bool {
     queue[QUEUE + words::wide(x / 2 % 256)] == x / 2 + 1
 }
 
@@ -799,7 +799,7 @@ fn meet_mirrored(
     places: &[u32],
     ws: &[u32],
     links: &mut [u32; 2048],
-    queue: &mut [u32; 514],
+    queue: &mut [u32; 517],
     end: usize,
     xs: Row,
 ) -> usize
@@ -827,7 +827,7 @@ fn meet_rows(
     places: &[u32],
     ws: &[u32],
     links: &mut [u32; 2048],
-    queue: &mut [u32; 514],
+    queue: &mut [u32; 517],
     end: usize,
     x: u32,
     y: u32,
@@ -862,7 +862,7 @@ fn meet_children(
     places: &[u32],
     ws: &[u32],
     links: &mut [u32; 2048],
-    queue: &mut [u32; 514],
+    queue: &mut [u32; 517],
     end: usize,
     x: u32,
     y: u32,
@@ -884,7 +884,7 @@ fn run(
     places: &[u32],
     ws: &[u32],
     links: &mut [u32; 2048],
-    queue: &mut [u32; 514],
+    queue: &mut [u32; 517],
     n: usize,
 ) -> bool
     requires { ⌜ Packed (now ws) ⌝ }
@@ -925,7 +925,7 @@ fn meet_args(
     places: &[u32],
     ws: &[u32],
     links: &mut [u32; 2048],
-    queue: &mut [u32; 514],
+    queue: &mut [u32; 517],
     p: Query,
     q: Query,
 ) -> usize
@@ -952,7 +952,7 @@ fn noted_opposed(
     places: &[u32],
     ws: &[u32],
     links: &[u32; 2048],
-    queue: &[u32; 514],
+    queue: &[u32; 517],
     p: Query,
     q: Query,
 ) -> bool
@@ -974,7 +974,7 @@ fn clash_args(sheet: &[u32], places: &[u32], ws: &[u32], p: Query, q: Query, giv
     ensures { λ r. ⌜ Clashing given (now (sheet .entry)) (now (places .entry)) (now (ws .entry)) p q r ⌝ }
 {
     let mut links = [0u32; 2048];
-    let mut queue = [0u32; 514];
+    let mut queue = [0u32; 517];
     let n = meet_args(sheet, places, ws, &mut links, &mut queue, p, q);
     if n == CLASH {
         return true;

@@ -4,8 +4,8 @@ use borrow.Author.Needs.{needs}
 use Rattle.clash.proofs.meet_opposed.Statement.{statement}
 use Rattle.clash.proofs.meet_opposed.Tie as tie
 
-note-requires : tie.Need-note-requires
-note-requires c κs = search needs
+note-opposed-requires : tie.Need-note-opposed-requires
+note-opposed-requires c κs = search needs
 
 link-requires : tie.Need-link-requires
 link-requires c κs = search needs
@@ -14,4 +14,4 @@ returns : tie.Need-returns
 returns c = search (needs, puts-noted)
 
 pub meet-opposed-spec : {M : Type 1} → statement M
-meet-opposed-spec = tie.close (tie.spec note-requires link-requires returns)
+meet-opposed-spec = tie.close (tie.spec note-opposed-requires link-requires returns)
