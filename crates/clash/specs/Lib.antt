@@ -5,9 +5,12 @@ pub mod Meeting
 pub mod Children
 pub mod Sizes
 pub mod Cycles
+pub mod Loose
+pub mod LooseAcross
 pub mod Pairs
 pub mod Across
 pub mod Readings
+pub mod LooseReadings
 pub mod Places
 pub mod Signatures
 pub mod Params

@@ -59,6 +59,9 @@ queued-set s m qs i v k q o = elim (ℕ-discrete k i) [
       (lt-or i (length qs))
 ]
 
+pub aside-noted : (qs : Words) (e v : ℕ) → e < 256 → Aside qs e (set qs 516 v)
+aside-noted qs e v l = aside-set qs e 516 v (omega arith)
+
 -- A pair is queued.
 pub record Queues (qs : Words) (e x y : ℕ) (rs : Words) (r : ℕ) : Type 0 where
   pub at : (s : Words) (m : SignedSol) (ls : Words) → Holds s m ls qs e → means s m x ≡ means s m y → Holds s m ls rs r
@@ -94,6 +97,10 @@ pub record Puts (ls qs : Words) (e x y : ℕ) (ks rs : Words) (r : ℕ) : Type 0
 
 pub puts-pair : (ls qs : Words) (e x y : ℕ) (ks : Words) → e < 256 → Links ls x y ks → Puts ls qs e x y ks (set qs e (x % 4096 + 4096 * (y % 4096))) (e + 1)
 puts-pair ls qs e x y ks l k = record { at = λ s m h q. (queues-pair qs e x y l) .at s m ks (record { linked = k .at s m (h .linked) q; queued = h .queued; free = h .free }) q }
+
+-- It is linked, and other words of the queue change.
+pub puts-noted : (ls qs : Words) (e x y : ℕ) (ks rs : Words) → Aside qs e rs → Links ls x y ks → Puts ls qs e x y ks rs e
+puts-noted ls qs e x y ks rs a l = record { at = λ s m h q. let g = a .at s m ls h in record { linked = l .at s m (g .linked) q; queued = g .queued; free = g .free } }
 
 -- Whether a kind and id is surely not its own inverse is told, and other words of the queue change.
 pub record Decides (s qs : Words) (e k d : ℕ) (rs : Words) (b : Bool) : Type 0 where
@@ -161,8 +168,14 @@ errors-same s ps ws x y k j ek ej zk zj e m w q = known-errors s ps ws x y k j (
 
 module _ (s ps ws ls qs : Words) (e x y : ℕ) where
   -- One has no kind.
-  pub roots-left : (ks rs : Words) → Links ls x y ks → Aside qs e rs → Meets s ps ws ls qs e x y ks rs e
-  roots-left ks rs l a = record { at = λ m w h q. a .at s m ks (record { linked = l .at s m (h .linked) q; queued = h .queued; free = h .free }) }
+  pub roots-left : (ks : Words) → Links ls x y ks → Meets s ps ws ls qs e x y ks qs e
+  roots-left ks l = record { at = λ m w h q. record { linked = l .at s m (h .linked) q; queued = h .queued; free = h .free } }
+
+  pub roots-other : (ks : Words) → Links ls y x ks → Meets s ps ws ls qs e x y ks qs e
+  roots-other ks l = record { at = λ m w h q. record { linked = l .at s m (h .linked) (sym q); queued = h .queued; free = h .free } }
+
+  pub roots-aside : (rs ks ts : Words) (r : ℕ) → Aside qs e rs → Meets s ps ws ls rs e x y ks ts r → Meets s ps ws ls qs e x y ks ts r
+  roots-aside rs ks ts r a t = record { at = λ m w h q. t .at m w (a .at s m ls h) q }
 
   pub roots-right : (ks rs : Words) → Links ls y x ks → Aside qs e rs → Meets s ps ws ls qs e x y ks rs e
   roots-right ks rs l a = record { at = λ m w h q. a .at s m ks (record { linked = l .at s m (h .linked) (sym q); queued = h .queued; free = h .free }) }

@@ -12,17 +12,14 @@ use Rattle.rules.specs.Lists.{Words}
 use Rattle.rules.specs.Layout.{kind·error}
 use Rattle.rules.specs.Sheet.{at}
 use Rattle.rules.specs.SignedTerms.{Signed, SignedSol, snil, scons, turned, inverse}
-use Rattle.rules.specs.Types.{find}
-use Rattle.rules.specs.Transfer.{type-of-word}
-use Rattle.rules.specs.Answer.{word-of-type}
 use Rattle.table.specs.declared.Row.{Row}
-use Rattle.table.specs.Packing.{types-of}
 use Rattle.queries.specs.declared.Query.{Query}
 use Rattle.clash.specs.Meaning.{means, means-mod, means-turn, turn, row, Meaning, made-parts, type-sort}
 use Rattle.clash.specs.Refs.{KindOf, IdOf, Bit, bits-apart, Sided, type-side, side-of}
 use Rattle.clash.specs.Children.{Gathers}
 use Rattle.clash.specs.Links.{Linked, linked-none}
 use Rattle.clash.specs.Cycles.{Cyclic}
+use Rattle.clash.specs.Loose.{own-type, asked-type, LooseMeaning, Opposed}
 use Rattle.clash.specs.Meeting.{Holds, queued-set, aside-met, aside-only, Meets, apart, known-same, known-sides, kinds-same, errors-same}
 
 -- The first n of xs and ys, turned by b, mean the same one by one.
@@ -182,13 +179,6 @@ ends-not s ps ws ls qs e ks rs r g = record {
   links = λ b m w l. (g .at m w l) .linked;
 }
 
--- The type of argument k of a signature, in its own table, and of the question.
-abbrev pub own-type : Query → ℕ → ℕ
-own-type p k = 2048 + at (p .args) k % 2048
-
-abbrev pub asked-type : Words → Query → ℕ → ℕ
-asked-type ws q k = word-of-type (find (types-of ws) (type-of-word (at (q .args) k)))
-
 -- The arguments of a signature and of the question mean the same.
 pub record Agree (s : Words) (m : SignedSol) (ws : Words) (p q : Query) : Type 0 where
   pub same : (k : ℕ) → k < q .n → means s m (own-type p k) ≡ means s m (asked-type ws q k)
@@ -203,8 +193,9 @@ pub args-on : (s ps ws ls qs : Words) (p q : Query) (ks rs : Words) (r k a b : �
 args-on s ps ws ls qs p q ks rs r k a b is ts u g h ea eb t = record { at = λ m w l x. t .at m w (g .at m w l x) (ap (means s m) ea ∙ x .same k h ∙ ap (means s m) (sym eb)) }
 
 -- At the start there are no links and no pairs.
-pub record Clashing (s ps ws : Words) (p q : Query) (b : Bool) : Type 0 where
-  pub clash : b ≡ true → (m : SignedSol) → Meaning s ps ws m → Agree s m ws p q → ⊥
+-- For a candidate, where g is true, what is loose is besides not its own inverse.
+pub record Clashing (g : Bool) (s ps ws : Words) (p q : Query) (b : Bool) : Type 0 where
+  pub clash : b ≡ true → (m : SignedSol) → Meaning s ps ws m → (g ≡ true → LooseMeaning s ps ws p q m) → Agree s m ws p q → ⊥
 
 holds-none : (s : Words) (m : SignedSol) (ls qs : Words) → ((k : ℕ) → at ls k ≡ 0) → Holds s m ls qs 0
 holds-none s m ls qs z = record { linked = linked-none s m ls z; queued = λ k h. absurd (not-suc-le-zero h); free = omega arith }
@@ -214,14 +205,17 @@ blank zero k = refl
 blank (suc n) zero = refl
 blank (suc n) (suc k) = blank n k
 
-pub clashing-args : (s ps ws qs : Words) (n : ℕ) (p q : Query) (ks rs : Words) (r : ℕ) → ArgsMet s ps ws (replicate n 0) qs p q ks rs r → r ≡ 1000 → Clashing s ps ws p q true
-clashing-args s ps ws qs n p q ks rs r g e = record { clash = λ b m w a. (g .at m w (holds-none s m (replicate n 0) qs (blank n)) a) .free e }
+pub clashing-args : (g : Bool) (s ps ws qs : Words) (n : ℕ) (p q : Query) (ks rs : Words) (r : ℕ) → ArgsMet s ps ws (replicate n 0) qs p q ks rs r → r ≡ 1000 → Clashing g s ps ws p q true
+clashing-args g s ps ws qs n p q ks rs r t e = record { clash = λ b m w v a. (t .at m w (holds-none s m (replicate n 0) qs (blank n)) a) .free e }
 
-pub clashing-run : (s ps ws qs : Words) (n : ℕ) (p q : Query) (ks rs : Words) (r : ℕ) (is : Words) (b : Bool) → ArgsMet s ps ws (replicate n 0) qs p q ks rs r → Ends s ps ws ks rs r is b → b ≡ true → Clashing s ps ws p q true
-clashing-run s ps ws qs n p q ks rs r is b g e y = record { clash = λ z m w a. e .clash y m w (g .at m w (holds-none s m (replicate n 0) qs (blank n)) a) }
+pub clashing-run : (g : Bool) (s ps ws qs : Words) (n : ℕ) (p q : Query) (ks rs : Words) (r : ℕ) (is : Words) (b : Bool) → ArgsMet s ps ws (replicate n 0) qs p q ks rs r → Ends s ps ws ks rs r is b → b ≡ true → Clashing g s ps ws p q true
+clashing-run g s ps ws qs n p q ks rs r is b t e y = record { clash = λ z m w v a. e .clash y m w (t .at m w (holds-none s m (replicate n 0) qs (blank n)) a) }
 
-pub clashing-cyclic : (s ps ws qs : Words) (n : ℕ) (p q : Query) (ks rs : Words) (r : ℕ) (is : Words) (b c : Bool) → ArgsMet s ps ws (replicate n 0) qs p q ks rs r → Ends s ps ws ks rs r is b → b ≡ false → Cyclic s ps ws is c → Clashing s ps ws p q c
-clashing-cyclic s ps ws qs n p q ks rs r is b c g e y d = record { clash = λ z m w a. d .cycle z m w (e .links y m w (g .at m w (holds-none s m (replicate n 0) qs (blank n)) a)) }
+pub clashing-cyclic : (g : Bool) (s ps ws qs : Words) (n : ℕ) (p q : Query) (ks rs : Words) (r : ℕ) (is : Words) (b c : Bool) → ArgsMet s ps ws (replicate n 0) qs p q ks rs r → Ends s ps ws ks rs r is b → b ≡ false → Cyclic s ps ws is c → Clashing g s ps ws p q c
+clashing-cyclic g s ps ws qs n p q ks rs r is b c t e y d = record { clash = λ z m w v a. d .cycle z m w (e .links y m w (t .at m w (holds-none s m (replicate n 0) qs (blank n)) a)) }
+
+pub clashing-opposed : (g : Bool) (s ps ws qs : Words) (n : ℕ) (p q : Query) (ks rs : Words) (r : ℕ) (is : Words) (b c : Bool) → ArgsMet s ps ws (replicate n 0) qs p q ks rs r → Ends s ps ws ks rs r is b → b ≡ false → g ≡ true → Opposed s ps ws is p q c → c ≡ true → Clashing g s ps ws p q true
+clashing-opposed g s ps ws qs n p q ks rs r is b c t e y o d ec = record { clash = λ z m w v a. d .clash ec m w (v o) (e .links y m w (t .at m w (holds-none s m (replicate n 0) qs (blank n)) a)) }
 
 -- The roots of two arguments clash.
 pub record RootClash (s ps ws : Words) (a b : ℕ) (r : Bool) : Type 0 where
@@ -242,11 +236,11 @@ root-ids s ps ws a b k j c d ek ej zk zj ec ed n = record { clash = λ e m w q. 
 pub root-sides : (s ps ws : Words) (a b k j c d r : ℕ) (o : Bool) → KindOf s ps ws (a / 2) k → KindOf s ps ws (b / 2) j → k ≢ 0 → j ≢ 0 → IdOf s ps ws (a / 2) c → IdOf s ps ws (b / 2) d → Bit (apart s ps ws a b) r → r ≡ 1 → Sided s k c o → RootClash s ps ws a b o
 root-sides s ps ws a b k j c d r o ek ej zk zj ec ed t er f = record { clash = λ e m w q. bits-apart (type-side s ps ws a) (type-side s ps ws b) r t er (known-sides s ps ws a b k j c d ek ej zk zj ec ed m w q (f .is e)) }
 
-pub clashing-root : (s ps ws : Words) (p q : Query) (k a b : ℕ) (r : Bool) → k < q .n → a ≡ 2048 + at (p .args) k % 2048 → b ≡ asked-type ws q k → RootClash s ps ws a b r → r ≡ true → Clashing s ps ws p q true
-clashing-root s ps ws p q k a b r h ea eb o e = record { clash = λ y m w x. o .clash e m w (ap (means s m) ea ∙ x .same k h ∙ ap (means s m) (sym eb)) }
+pub clashing-root : (s ps ws : Words) (p q : Query) (k a b : ℕ) (r : Bool) → k < q .n → a ≡ 2048 + at (p .args) k % 2048 → b ≡ asked-type ws q k → RootClash s ps ws a b r → r ≡ true → Clashing false s ps ws p q true
+clashing-root s ps ws p q k a b r h ea eb o e = record { clash = λ y m w v x. o .clash e m w (ap (means s m) ea ∙ x .same k h ∙ ap (means s m) (sym eb)) }
 
-pub clashing-not : (s ps ws : Words) (p q : Query) → Clashing s ps ws p q false
-clashing-not s ps ws p q = record { clash = λ e. let z : _≡_ {A = ℕ} 0 1 = cc in absurd (omega arith) }
+pub clashing-not : (g : Bool) (s ps ws : Words) (p q : Query) → Clashing g s ps ws p q false
+clashing-not g s ps ws p q = record { clash = λ e. let z : _≡_ {A = ℕ} 0 1 = cc in absurd (omega arith) }
 
-pub clashing-found : (s ps ws : Words) (p q : Query) (r : Bool) → Clashing s ps ws p q r → r ≡ true → Clashing s ps ws p q true
-clashing-found s ps ws p q r o e = subst (Clashing s ps ws p q) e o
+pub clashing-found : (g : Bool) (s ps ws : Words) (p q : Query) (r : Bool) → Clashing false s ps ws p q r → r ≡ true → Clashing g s ps ws p q true
+clashing-found g s ps ws p q r o e = record { clash = λ y m w v x. o .clash e m w (λ n. let z : _≡_ {A = ℕ} 0 1 = cc in absurd (omega arith)) x }

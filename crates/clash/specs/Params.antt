@@ -78,12 +78,13 @@ module _ (s : Words) (g : ℕ) (call : Calling s g) (head : ℕ) (eh : head ≡ 
         its-types : AllIn (length (table s head)) ((query-of p) .1)
         its-types = subst (λ (src : Types). AllIn (length src) ((query-of p) .1)) (sym its-table) into
 
-        never-met : Clashing s (take n us) ts p q true → (unify-impl-type s ((brought s g (query-of p) (types-of ts)) .1) ((brought s g (query-of p) (types-of ts)) .0) (query-of q)) .0 ≢ success
+        never-met : Clashing false s (take n us) ts p q true → (unify-impl-type s ((brought s g (query-of p) (types-of ts)) .1) ((brought s g (query-of p) (types-of ts)) .0) (query-of q)) .0 ≢ success
         never-met k = λ won.
-            never-common s ts head (omega (arith, few, call .ready .short)) formed (neat .proper .formed) p q same most its-types inside
-            (subst (λ (ps : Words). Clashing s ps ts p q true) (places-are s head few ws l us n x long) k)
+            never-common s ts head (omega (arith, few, call .ready .short)) formed (neat .proper .formed) p q same most its-types inside false
+            (subst (λ (ps : Words). Clashing false s ps ts p q true) (places-are s head few ws l us n x long) k)
             (subst (λ (src : Types). SignedCommon s (types-of ts) src ((query-of p) .1) ((query-of q) .1)) (sym its-table)
             (param-signed finder (call .question) (call .ready) (types-of ts) (query-of q) neat inside (query-of p) into won))
+            (λ e. absurd (never e))
 
-        pub param-found : (r : Bool) → Clashing s (take n us) ts p q r → ParamClashes s g (types-of ts) (query-of p) (query-of q) r
-        param-found r k = record { room = λ e. its-room; unfit = λ e. never-met (subst (Clashing s (take n us) ts p q) e k) }
+        pub param-found : (r : Bool) → Clashing false s (take n us) ts p q r → ParamClashes s g (types-of ts) (query-of p) (query-of q) r
+        param-found r k = record { room = λ e. its-room; unfit = λ e. never-met (subst (Clashing false s (take n us) ts p q) e k) }

@@ -14,7 +14,7 @@ use borrow.Author.Tests.{eq-eqb, ne-eqb, lt-ltb, le-ltb}
 use Rattle.rules.specs.Lists.{Words}
 use Rattle.rules.specs.Layout.{kind·param, kind·error}
 use Rattle.rules.specs.Sheet.{at, chain}
-use Rattle.rules.specs.Types.{Ty, TypeState, unknown, known, state-at, invert-if, find}
+use Rattle.rules.specs.Types.{Ty, Types, TypeState, unknown, known, state-at, invert-if, find}
 use Rattle.rules.specs.Acyclic.{children}
 use Rattle.rules.specs.AcyclicLaws.{children-at, map-length}
 use Rattle.rules.specs.Transfer.{type-of-word, cell-types, node-state, table}
@@ -31,6 +31,7 @@ use Rattle.queries.specs.declared.Query.{Query}
 use Rattle.queries.specs.Queries.{four, query-of}
 use Rattle.queries.specs.Few.{map-at}
 use Rattle.clash.specs.Meaning.{odd, means, row, Sort, ErrorsApart, Meaning}
+use Rattle.clash.specs.Loose.{LooseMeaning}
 use Rattle.clash.specs.Pairs.{Agree, Clashing}
 
 -- A number that none of the first n is above.
@@ -60,11 +61,11 @@ unfoldable pub reading : Words → Words → (ℕ → ℕ) → SignedSol → Sig
 reading s ws ν σ π τ r = elim (ltb r 256) [ true ↦ node-term s ν σ r (state-at (types-of ws) r) | false ↦ elim (ltb r 1024) [ true ↦ π (r - 256) | false ↦ τ (r - 1024) ] ]
 
 module _ (s ws : Words) (ν : ℕ → ℕ) (σ π τ : SignedSol) where
-  reading-node : (n : ℕ) → n < 256 → reading s ws ν σ π τ n ≡ node-term s ν σ n (state-at (types-of ws) n)
+  pub reading-node : (n : ℕ) → n < 256 → reading s ws ν σ π τ n ≡ node-term s ν σ n (state-at (types-of ws) n)
   unfolding reading
   reading-node n h = rw (lt-ltb n 256 h, reading)
 
-  reading-record : (k : ℕ) → reading s ws ν σ π τ (1024 + k) ≡ τ k
+  pub reading-record : (k : ℕ) → reading s ws ν σ π τ (1024 + k) ≡ τ k
   unfolding reading
   reading-record k = rw (le-ltb (1024 + k) 256 (omega arith), le-ltb (1024 + k) 1024 (omega arith), reading) (ap τ (let z : 1024 + k - 1024 ≡ k = omega arith in z))
 
@@ -129,7 +130,7 @@ error-state unknown e = absurd (omega arith)
 error-state (known i k d cs) e = e
 
 -- A record with a kind is a known node.
-known-state : (s : Words) (p : ℕ) → at s (p + 1) ≢ 0 → node-state s p ≡ known (eqb (at s (p + 2)) 1) (at s (p + 1)) (at s (p + 3)) (cell-types s (at s (p + 4)))
+pub known-state : (s : Words) (p : ℕ) → at s (p + 1) ≢ 0 → node-state s p ≡ known (eqb (at s (p + 2)) 1) (at s (p + 1)) (at s (p + 3)) (cell-types s (at s (p + 4)))
 unfolding node-state
 known-state s p z = rw (ne-eqb (at s (p + 1)) 0 z, node-state)
 
@@ -148,17 +149,17 @@ four-at xs (suc (suc (suc zero))) h = refl
 four-at xs (suc (suc (suc (suc k)))) h = absurd (omega arith)
 
 module _ (q : Query) (few : q .n ≤ 4) where
-  query-length : length ((query-of q) .1) ≡ q .n
+  pub query-length : length ((query-of q) .1) ≡ q .n
   unfolding query-of
   query-length = map-length type-of-word (take (q .n) (four (q .args))) ∙ length-take-le (q .n) (four (q .args)) few
 
-  query-type : (k : ℕ) → k < q .n → getD ((query-of q) .1) k (false, 0) ≡ type-of-word (at (q .args) k)
+  pub query-type : (k : ℕ) → k < q .n → getD ((query-of q) .1) k (false, 0) ≡ type-of-word (at (q .args) k)
   unfolding query-of
   query-type k h =
       map-at type-of-word (false, 0) (take (q .n) (four (q .args))) k (omega (arith, length-take-le (q .n) (four (q .args)) few))
       ∙ ap type-of-word (getD-take (q .n) (four (q .args)) k 0 h ∙ four-at (q .args) k (omega arith))
 
-  query-in : (n k : ℕ) → AllIn n ((query-of q) .1) → k < q .n → (type-of-word (at (q .args) k)) .1 < n
+  pub query-in : (n k : ℕ) → AllIn n ((query-of q) .1) → k < q .n → (type-of-word (at (q .args) k)) .1 < n
   query-in n k a h = subst (λ (t : Ty). t .1 < n) (query-type k h) (child-in n ((query-of q) .1) k a (omega (arith, query-length)))
 
 values-at : (s : Words) (τ σ : SignedSol) (xs ys : List Ty) → values s τ xs ≡ values s σ ys → (k : ℕ) → k < length xs → value s τ (getD xs k (false, 0)) ≡ value s σ (getD ys k (false, 0))
@@ -177,7 +178,7 @@ means-type s m t h =
     (λ i. turned s ((e i) .0) (m ((e i) .1 % 2048))) ∙ ap (λ k. turned s (t .0) (m k)) (let z : t .1 % 2048 ≡ t .1 = omega arith in z)
 
 -- The type of a record's ref.
-record-word : (t : Ty) → t .1 < 1024 → 2048 + word-of-type t % 2048 ≡ word-of-type (t .0, 1024 + t .1)
+pub record-word : (t : Ty) → t .1 < 1024 → 2048 + word-of-type t % 2048 ≡ word-of-type (t .0, 1024 + t .1)
 unfolding word-of-type
 record-word (true, n) h = omega arith
 record-word (false, n) h = omega arith
@@ -293,10 +294,16 @@ module _ (s ws : Words) (h : ℕ) (short : length (chain s h) ≤ 1024) (formed 
         ∙ root-value y v;
   }
 
--- Where the arguments clash there are no terms that they have in common.
+-- What refs mean by terms that a source and the question's table have in common.
+unfoldable pub common-meaning : (s ws : Words) (xs ys : List Ty) (src : Types) → SignedCommon s (types-of ws) src xs ys → SignedSol
+common-meaning s ws xs ys src c = reading s ws (names ws (c .name) (c .called)) (c .σ) (c .π) (c .τ)
+
+-- Where the arguments clash there are no terms that they have in common; for a candidate, such that what is loose is not its own inverse.
 pub never-common : (s ws : Words) (h : ℕ) → length (chain s h) ≤ 1024 → WellFormed (table s h) → WellFormed (types-of ws) → (p q : Query) → p .n ≡ q .n → q .n ≤ 4 → AllIn (length (table s h)) ((query-of p) .1) → AllIn (length (types-of ws)) ((query-of q) .1) →
-    Clashing s (chain s h) ws p q true → SignedCommon s (types-of ws) (table s h) ((query-of p) .1) ((query-of q) .1) → ⊥
-never-common s ws h short formed whole p q en few a b k c =
+    (g : Bool) → Clashing g s (chain s h) ws p q true → (c : SignedCommon s (types-of ws) (table s h) ((query-of p) .1) ((query-of q) .1)) → (g ≡ true → LooseMeaning s (chain s h) ws p q (common-meaning s ws ((query-of p) .1) ((query-of q) .1) (table s h) c)) → ⊥
+unfolding common-meaning
+never-common s ws h short formed whole p q en few a b g k c free =
     k .clash refl (reading s ws (names ws (c .name) (c .called)) (c .σ) (c .π) (c .τ))
     (meaning s ws h short formed whole ((query-of p) .1) ((query-of q) .1) c)
+    free
     (agree s ws h short formed whole ((query-of p) .1) ((query-of q) .1) c p q en few a b (c .same))

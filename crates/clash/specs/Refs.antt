@@ -26,7 +26,7 @@ pub place-none : (ps : Words) (r : ℕ) → r < 1024 → 0 ≡ place ps r
 unfolding place
 place-none ps r h = sym (rw (lt-ltb r 1024 h, place))
 
-place-at : (ps : Words) (r : ℕ) → 1024 ≤ r → place ps r ≡ at ps (r - 1024)
+pub place-at : (ps : Words) (r : ℕ) → 1024 ≤ r → place ps r ≡ at ps (r - 1024)
 unfolding place
 place-at ps r h = rw (le-ltb r 1024 h, place)
 

@@ -16,8 +16,8 @@ use Rattle.rules.specs.Transfer.{cell-types, table}
 use Rattle.rules.specs.Search.{impl-signature}
 use Rattle.rules.specs.Solutions.{AllIn, WellFormed}
 use Rattle.rules.specs.Neat.{Neat}
-use Rattle.rules.specs.SearchKeeps.{signed, met}
-use Rattle.rules.specs.SignedTerms.{SignedCommon, candidate-signed}
+use Rattle.rules.specs.SearchKeeps.{fresh-count, signed, met}
+use Rattle.rules.specs.Loose.{SignedLoose, candidate-loose}
 use Rattle.table.specs.Packing.{types-of}
 use Rattle.chart.specs.Fields.{field-found}
 use Rattle.chart.specs.Index.{Indexed}
@@ -29,6 +29,7 @@ use Rattle.opening.specs.Sound.{Sound, finder}
 use Rattle.opening.specs.Signing.{signature-few, table-neat, signature-inside}
 use Rattle.clash.specs.Pairs.{Clashing}
 use Rattle.clash.specs.Readings.{never-common}
+use Rattle.clash.specs.LooseReadings.{loose-meaning}
 use Rattle.clash.specs.Places.{places-room, places-few, places-length, places-are}
 
 -- true: there is room for the signature, and it does not unify with the question.
@@ -44,13 +45,13 @@ clashes-not s ts q i = record { room = λ e. absurd (never e); unfit = λ e. abs
 
 -- true: the signature of the impl whose record is at p has as many arguments as the question, and cannot mean what that does.
 pub record Against (s ps ws : Words) (q : Query) (p : ℕ) (r : Bool) : Type 0 where
-  pub signature : r ≡ true → (a : Query) × (query-of a ≡ (at s (p + 3), cell-types s (at s (p + 5)))) × (a .n ≡ q .n) × Clashing s ps ws a q true
+  pub signature : r ≡ true → (a : Query) × (query-of a ≡ (at s (p + 3), cell-types s (at s (p + 5)))) × (a .n ≡ q .n) × Clashing true s ps ws a q true
 
 pub against-not : (s ps ws : Words) (q : Query) (p : ℕ) → Against s ps ws q p false
 against-not s ps ws q p = record { signature = λ e. absurd (never e) }
 
-pub against-args : (s ps ws : Words) (q : Query) (p tr args v : ℕ) (a : Query) (r : Bool) → tr ≡ at s (p + 3) → args ≡ at s (p + 5) → v ≡ args → query-of a ≡ (tr, cell-types s v) → a .n ≡ q .n → Clashing s ps ws a q r → Against s ps ws q p r
-against-args s ps ws q p tr args v a r et ea ev eq en k = record { signature = λ e. (a, eq ∙ (λ t. (et t, cell-types s ((ev ∙ ea) t))), en, subst (Clashing s ps ws a q) e k) }
+pub against-args : (s ps ws : Words) (q : Query) (p tr args v : ℕ) (a : Query) (r : Bool) → tr ≡ at s (p + 3) → args ≡ at s (p + 5) → v ≡ args → query-of a ≡ (tr, cell-types s v) → a .n ≡ q .n → Clashing true s ps ws a q r → Against s ps ws q p r
+against-args s ps ws q p tr args v a r et ea ev eq en k = record { signature = λ e. (a, eq ∙ (λ t. (et t, cell-types s ((ev ∙ ea) t))), en, subst (Clashing true s ps ws a q) e k) }
 
 pub args-read : (s : Words) (p args v : ℕ) → length (cell-types s (at s (p + 5))) ≤ 4 → args ≡ at s (p + 5) → v ≡ args → length (cell-types s v) ≤ 4
 args-read s p args v h ea ev = subst (λ k. length (cell-types s k) ≤ 4) (sym (ev ∙ ea)) h
@@ -107,18 +108,21 @@ module _ (s : Words) (sound : Sound s) (i : ℕ) (h : i < many s header·impls) 
           room : length ((signed s (types-of ts) i) .1) ≤ limit·nodes
           room = omega (arith, takes .most (types-of ts))
 
-          common : (a : Query) → query-of a ≡ (at s (p + 3), cell-types s (at s (p + 5))) → (met s (types-of ts) (query-of q) i) .0 ≡ success → SignedCommon s (types-of ts) (table s head) ((query-of a) .1) ((query-of q) .1)
+          common : (a : Query) → query-of a ≡ (at s (p + 3), cell-types s (at s (p + 5))) → (met s (types-of ts) (query-of q) i) .0 ≡ success → SignedLoose s (types-of ts) (table s head) (fresh-count s i) ((query-of a) .1) ((query-of q) .1)
           unfolding impl-signature impl-table impl-args
           common a ea won =
-              subst (λ (src : Types). SignedCommon s (types-of ts) src ((query-of a) .1) ((query-of q) .1)) (ap (table s) (sym found))
-              (subst (λ (xs : List Ty). SignedCommon s (types-of ts) (table s (field s header·impls i impl·table)) xs ((query-of q) .1)) (ap (cell-types s) (sym (o .word 5)) ∙ sym (ap (λ (y : ImplType). y .1) ea))
-              (candidate-signed (finder s sound) (sound .question) (sound .ready) (types-of ts) (query-of q) neat inside i h won))
+              subst (λ (src : Types). SignedLoose s (types-of ts) src (fresh-count s i) ((query-of a) .1) ((query-of q) .1)) (ap (table s) (sym found))
+              (subst (λ (xs : List Ty). SignedLoose s (types-of ts) (table s (field s header·impls i impl·table)) (fresh-count s i) xs ((query-of q) .1)) (ap (cell-types s) (sym (o .word 5)) ∙ sym (ap (λ (y : ImplType). y .1) ea))
+              (candidate-loose (finder s sound) (sound .question) (sound .ready) (types-of ts) (query-of q) neat inside i h won))
 
-          never-met : (a : Query) → query-of a ≡ (at s (p + 3), cell-types s (at s (p + 5))) → a .n ≡ q .n → Clashing s (take n us) ts a q true → (met s (types-of ts) (query-of q) i) .0 ≢ success
+          never-met : (a : Query) → query-of a ≡ (at s (p + 3), cell-types s (at s (p + 5))) → a .n ≡ q .n → Clashing true s (take n us) ts a q true → (met s (types-of ts) (query-of q) i) .0 ≢ success
           never-met a ea en k = λ won.
-              never-common s ts head short formed (neat .proper .formed) a q en most
-              (signature-inside s sound i h head found (at s (p + 3)) (at s (p + 5)) a (o .word 3) (o .word 5) ea) inside
-              (subst (λ (ps : Words). Clashing s ps ts a q true) places k) (common a ea won)
+              let into = signature-inside s sound i h head found (at s (p + 3)) (at s (p + 5)) a (o .word 3) (o .word 5) ea in
+              let c = common a ea won in
+              never-common s ts head short formed (neat .proper .formed) a q en most into inside true
+              (subst (λ (ps : Words). Clashing true s ps ts a q true) places k)
+              (c .common)
+              (λ e. loose-meaning s ts head short formed (neat .proper .formed) a q en most into inside (fresh-count s i) c)
 
           pub clash-found : (r : Bool) → Against s (take n us) ts q p r → Clashes s (types-of ts) (query-of q) i r
           clash-found r k = record {

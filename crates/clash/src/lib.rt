@@ -1,16 +1,17 @@
 // Whether a candidate's signature, or an impl parameter of the caller's generics, and the question cannot unify: a test made before it is opened.
 // It goes by classes of types that have to be the same, and finds a clash: two types of one class that differ in kind, id or number of children, or are different Errors, or differ in side where the kind is not its own inverse,
-// so that a type is met inverted that may not be (where a type meets its own inverse, its children meet theirs); or a class that would contain itself, which is the occurs check (`cycles`). Where it finds none nothing is said.
+// so that a type is met inverted that may not be (where a type meets its own inverse, its children meet theirs); or an unknown that meets its own inverse and stays free (`loose`); or a class that would contain itself, which is the occurs check (`cycles`). Where it finds none nothing is said.
 // A type is twice a ref, and one more if it is inverted. Refs are read modulo 2,048: up to 255 roots of the question's table, from 256 on type parameters, from 1,024 on nodes of the signature's table by their records.
 // `links` has for each ref 0, or 1 and the type that the ref is, of the same class; `queue` has pairs of types that are the same and whose children are to be met, in its first 256 words, and is worked off from its end:
 // a pair stands in it, marked, until all below it is done. After these it has, by refs modulo 256, 1 and the ref that was queued with its own inverse last; then how many links were gone to look for self-dual marks, how many unknowns were linked,
-// and which children of the pair in hand were met, and which are to be.
+// which children of the pair in hand were met, and which are to be, and last 1 and an unknown that met its own inverse (`loose`).
 // `notes` has pairs that were met for an earlier candidate of the same question, each with the children that are to be met for a later one, as bits: none where the pair was worked off with no unknown linked meanwhile, so that it is passed over,
 // and otherwise those that were not linked to each other already. Whatever the notes hold, a clash that is found is one, as children that are passed over say nothing;
 // but a clash may be missed by them, and so none is used any more once a candidate for which one was used did not unify.
 ghost use mathlib.Core.Path.{_≡_};
 ghost use Prim.Native.Nat.{_+_, _-_, _*_, _/_, _%_, _<_, _≤_};
 ghost use mathlib.Core.Logic.{_≢_};
+ghost use mathlib.Core.Bool.{false};
 ghost use lib.ListN.{length};
 ghost use Rattle.rules.specs.Sheet.{at, field, many};
 ghost use Rattle.rules.specs.Layout.{header·generics, header·impls, generics·table};
@@ -29,6 +30,7 @@ ghost use Rattle.clash.specs.Links.{Finds, Links, Settles};
 ghost use Rattle.clash.specs.Meeting.{Aside, Queues, Puts, Decides, Inverts, Meets, apart as apart-of};
 ghost use Rattle.clash.specs.Children.{Cells, Gathers};
 ghost use Rattle.clash.specs.Pairs.{Goes, Ran, Ends, ArgsMet, RootClash, Clashing};
+ghost use Rattle.clash.specs.Loose.{Opposed};
 ghost use Rattle.clash.specs.Across.{sides-across, RecordMet, CellsMet};
 ghost use Rattle.clash.specs.Signatures.{Against, Room, ImplAt, Clashes};
 ghost use Rattle.clash.specs.Params.{Calling, ParamClashes};
@@ -38,6 +40,7 @@ use queries::Query;
 use table::Row;
 
 mod cycles;
+mod loose;
 
 const NODES: u32 = 256;
 
@@ -72,6 +75,9 @@ const MASKS: usize = 251;
 const USED: usize = 510;
 
 const OFF: usize = 511;
+
+// The word of the queue that notes an unknown that met its own inverse.
+const NOTED: usize = 516;
 
 // At most so often the queue is looked at, twice for each pair.
 const PAIRS: usize = 2048;
@@ -267,7 +273,7 @@ fn children(sheet: &[u32], places: &[u32], ws: &[u32], r: u32) -> Row
     cells(sheet, words::wide(head))
 }
 
-// The last of at most 16 links from a type.
+// The last of at most 16 links from a type. A ref that is linked to its own inverse is a root.
 fn find_far(links: &[u32; 2048], t: u32) -> u32
     ensures { λ x. ⌜ Finds (now (links .entry)) t x ⌝ }
 {
@@ -276,6 +282,9 @@ fn find_far(links: &[u32; 2048], t: u32) -> u32
     while left > 0 {
         let up = links[words::wide(x / 2 % 2048)];
         if up == 0 {
+            return x;
+        }
+        if (up - 1) / 2 == x / 2 % 2048 {
             return x;
         }
         x = turn(x % 2, up - 1);
@@ -292,6 +301,9 @@ fn find(links: &[u32; 2048], t: u32) -> u32
     if up == 0 {
         return t;
     }
+    if (up - 1) / 2 == t / 2 % 2048 {
+        return t;
+    }
     find_far(links, turn(t % 2, up - 1))
 }
 
@@ -301,15 +313,6 @@ fn link(links: &mut [u32; 2048], x: u32, y: u32)
 {
     let v = turn(x % 2, y);
     links[words::wide(x / 2 % 2048)] = v % 4096 + 1;
-}
-
-// The same, unless it is the ref of y.
-fn link_apart(links: &mut [u32; 2048], x: u32, y: u32)
-    ensures { λ _. ⌜ Links (now (links .entry)) x y (now (links .exit)) ⌝ }
-{
-    if x / 2 != y / 2 {
-        link(links, x, y);
-    }
 }
 
 // A root: a Param of the signature is linked to its type parameter, and the root of that is found.
@@ -495,7 +498,57 @@ fn count_bound(queue: &mut [u32; 517], end: usize)
     }
 }
 
-// Meets types of two roots: an unknown is linked to the other, and two that have a kind clash or are queued.
+// Notes an unknown that meets its own inverse.
+fn note_opposed(queue: &mut [u32; 517], end: usize, r: u32)
+    ensures { λ _. ⌜ Aside (now (queue .entry)) end (now (queue .exit)) ⌝ }
+{
+    if end < QUEUE {
+        queue[NOTED] = r % 2048 + 1;
+    }
+}
+
+// Meets an unknown with its own inverse: it is linked to that, and noted.
+fn meet_opposed(
+    links: &mut [u32; 2048],
+    queue: &mut [u32; 517],
+    end: usize,
+    x: u32,
+    y: u32,
+) -> usize
+    ensures { λ r. ⌜ Puts (now (links .entry)) (now (queue .entry)) end x y (now (links .exit)) (now (queue .exit)) r ⌝ }
+{
+    note_opposed(queue, end, x / 2);
+    link(links, x, y);
+    end
+}
+
+// Meets an unknown with another type of a root: it is linked to that; but another unknown is linked to it where it is its own inverse.
+fn meet_unknown(
+    sheet: &[u32],
+    places: &[u32],
+    ws: &[u32],
+    links: &mut [u32; 2048],
+    queue: &mut [u32; 517],
+    end: usize,
+    x: u32,
+    y: u32,
+) -> usize
+    ensures { λ r. ⌜ Meets (now (sheet .entry)) (now (places .entry)) (now (ws .entry)) (now (links .entry)) (now (queue .entry)) end x y (now (links .exit)) (now (queue .exit)) r ⌝ }
+{
+    if x / 2 == y / 2 {
+        return meet_opposed(links, queue, end, x, y);
+    }
+    if links[words::wide(x / 2 % 2048)] != 0 {
+        if kind(sheet, places, ws, y / 2) == 0 {
+            link(links, y, x);
+            return end;
+        }
+    }
+    link(links, x, y);
+    end
+}
+
+// Meets types of two roots: an unknown is linked to the other, or it to that, and two that have a kind clash or are queued.
 fn meet_roots(
     sheet: &[u32],
     places: &[u32],
@@ -510,9 +563,8 @@ fn meet_roots(
 {
     let k = kind(sheet, places, ws, x / 2);
     if k == 0 {
-        link_apart(links, x, y);
         count_bound(queue, end);
-        return end;
+        return meet_unknown(sheet, places, ws, links, queue, end, x, y);
     }
     let j = kind(sheet, places, ws, y / 2);
     if j == 0 {
@@ -1054,7 +1106,28 @@ fn meet_args(
     e
 }
 
-// Whether the arguments of a signature clash with those of the question.
+// Whether an unknown that met its own inverse, if one is noted in the queue, stays free.
+fn noted_opposed(
+    sheet: &[u32],
+    places: &[u32],
+    ws: &[u32],
+    links: &[u32; 2048],
+    queue: &[u32; 517],
+    p: Query,
+    q: Query,
+) -> bool
+    requires { ⌜ Packed (now ws) ⌝ }
+    requires { ⌜ q .n ≤ 4 ⌝ }
+    ensures { λ r. ⌜ Opposed (now (sheet .entry)) (now (places .entry)) (now (ws .entry)) (now (links .entry)) p q r ⌝ }
+{
+    let r = queue[NOTED];
+    if r == 0 {
+        return false;
+    }
+    loose::opposed(sheet, places, ws, links, p, q, r - 1)
+}
+
+// Whether the arguments of a signature clash with those of the question; of a candidate, whose Params are given types, if it is `given`.
 fn clash_args(
     sheet: &[u32],
     places: &[u32],
@@ -1062,10 +1135,11 @@ fn clash_args(
     notes: &mut [u32; 512],
     p: Query,
     q: Query,
+    given: bool,
 ) -> bool
     requires { ⌜ Packed (now ws) ⌝ }
     requires { ⌜ q .n ≤ 4 ⌝ }
-    ensures { λ r. ⌜ Clashing (now (sheet .entry)) (now (places .entry)) (now (ws .entry)) p q r ⌝ }
+    ensures { λ r. ⌜ Clashing given (now (sheet .entry)) (now (places .entry)) (now (ws .entry)) p q r ⌝ }
 {
     let mut links = [0u32; 2048];
     let mut queue = [0u32; 517];
@@ -1076,6 +1150,11 @@ fn clash_args(
     notes[USED] = 0;
     if run(sheet, places, ws, &mut links, &mut queue, notes, n) {
         return true;
+    }
+    if given {
+        if noted_opposed(sheet, places, ws, &links, &queue, p, q) {
+            return true;
+        }
     }
     cycles::cyclic(sheet, places, ws, &links)
 }
@@ -1113,7 +1192,7 @@ fn root_clash(sheet: &[u32], places: &[u32], ws: &[u32], a: u32, b: u32) -> bool
 // Whether the arguments of a signature clash with those of the question by their roots alone.
 fn roots_clash(sheet: &[u32], places: &[u32], ws: &[u32], p: Query, q: Query) -> bool
     requires { ⌜ q .n ≤ 4 ⌝ }
-    ensures { λ r. ⌜ Clashing (now (sheet .entry)) (now (places .entry)) (now (ws .entry)) p q r ⌝ }
+    ensures { λ r. ⌜ Clashing false (now (sheet .entry)) (now (places .entry)) (now (ws .entry)) p q r ⌝ }
 {
     let mut k: usize = 0;
     while k < q.n {
@@ -1143,10 +1222,11 @@ fn args_clash(
     notes: &mut [u32; 512],
     p: Query,
     q: Query,
+    given: bool,
 ) -> bool
     requires { ⌜ Packed (now ws) ⌝ }
     requires { ⌜ q .n ≤ 4 ⌝ }
-    ensures { λ r. ⌜ Clashing (now (sheet .entry)) (now (places .entry)) (now (ws .entry)) p q r ⌝ }
+    ensures { λ r. ⌜ Clashing given (now (sheet .entry)) (now (places .entry)) (now (ws .entry)) p q r ⌝ }
 {
     if roots_clash(sheet, places, ws, p, q) {
         return true;
@@ -1154,7 +1234,7 @@ fn args_clash(
     if are_small(sheet, ws) {
         return false;
     }
-    clash_args(sheet, places, ws, notes, p, q)
+    clash_args(sheet, places, ws, notes, p, q, given)
 }
 
 // Whether the signature of the impl whose record is at p clashes with question q.
@@ -1177,7 +1257,7 @@ fn clash_at(
     if a.n != q.n {
         return false;
     }
-    args_clash(sheet, places, ws, notes, a, q)
+    args_clash(sheet, places, ws, notes, a, q, true)
 }
 
 // Whether a table has room for n nodes more.
@@ -1270,7 +1350,7 @@ pub fn param_clashes(
         let head = generics_head(sheet, g);
         let m = chart::index_chain(sheet, head, places, 0);
         let mut notes = [0u32; 512];
-        return args_clash(sheet, &places[..m], ws, &mut notes, p, q);
+        return args_clash(sheet, &places[..m], ws, &mut notes, p, q, false);
     }
     false
 }

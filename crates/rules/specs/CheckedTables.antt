@@ -31,7 +31,7 @@ unfolding new-nodes
 new-nodes-length i [] = refl
 new-nodes-length i (st ∷ sts) = ap suc (new-nodes-length (suc i) sts)
 
-new-nodes-at : (i : ℕ) (sts : List TypeState) (n : ℕ) → n < length sts → node-at (new-nodes i sts) n ≡ new-node (i + n) (getD sts n unknown)
+pub new-nodes-at : (i : ℕ) (sts : List TypeState) (n : ℕ) → n < length sts → node-at (new-nodes i sts) n ≡ new-node (i + n) (getD sts n unknown)
 unfolding new-nodes node-at
 new-nodes-at i [] n h = absurd (not-suc-le-zero h)
 new-nodes-at i (st ∷ sts) zero h = ap (λ k. new-node k st) (sym (add-zero i))

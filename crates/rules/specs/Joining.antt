@@ -79,7 +79,7 @@ module _ (ts : Types) (lo hi : Ty) (hlo : lo .1 < length ts) (hhi : hi .1 < leng
       go (no d) = inr (d, rw (eqb-false r (lo .1) d, swap))
 
   -- A node's root after it: the upper one for the lower one's class, else as before.
-  hang-cases : (n : ℕ) → n < length ts → ((rep ts n ≡ lo .1) × (rep (hang ts lo hi) n ≡ hi .1)) ⊎ ((rep ts n ≢ lo .1) × (rep (hang ts lo hi) n ≡ rep ts n))
+  pub hang-cases : (n : ℕ) → n < length ts → ((rep ts n ≡ lo .1) × (rep (hang ts lo hi) n ≡ hi .1)) ⊎ ((rep ts n ≢ lo .1) × (rep (hang ts lo hi) n ≡ rep ts n))
   hang-cases n h = go (swap-cases (rep ts n))
     where
       go : ((rep ts n ≡ lo .1) × (swap (lo .1) (hi .1) (rep ts n) ≡ hi .1)) ⊎ ((rep ts n ≢ lo .1) × (swap (lo .1) (hi .1) (rep ts n) ≡ rep ts n)) → ((rep ts n ≡ lo .1) × (rep (hang ts lo hi) n ≡ hi .1)) ⊎ ((rep ts n ≢ lo .1) × (rep (hang ts lo hi) n ≡ rep ts n))

@@ -73,7 +73,10 @@ pub mod SubQuestions
 pub mod CommonTerms
 pub mod CommonSides
 pub mod ErrorsApart
+pub mod Labels
+pub mod LabelsCome
 pub mod SignedTerms
+pub mod Loose
 pub mod CallKeeps
 pub mod ResultLimits
 pub mod AnswerSize

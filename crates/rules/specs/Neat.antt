@@ -29,7 +29,7 @@ use Rattle.rules.specs.CheckedSheet.{part}
 use Rattle.rules.specs.CheckedTables.{table-length, Ready, question-formed, question-free, generics-formed, generics-free, impl-formed, impl-free, new-nodes-length}
 use Rattle.rules.specs.Yields.{Every, every-map, every-all}
 use Rattle.rules.specs.Carried.{unify-carries, impl-type-carries, pushed}
-use Rattle.rules.specs.Slim.{Slim, slim-join, slim-import, slim-fresh, slim-table, no-params}
+use Rattle.rules.specs.Slim.{Slim, slim-join, slim-import, slim-fresh, slim-table, ParamBelow, param-below, no-params}
 use Rattle.rules.specs.TransferCount.{row, row-moves}
 use Rattle.rules.specs.UprightRoots.{RootsUpright, unify-upright, impl-type-upright, import-upright, fresh-upright, table-upright}
 
@@ -261,6 +261,11 @@ module _ (a : Finder) (q : Words) (r : Ready a q) where
     pub signature-in : AllIn (length ((impl-signature (a .sheet) i) .0)) ((impl-signature (a .sheet) i) .1 .1)
     unfolding impl-signature impl-ok args-ok impl-table impl-args field
     signature-in = in-checked _ _ (subst (λ k. T (in-table k (cell-types (a .sheet) (impl-args (a .sheet) i)))) (sym (table-length (a .sheet) (impl-table (a .sheet) i))) (part _ (part _ (r .values .impls i h) 3) 2))
+
+    -- its Params are below the count of its type parameters,
+    pub signature-below : (k : ℕ) → ParamBelow (type-params (a .sheet) (impl-generics (a .sheet) i)) (state-at ((impl-signature (a .sheet) i) .0) k)
+    unfolding impl-signature
+    signature-below = param-below (a .sheet) (a .sheet) _ (impl-table (a .sheet) i) signature-ok
 
     -- and it has no Param where its generics have no type parameters.
     pub signature-plain : type-params (a .sheet) (impl-generics (a .sheet) i) ≡ 0 → (ps : Option (List Ty)) (k : ℕ) → param-for ps (state-at ((impl-signature (a .sheet) i) .0) k) ≡ none

@@ -679,7 +679,20 @@ module _ (s : Words) (ts : Types) (υ : SignedSol) (g : ℕ → Bool → ℕ →
     unfolding signed-reading signed-of value rep
     read-up n h = ap (turned s ((node-at ts n) .up .0)) (shape-same (signed-of (δ n)) signed-reading n h (level n) (state-at ts (rep ts n)) refl ∙ sym (read-root n h))
 
--- A well-formed, readable table with upright roots has a solution with sides, its unknowns left free.
+-- The side that stands first in a term.
+unfoldable side-of : Signed → Bool
+side-of (svar n b) = b
+side-of (scon b k d t) = b
+side-of snil = false
+side-of (scons t u) = false
+
+-- An unknown, inverted or not, is not its own inverse.
+unknown-turns : (s : Words) (b : Bool) (r : ℕ) → inverse s (turned s b (svar r false)) ≢ turned s b (svar r false)
+unfolding inverse turned side-of
+unknown-turns s true r q = true≢false (sym (ap side-of q))
+unknown-turns s false r q = true≢false (ap side-of q)
+
+-- A well-formed, readable table with upright roots has a solution with sides, its unknowns left free: none of them is its own inverse.
 module _ (s : Words) (ν : ℕ → ℕ) (ts : Types) (formed : WellFormed ts) (free : Readable ts) (upright : RootsUpright ts) where
   abbrev labelled : ℕ → Bool → ℕ → ℕ → Signed → Signed
   labelled r i k d t = made s i k (label ν k d r) t
@@ -687,9 +700,19 @@ module _ (s : Words) (ν : ℕ → ℕ) (ts : Types) (formed : WellFormed ts) (f
   abbrev free-signed : SignedSol
   free-signed = signed-reading s ts (λ r. svar r false) labelled formed upright (rank ts) (readable-ranked ts formed free)
 
-  pub has-signed : (θ : SignedSol) × SignedSolves s ν ts θ
+  free-root : (n : ℕ) → n < length ts → free-signed (rep ts n) ≡ shape s ts (λ r. svar r false) labelled free-signed (rep ts n) (state-at ts (rep ts n))
+  free-root = read-root s ts (λ r. svar r false) labelled formed upright (rank ts) (readable-ranked ts formed free)
+
+  free-up : (n : ℕ) → n < length ts → free-signed n ≡ value s free-signed ((node-at ts n) .up)
+  free-up = read-up s ts (λ r. svar r false) labelled formed upright (rank ts) (readable-ranked ts formed free)
+
+  free-turns : (n : ℕ) → n < length ts → state-at ts (rep ts n) ≡ unknown → inverse s (free-signed n) ≢ free-signed n
+  unfolding shape value rep
+  free-turns n h q = subst (λ t. inverse s t ≢ t) (sym (free-up n h ∙ ap (turned s ((node-at ts n) .up .0)) (free-root n h ∙ ap (shape s ts (λ r. svar r false) labelled free-signed (rep ts n)) q))) (unknown-turns s ((node-at ts n) .up .0) (rep ts n))
+
+  pub has-signed : (θ : SignedSol) × SignedSolves s ν ts θ × ((n : ℕ) → n < length ts → state-at ts (rep ts n) ≡ unknown → inverse s (θ n) ≢ θ n)
   unfolding shape
-  has-signed = (free-signed, λ n h. (read-up s ts (λ r. svar r false) labelled formed upright (rank ts) (readable-ranked ts formed free) n h, go (rep ts n) (state-at ts (rep ts n)) (read-root s ts (λ r. svar r false) labelled formed upright (rank ts) (readable-ranked ts formed free) n h)))
+  has-signed = (free-signed, λ n h. (free-up n h, go (rep ts n) (state-at ts (rep ts n)) (free-root n h)), free-turns)
     where
       go : (r : ℕ) (st : TypeState) → free-signed r ≡ shape s ts (λ m. svar m false) labelled free-signed r st → SignedFits s ν free-signed r st
       go r unknown e = tt
@@ -702,7 +725,7 @@ record SignedFollows (s : Words) (μ : ℕ → ℕ) (src : Types) (ps : Option (
   plain : (r : ℕ) (i : Bool) (k d : ℕ) (cs : List Ty) → r < length src → param-for ps (state-at src r) ≡ none → state-at src r ≡ known i k d cs → τ r ≡ made s i k (label μ k d r) (values s τ cs)
 
 -- Where parameters are given, a Param is what was given for it.
-unfoldable signed-given : Words → List Ty → SignedSol → SignedSol
+unfoldable pub signed-given : Words → List Ty → SignedSol → SignedSol
 signed-given s ps σ d = value s σ (getD ps d (false, 0))
 
 given-follows : (s : Words) (μ : ℕ → ℕ) (src : Types) (ps : List Ty) (σ τ : SignedSol) → SignedReads s μ src (signed-given s ps σ) τ → SignedFollows s μ src (some ps) σ τ
@@ -931,6 +954,11 @@ module _ (s : Words) (src : Types) (tidy : Neat src) (flat : (n : ℕ) → n < l
   unfolding shape arrived
   source-left r u h q e = sym (source-root r h ∙ ap (shape s src arrived put source r) q ∙ rw (e, arrived))
 
+  -- and one that did not stays free.
+  source-free : (r : ℕ) → r < length src → state-at src r ≡ unknown → mapped (come .1 .0) r ≡ none → source r ≡ svar r false
+  unfolding shape arrived
+  source-free r h q e = source-root r h ∙ ap (shape s src arrived put source r) q ∙ rw (e, arrived)
+
   import-frame : Frame ([], dst) (come .1)
   unfolding transfer-types
   import-frame = each-frame (transfer-in (suc (length src)) src ps) (in-frame src ps (suc (length src))) xs ([], dst)
@@ -957,6 +985,14 @@ signed-first s ν ts us σ formed l same sv n h =
     let st : state-at us (rep us n) ≡ state-at ts (rep ts n) = ap (state-at us) r ∙ ap (λ (x : TypeNode). x .state) (same (rep ts n) (formed n h .0)) in
     let w = sv n (le-trans h l) in
     (w .0 ∙ ap (λ (x : TypeNode). value s σ (x .up)) (same n h), subst (λ (k : ℕ). SignedFits s ν σ k (state-at ts (rep ts n))) r (subst (SignedFits s ν σ (rep us n)) st (w .1)))
+
+-- The same in a solution of the table us that their join leaves: what is unknown there is not its own inverse, Params are as π says of that solution, and an unknown of the source is what it went to, or stays free.
+pub record SignedJoined (s : Words) (ts src : Types) (xs ys : List Ty) (us : Types) (π : SignedSol → SignedSol) (went : ℕ → Option Ty) : Type 0 where
+  pub common : SignedCommon s ts src xs ys
+  pub free : (n : ℕ) → n < length us → state-at us (rep us n) ≡ unknown → inverse s (common .σ n) ≢ common .σ n
+  pub given : (d : ℕ) → common .π d ≡ π (common .σ) d
+  pub came : (r : ℕ) (u : Ty) → r < length src → state-at src r ≡ unknown → went r ≡ some u → common .τ r ≡ value s (common .σ) u
+  pub left : (r : ℕ) → r < length src → state-at src r ≡ unknown → went r ≡ none → common .τ r ≡ svar r false
 
 -- Where an import behind table ts unifies with a question of it, there are terms with sides that both are.
 module _ (s : Words) (ts : Types) (q : ImplType) (neat : Neat ts) (inside : AllIn (length ts) (q .1)) (src : Types) (tidy : Neat src) (flat : (n : ℕ) → n < length src → rep src n ≡ n) (ps : Option (List Ty)) (dst : Types) (more : length ts ≤ length dst) (first : (n : ℕ) → n < length ts → node-at dst n ≡ node-at ts n) (p : ImplType) (into : AllIn (length src) (p .1)) where
@@ -996,20 +1032,14 @@ module _ (s : Words) (ts : Types) (q : ImplType) (neat : Neat ts) (inside : AllI
   unfolding import-impl-type import-types
   new-error r u e = import-came src ps (p .1) dst r u e .2
 
-  import-signed : Brought dst (come-in .0 .1) (come-in .1) → (π : SignedSol → SignedSol) → ((μ : ℕ → ℕ) (σ τ : SignedSol) → SignedReads s μ src (π σ) τ → SignedFollows s μ src ps σ τ) → (unify-impl-type s (come-in .1) (come-in .0) q) .0 ≡ success → SignedCommon s ts src (p .1) (q .1)
+  import-signed : Brought dst (come-in .0 .1) (come-in .1) → (π : SignedSol → SignedSol) → ((μ : ℕ → ℕ) (σ τ : SignedSol) → SignedReads s μ src (π σ) τ → SignedFollows s μ src ps σ τ) → (unify-impl-type s (come-in .1) (come-in .0) q) .0 ≡ success → SignedJoined s ts src (p .1) (q .1) ((unify-impl-type s (come-in .1) (come-in .0) q) .1) π went-to
   unfolding import-impl-type
   import-signed b π follow won = record {
-    σ = σ;
-    name = ν;
-    solves = signed-first s ν ts (w .1) σ (neat .proper .formed) long (λ k l. import-first s src tidy flat ps dst (p .1) into ν beyond σ (π σ) k (le-trans l more) ∙ first k l) (r .0);
-    π = π σ;
-    τ = τ;
-    called = μ;
-    reads = reads;
-    same = sym (import-reads s src tidy flat ps dst (p .1) into ν beyond σ (π σ) (follow μ σ τ reads) (r .0)) ∙ r .1;
-    apart = λ x y hx hy rx ry ex ey e. distinct x y (le-trans hx long) (le-trans hy long) (old-root x hx rx) (old-root y hy ry) (old-error x hx ex) (old-error y hy ey) e;
-    apart-source = λ x y hx hy ex ey e. of-source x y ex ey e (went-to x) refl (went-to y) refl;
-    apart-both = λ x y hx hy ry ex ey e. of-both x y hy ry ex ey e (went-to x) refl;
+    common = both;
+    free = h .2;
+    given = λ d. refl;
+    came = λ k u l e g. sym (source-left s src tidy flat ps dst (p .1) into ν beyond σ (π σ) k u l e g);
+    left = source-free s src tidy flat ps dst (p .1) into ν beyond σ (π σ);
   }
     where
       w : ImplType × Types
@@ -1034,7 +1064,7 @@ module _ (s : Words) (ts : Types) (q : ImplType) (neat : Neat ts) (inside : AllI
       beyond : ℕ
       beyond = length (m .1)
 
-      h : (θ : SignedSol) × SignedSolves s ν (m .1) θ
+      h : (θ : SignedSol) × SignedSolves s ν (m .1) θ × ((n : ℕ) → n < length (m .1) → state-at (m .1) (rep (m .1) n) ≡ unknown → inverse s (θ n) ≢ θ n)
       h = has-signed s ν (m .1) (j .neat .proper .formed) (j .neat .proper .kept) (j .neat .upright)
 
       σ : SignedSol
@@ -1081,13 +1111,31 @@ module _ (s : Words) (ts : Types) (q : ImplType) (neat : Neat ts) (inside : AllI
           lt-irrefl y (omega (arith, new-low x u eu, same))
       of-both x y hy ry ex ey e none eu = lt-irrefl beyond (omega (arith, below y (le-trans hy long), e, away x eu))
 
--- Where a candidate's signature unifies with the question, there are terms with sides that both are: the question in a solution of its table, the signature by some choice for its parameters.
-pub candidate-signed : (a : Finder) (w₀ : Words) → Ready a w₀ → (ts : Types) (q : ImplType) → Neat ts → AllIn (length ts) (q .1) → (i : ℕ) → i < many (a .sheet) header·impls → (met (a .sheet) ts q i) .0 ≡ success → SignedCommon (a .sheet) ts ((impl-signature (a .sheet) i) .0) ((impl-signature (a .sheet) i) .1 .1) (q .1)
+      both : SignedCommon s ts src (p .1) (q .1)
+      both = record {
+        σ = σ;
+        name = ν;
+        solves = signed-first s ν ts (w .1) σ (neat .proper .formed) long (λ k l. import-first s src tidy flat ps dst (p .1) into ν beyond σ (π σ) k (le-trans l more) ∙ first k l) (r .0);
+        π = π σ;
+        τ = τ;
+        called = μ;
+        reads = reads;
+        same = sym (import-reads s src tidy flat ps dst (p .1) into ν beyond σ (π σ) (follow μ σ τ reads) (r .0)) ∙ r .1;
+        apart = λ x y hx hy rx ry ex ey e. distinct x y (le-trans hx long) (le-trans hy long) (old-root x hx rx) (old-root y hy ry) (old-error x hx ex) (old-error y hy ey) e;
+        apart-source = λ x y hx hy ex ey e. of-source x y ex ey e (went-to x) refl (went-to y) refl;
+        apart-both = λ x y hx hy ry ex ey e. of-both x y hy ry ex ey e (went-to x) refl;
+      }
+
+-- Where a candidate's signature unifies with the question, there are terms with sides that both are: the question in a solution of its table, the signature by the fresh unknowns for its parameters.
+pub candidate-joined : (a : Finder) (w₀ : Words) → Ready a w₀ → (ts : Types) (q : ImplType) → Neat ts → AllIn (length ts) (q .1) → (i : ℕ) → i < many (a .sheet) header·impls → (met (a .sheet) ts q i) .0 ≡ success → SignedJoined (a .sheet) ts ((impl-signature (a .sheet) i) .0) ((impl-signature (a .sheet) i) .1 .1) (q .1) ((met (a .sheet) ts q i) .1) (signed-given (a .sheet) (fresh-params ts (fresh-count (a .sheet) i))) (mapped ((transfer-types ((impl-signature (a .sheet) i) .0) (some (fresh-params ts (fresh-count (a .sheet) i))) ((impl-signature (a .sheet) i) .1 .1) ([], with-fresh ts (fresh-count (a .sheet) i))) .1 .0))
 unfolding impl-signature
-candidate-signed a w₀ ready ts q neat inside i h won =
+candidate-joined a w₀ ready ts q neat inside i h won =
     let n = fresh-count (a .sheet) i in
     import-signed (a .sheet) ts q neat inside ((impl-signature (a .sheet) i) .0) (signature-neat a w₀ ready i h) (table-flat (a .sheet) (impl-table (a .sheet) i)) (some (fresh-params ts n)) (with-fresh ts n) (omega (arith, fresh-length ts n)) (fresh-first ts n)
     ((impl-signature (a .sheet) i) .1) (signature-in a w₀ ready i h) (signature-brought a w₀ ready ts q neat inside i h) (signed-given (a .sheet) (fresh-params ts n)) (λ μ. given-follows (a .sheet) μ ((impl-signature (a .sheet) i) .0) (fresh-params ts n)) won
+
+pub candidate-signed : (a : Finder) (w₀ : Words) → Ready a w₀ → (ts : Types) (q : ImplType) → Neat ts → AllIn (length ts) (q .1) → (i : ℕ) → i < many (a .sheet) header·impls → (met (a .sheet) ts q i) .0 ≡ success → SignedCommon (a .sheet) ts ((impl-signature (a .sheet) i) .0) ((impl-signature (a .sheet) i) .1 .1) (q .1)
+candidate-signed a w₀ ready ts q neat inside i h won = candidate-joined a w₀ ready ts q neat inside i h won .common
 
 -- So are there where an impl parameter of the caller's generics unifies with the question: its Params are types of their own.
 pub param-signed : (a : Finder) (w₀ : Words) → Ready a w₀ → (ts : Types) (q : ImplType) → Neat ts → AllIn (length ts) (q .1) → (p : ImplType) → AllIn (length ((impl-params (a .sheet) (a .generics)) .0)) (p .1) → (unify-impl-type (a .sheet) ((import-impl-type ((impl-params (a .sheet) (a .generics)) .0) none p ts) .1) ((import-impl-type ((impl-params (a .sheet) (a .generics)) .0) none p ts) .0) q) .0 ≡ success → SignedCommon (a .sheet) ts ((impl-params (a .sheet) (a .generics)) .0) (p .1) (q .1)
@@ -1096,4 +1144,4 @@ param-signed a w₀ ready ts q neat inside p into won =
     let src = (impl-params (a .sheet) (a .generics)) .0 in
     let tidy = impl-params-neat a w₀ ready (a .generics) (ready .generics) in
     import-signed (a .sheet) ts q neat inside src tidy (table-flat (a .sheet) (generics-table (a .sheet) (a .generics))) none ts (le-refl _) (λ k l. refl)
-    p into (query-brought src tidy none ts neat (low-none ts) p into) (λ σ. signed-itself (a .sheet)) (λ μ. none-follows (a .sheet) μ src (params-bare a w₀ ready)) won
+    p into (query-brought src tidy none ts neat (low-none ts) p into) (λ σ. signed-itself (a .sheet)) (λ μ. none-follows (a .sheet) μ src (params-bare a w₀ ready)) won .common

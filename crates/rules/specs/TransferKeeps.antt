@@ -22,11 +22,11 @@ use Rattle.rules.specs.Readings.{Ranked, Acyclic, readable-ranked, reada
 unfoldable pub put : (ℕ → ℕ) → ℕ → ℕ → ℕ → ℕ
 put f n v k = elim (eqb k n) [ true ↦ v | false ↦ f k ]
 
-put-at : (f : ℕ → ℕ) (n v : ℕ) → put f n v n ≡ v
+pub put-at : (f : ℕ → ℕ) (n v : ℕ) → put f n v n ≡ v
 unfolding put
 put-at f n v = rw (eqb-true n n refl, put)
 
-put-off : (f : ℕ → ℕ) (n v k : ℕ) → k ≢ n → put f n v k ≡ f k
+pub put-off : (f : ℕ → ℕ) (n v k : ℕ) → k ≢ n → put f n v k ≡ f k
 unfolding put
 put-off f n v k h = rw (eqb-false k n h, put)
 

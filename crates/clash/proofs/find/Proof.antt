@@ -16,6 +16,12 @@ element-copy-out-up c = search needs
 returns : tie.Need-returns
 returns c = search needs
 
+sub-if2 : tie.Need-sub-if2
+sub-if2 c = search needs
+
+returns-2 : tie.Need-returns-2
+returns-2 c = search needs
+
 sub-turn : tie.Need-sub-turn
 sub-turn c = search needs
 
@@ -25,8 +31,8 @@ turn-requires c κs = search needs
 find-far-requires : tie.Need-find-far-requires
 find-far-requires c κs = search needs
 
-returns-2 : tie.Need-returns-2
-returns-2 c = search (needs, finds-far)
+returns-3 : tie.Need-returns-3
+returns-3 c = search (needs, finds-far)
 
 pub find-spec : {M : Type 1} → statement M
 find-spec =
@@ -36,7 +42,9 @@ find-spec =
     mul-up
     element-copy-out-up
     returns
+    sub-if2
+    returns-2
     sub-turn
     turn-requires
     find-far-requires
-    returns-2)
+    returns-3)

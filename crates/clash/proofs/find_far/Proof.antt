@@ -25,6 +25,12 @@ element-copy-out-up c = search needs
 returns : tie.Need-returns Inv-loop μ-loop
 returns c = search needs
 
+sub-if2 : tie.Need-sub-if2 Inv-loop μ-loop
+sub-if2 c = search needs
+
+returns-2 : tie.Need-returns-2 Inv-loop μ-loop
+returns-2 c = search needs
+
 sub-turn : tie.Need-sub-turn Inv-loop μ-loop
 sub-turn c = search needs
 
@@ -40,8 +46,8 @@ loop-less c = search needs
 loop-again : tie.Need-loop-again Inv-loop μ-loop
 loop-again c = search (needs, finds-up)
 
-returns-2 : tie.Need-returns-2 Inv-loop μ-loop
-returns-2 c = search needs
+returns-3 : tie.Need-returns-3 Inv-loop μ-loop
+returns-3 c = search needs
 
 pub find-far-spec : {M : Type 1} → statement M
 find-far-spec =
@@ -54,9 +60,11 @@ find-far-spec =
     mul-up
     element-copy-out-up
     returns
+    sub-if2
+    returns-2
     sub-turn
     turn-requires
     sub-left
     loop-less
     loop-again
-    returns-2)
+    returns-3)

@@ -1,5 +1,5 @@
 -- `meet_roots`: by the kinds.
-use Rattle.clash.specs.Meeting.{roots-left, roots-right, roots-kinds, kind-as}
+use Rattle.clash.specs.Meeting.{roots-aside, roots-right, roots-kinds, kind-as}
 use borrow.Author.Needs.{needs}
 use Rattle.clash.proofs.meet_roots.Statement.{statement}
 use Rattle.clash.proofs.meet_roots.Tie as tie
@@ -7,14 +7,14 @@ use Rattle.clash.proofs.meet_roots.Tie as tie
 kind-requires : tie.Need-kind-requires
 kind-requires c κs = search needs
 
-link-apart-requires : tie.Need-link-apart-requires
-link-apart-requires c κs = search needs
+meet-unknown-requires : tie.Need-meet-unknown-requires
+meet-unknown-requires c κs = search needs
 
 count-bound-requires : tie.Need-count-bound-requires
 count-bound-requires c κs = search needs
 
 returns : tie.Need-returns
-returns c = search (needs, roots-left)
+returns c = search (needs, roots-aside)
 
 kind-requires-2 : tie.Need-kind-requires-2
 kind-requires-2 c κs = search needs
@@ -42,8 +42,8 @@ meet-roots-spec =
     tie.close
     (tie.spec
     kind-requires
-    link-apart-requires
     count-bound-requires
+    meet-unknown-requires
     returns
     kind-requires-2
     link-requires

@@ -1,0 +1,34 @@
+-- `are_closed`: all that is to be tested.
+use Rattle.clash.specs.Loose.{labelling-not, labelling-all}
+use borrow.Author.Needs.{needs}
+use Rattle.clash.proofs.loose.are_closed.Statement.{statement}
+use Rattle.clash.proofs.loose.are_closed.Tie as tie
+
+args-alike-requires : tie.Need-args-alike-requires
+args-alike-requires c κs = search needs
+
+returns : tie.Need-returns
+returns c = search (needs, labelling-not)
+
+records-closed-requires : tie.Need-records-closed-requires
+records-closed-requires c κs = search needs
+
+returns-2 : tie.Need-returns-2
+returns-2 c = search (needs, labelling-not)
+
+nodes-closed-requires : tie.Need-nodes-closed-requires
+nodes-closed-requires c κs = search needs
+
+returns-3 : tie.Need-returns-3
+returns-3 c = search (needs, labelling-all)
+
+pub are-closed-spec : {M : Type 1} → statement M
+are-closed-spec =
+    tie.close
+    (tie.spec
+    args-alike-requires
+    returns
+    records-closed-requires
+    returns-2
+    nodes-closed-requires
+    returns-3)

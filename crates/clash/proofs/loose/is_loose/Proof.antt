@@ -1,0 +1,54 @@
+-- `is_loose`: a witness, and its label.
+use Rattle.clash.specs.Loose.{opposed-not, opposed-by}
+use borrow.Author.Needs.{needs}
+use Rattle.clash.proofs.loose.is_loose.Statement.{statement}
+use Rattle.clash.proofs.loose.is_loose.Tie as tie
+
+is-opposite-requires : tie.Need-is-opposite-requires
+is-opposite-requires c κs = search needs
+
+returns : tie.Need-returns
+returns c = search (needs, opposed-not)
+
+may-witness-requires : tie.Need-may-witness-requires
+may-witness-requires c κs = search needs
+
+returns-2 : tie.Need-returns-2
+returns-2 c = search (needs, opposed-not)
+
+add-label-from : tie.Need-add-label-from
+add-label-from c = search needs
+
+label-from-requires : tie.Need-label-from-requires
+label-from-requires c κs = search needs
+
+records-requires : tie.Need-records-requires
+records-requires c κs = search needs
+
+label-from-requires-2 : tie.Need-label-from-requires-2
+label-from-requires-2 c κs = search needs
+
+label-of-requires : tie.Need-label-of-requires
+label-of-requires c κs = search needs
+
+are-closed-requires : tie.Need-are-closed-requires
+are-closed-requires c κs = search needs
+
+returns-3 : tie.Need-returns-3
+returns-3 c = search (needs, opposed-by)
+
+pub is-loose-spec : {M : Type 1} → statement M
+is-loose-spec =
+    tie.close
+    (tie.spec
+    is-opposite-requires
+    returns
+    may-witness-requires
+    returns-2
+    add-label-from
+    label-from-requires
+    records-requires
+    label-from-requires-2
+    label-of-requires
+    are-closed-requires
+    returns-3)

@@ -1,0 +1,71 @@
+-- `same_cells`: cell by cell.
+use Prim.Native.Nat.{_-_}
+use Rattle.clash.specs.LooseAcross.{Beside, cells-not, beside-start, beside-on, beside-end}
+use borrow.Author.Needs.{needs}
+use Rattle.clash.proofs.loose.same_cells.Statement.{statement}
+use Rattle.clash.proofs.loose.same_cells.Tie as tie
+
+abbrev Inv-loop : tie.InvT-loop
+Inv-loop sheet labels head ys c₀ j₀ c j = Beside sheet labels head ys c j
+
+abbrev μ-loop : tie.MeasureT-loop
+μ-loop sheet labels head ys c₀ j₀ c j = ys .n - j
+
+loop-holds : tie.Need-loop-holds Inv-loop μ-loop
+loop-holds c = search (needs, beside-start)
+
+returns : tie.Need-returns Inv-loop μ-loop
+returns c = search (needs, cells-not)
+
+offset-requires : tie.Need-offset-requires Inv-loop μ-loop
+offset-requires c κs = search needs
+
+own-type-requires : tie.Need-own-type-requires Inv-loop μ-loop
+own-type-requires c κs = search needs
+
+mul-are-alike : tie.Need-mul-are-alike Inv-loop μ-loop
+mul-are-alike c = search needs
+
+element-copy-out-are-alike : tie.Need-element-copy-out-are-alike Inv-loop μ-loop
+element-copy-out-are-alike c = search needs
+
+are-alike-requires : tie.Need-are-alike-requires Inv-loop μ-loop
+are-alike-requires c κs = search needs
+
+returns-2 : tie.Need-returns-2 Inv-loop μ-loop
+returns-2 c = search (needs, cells-not)
+
+next-requires : tie.Need-next-requires Inv-loop μ-loop
+next-requires c κs = search needs
+
+add-j : tie.Need-add-j Inv-loop μ-loop
+add-j c = search needs
+
+loop-less : tie.Need-loop-less Inv-loop μ-loop
+loop-less c = search needs
+
+loop-again : tie.Need-loop-again Inv-loop μ-loop
+loop-again c = search (needs, beside-on)
+
+returns-3 : tie.Need-returns-3 Inv-loop μ-loop
+returns-3 c = search (needs, beside-end)
+
+pub same-cells-spec : {M : Type 1} → statement M
+same-cells-spec =
+    tie.close
+    (tie.spec
+    Inv-loop
+    μ-loop
+    loop-holds
+    returns
+    offset-requires
+    own-type-requires
+    mul-are-alike
+    element-copy-out-are-alike
+    are-alike-requires
+    returns-2
+    next-requires
+    add-j
+    loop-less
+    loop-again
+    returns-3)
