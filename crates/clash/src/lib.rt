@@ -315,6 +315,15 @@ fn link(links: &mut [u32; 2048], x: u32, y: u32)
     links[words::wide(x / 2 % 2048)] = v % 4096 + 1;
 }
 
+// The same, unless it is the ref of y.
+fn link_apart(links: &mut [u32; 2048], x: u32, y: u32)
+    ensures { λ _. ⌜ Links (now (links .entry)) x y (now (links .exit)) ⌝ }
+{
+    if x / 2 != y / 2 {
+        link(links, x, y);
+    }
+}
+
 // A root: a Param of the signature is linked to its type parameter, and the root of that is found.
 fn settle(sheet: &[u32], places: &[u32], links: &mut [u32; 2048], x: u32) -> u32
     ensures { λ r. ⌜ Settles (now (sheet .entry)) (now (places .entry)) (now (links .entry)) x (now (links .exit)) r ⌝ }
