@@ -13,9 +13,9 @@ use Rattle.rules.specs.Sheet.{at, kind-flag, row·own-inverse}
 use Rattle.rules.specs.Types.{xor}
 use Rattle.rules.specs.WordLaws.{word-past}
 use Rattle.rules.specs.Pigeonholes.{lt-or}
-use Rattle.rules.specs.SignedTerms.{SignedSol, label, label-plain, label-error, label-flag}
-use Rattle.clash.specs.Meaning.{means, means-mod, Meaning, Parts, made-parts}
-use Rattle.clash.specs.Refs.{KindOf, IdOf, sort-type, error-one, id-one, id-any, type-side, Bit, bits-apart, Sided, sided-not}
+use Rattle.rules.specs.SignedTerms.{SignedSol, turned, label, label-plain, label-error, label-flag}
+use Rattle.clash.specs.Meaning.{odd, means, means-mod, means-turn, turn, Meaning, Parts, made-parts}
+use Rattle.clash.specs.Refs.{KindOf, IdOf, sort-type, error-one, id-one, id-any, side-of, type-side, Bit, bit-yes, bit-no, bit-sum, bit-type, bits-apart, Sided, sided-not}
 use Rattle.clash.specs.Links.{Linked, Finds, Links, Settles}
 
 -- What is kept while types are met: the links, and the pairs before place e of the queue, are of types that mean the same; 1000 is said where that cannot be.
@@ -223,3 +223,53 @@ module _ (s ps ws ls qs : Words) (e a b x y : ℕ) (ks js : Words) (f : Settles 
 
   pub settled-meets : (is rs : Words) (r : ℕ) → Meets s ps ws js qs e x y is rs r → Meets s ps ws ls qs e a b is rs r
   settled-meets is rs r t = record { at = λ m w h q. t .at m w (settled m w h) (sym (f .at m (w .records) (h .linked)) ∙ q ∙ g .at m (w .records) (f .links m (w .records) (h .linked))) }
+
+-- The other type is given by a number that is the same.
+pub meets-as : (s ps ws ls qs : Words) (e a b y : ℕ) (ks rs : Words) (r : ℕ) → y ≡ b → Meets s ps ws ls qs e a y ks rs r → Meets s ps ws ls qs e a b ks rs r
+meets-as s ps ws ls qs e a b y ks rs r q t = record { at = λ m w h o. t .at m w h (o ∙ ap (means s m) (sym q)) }
+
+-- A type and its inverse differ in side.
+side-bit : (i : Bool) → (b : ℕ) × Bit i b
+side-bit true = (1, bit-yes true refl)
+side-bit false = (0, bit-no false refl)
+
+inverse-rest : (x y : ℕ) → y ≡ turn 1 x → x % 2 + y % 2 ≡ 1
+inverse-rest x y e = omega arith
+
+sides-sum : (a u b : ℕ) → a + u ≡ 1 → ((a + b) % 2 + (u + b) % 2) % 2 ≡ 1
+sides-sum a u b e = omega arith
+
+own-apart : (s ps ws : Words) (x y : ℕ) → y ≡ turn 1 x → (b : ℕ) × (Bit (apart s ps ws x y) b × (b ≡ 1))
+own-apart s ps ws x y e =
+    let c = side-bit (side-of s ps ws (x / 2)) in
+    let z : x / 2 ≡ y / 2 = omega (arith, e) in
+    let o = subst (λ r. Bit (side-of s ps ws r) (c .0)) z (c .1) in (
+      ((x % 2 + c .0) % 2 + (y % 2 + c .0) % 2) % 2,
+      (bit-sum (type-side s ps ws x) (type-side s ps ws y) ((x % 2 + c .0) % 2) ((y % 2 + c .0) % 2) (bit-type s ps ws x (c .0) (c .1)) (bit-type s ps ws y (c .0) o), sides-sum (x % 2) (y % 2) (c .0) (inverse-rest x y e)),
+    )
+
+-- A type is met with its own inverse by x, which is found from it and has a kind.
+module _ (s ps ws ls qs : Words) (e t x k d : ℕ) (f : Finds ls t x) (ek : KindOf s ps ws (x / 2) k) (zk : k ≢ 0) (ed : IdOf s ps ws (x / 2) d) where
+  own-same : (m : SignedSol) → Linked s m ls → (y : ℕ) → y ≡ turn 1 x → means s m t ≡ means s m (turn 1 t) → means s m x ≡ means s m y
+  own-same m l y ey q =
+      sym (f .at s m l)
+      ∙ q
+      ∙ means-turn s m 1 t
+      ∙ ap (turned s (odd 1)) (f .at s m l)
+      ∙ sym (means-turn s m 1 x)
+      ∙ ap (means s m) (sym ey)
+
+  own-meets : (y : ℕ) → y ≡ turn 1 x → (ks rs : Words) (r : ℕ) → Inverts s ls qs e x y k d ks rs r → Meets s ps ws ls qs e t (turn 1 t) ks rs r
+  own-meets y ey ks rs r i =
+      let z : x / 2 ≡ y / 2 = omega (arith, ey) in
+      let ej = subst (λ n. KindOf s ps ws n k) z ek in
+      let eg = subst (λ n. IdOf s ps ws n d) z ed in
+      let o = own-apart s ps ws x y ey in
+      let g = known-inverted s ps ws ls qs e x y k ek ej zk d d ed eg (o .0) (o .1 .0) (o .1 .1) ks rs r i in
+      record { at = λ m w h q. g .at m w h (own-same m (h .linked) y ey q) }
+
+  pub own-sided : (rs : Words) (b : Bool) → Decides s qs e k d rs b → b ≡ true → Meets s ps ws ls qs e t (turn 1 t) ls rs 1000
+  own-sided rs b c eb = own-meets (turn 1 x) refl ls rs 1000 (inverts-sided s ls qs e x (turn 1 x) k d rs b c eb)
+
+  pub own-queued : (rs : Words) (b : Bool) (y : ℕ) (ts : Words) (r : ℕ) → Decides s qs e k d rs b → y ≡ turn 1 x → Queues rs e x y ts r → Meets s ps ws ls qs e t (turn 1 t) ls ts r
+  own-queued rs b y ts r c ey p = own-meets y ey ls ts r (inverts-queued s ls qs e x y k d rs b c ts r p)

@@ -1,7 +1,8 @@
 // Whether a class of types would contain itself, by its links: a type is larger than its children, so that nothing is such a type. Where none is found nothing is said.
 // A walk from each unknown and type parameter that is linked goes down by classes; `marks` has for each ref 0, 1 on the way down to where the walk is, and 2 once it is done.
+// Types whose walk is done are noted, and passed over for later candidates of the same question.
 ghost use mathlib.Core.Path.{_≡_};
-ghost use Prim.Native.Nat.{_+_, _*_, _%_, _<_, _≤_};
+ghost use Prim.Native.Nat.{_+_, _*_, _/_, _%_, _<_, _≤_};
 ghost use lib.ListN.{set};
 ghost use Rattle.rules.specs.Sheet.{at};
 ghost use Rattle.table.specs.Packing.{Packed};
@@ -10,7 +11,10 @@ use crate::UNTOLD;
 use crate::children;
 use crate::find;
 use crate::kind;
+use crate::note_mask;
+use crate::noted;
 use crate::parameter;
+use crate::place_or_node;
 use table::Row;
 
 const OPEN: u32 = 1;
@@ -43,6 +47,24 @@ fn root(sheet: &[u32], places: &[u32], links: &[u32; 2048], t: u32) -> u32
     find(links, p)
 }
 
+// A number for the ref of a type, not 0 and not that of a pair.
+fn walk_key(places: &[u32], x: u32) -> u32 {
+    place_or_node(places, x / 2 * 2) * 16384 + 16384
+}
+
+// Whether a walk below a type is noted as done.
+fn is_walked(places: &[u32], notes: &mut [u32; 512], x: u32) -> bool {
+    noted(notes, walk_key(places, x)) == 0
+}
+
+// Marks the ref of a type as done, and notes it.
+fn finish(places: &[u32], marks: &mut [u32; 2048], notes: &mut [u32; 512], x: u32)
+    ensures { λ _. ⌜ now (marks .exit) ≡ set (now (marks .entry)) (x / 2 % 2048) 2 ⌝ }
+{
+    mark(marks, x / 2, DONE);
+    note_mask(notes, walk_key(places, x), 0);
+}
+
 // Whether the class of a type is open, or one within it is, at most `left` deep.
 fn within(
     sheet: &[u32],
@@ -50,6 +72,7 @@ fn within(
     ws: &[u32],
     links: &[u32; 2048],
     marks: &mut [u32; 2048],
+    notes: &mut [u32; 512],
     t: u32,
     left: usize,
 ) -> bool
@@ -67,15 +90,18 @@ fn within(
     if left == 0 {
         return false;
     }
+    if is_walked(places, notes, x) {
+        return false;
+    }
     let row = children(sheet, places, ws, x / 2);
     if row.n == UNTOLD {
         return false;
     }
     mark(marks, x / 2, OPEN);
-    if among(sheet, places, ws, links, marks, row, left - 1) {
+    if among(sheet, places, ws, links, marks, notes, row, left - 1) {
         return true;
     }
-    mark(marks, x / 2, DONE);
+    finish(places, marks, notes, x);
     false
 }
 
@@ -86,6 +112,7 @@ fn among(
     ws: &[u32],
     links: &[u32; 2048],
     marks: &mut [u32; 2048],
+    notes: &mut [u32; 512],
     row: Row,
     left: usize,
 ) -> bool
@@ -95,7 +122,7 @@ fn among(
 {
     let mut j: usize = 0;
     while j < row.n {
-        if within(sheet, places, ws, links, marks, row.types[j], left) {
+        if within(sheet, places, ws, links, marks, notes, row.types[j], left) {
             return true;
         }
         j += 1;
@@ -110,6 +137,7 @@ fn within_linked(
     ws: &[u32],
     links: &[u32; 2048],
     marks: &mut [u32; 2048],
+    notes: &mut [u32; 512],
     r: u32,
 ) -> bool
     requires { ⌜ Packed (now ws) ⌝ }
@@ -119,7 +147,7 @@ fn within_linked(
     if kind(sheet, places, ws, r) != 0 {
         return false;
     }
-    within(sheet, places, ws, links, marks, 2 * r, 512)
+    within(sheet, places, ws, links, marks, notes, 2 * r, 512)
 }
 
 // Whether a class that a ref of n from one on is of contains itself.
@@ -129,6 +157,7 @@ fn cyclic_among(
     ws: &[u32],
     links: &[u32; 2048],
     marks: &mut [u32; 2048],
+    notes: &mut [u32; 512],
     from: u32,
     n: u32,
 ) -> bool
@@ -141,7 +170,7 @@ fn cyclic_among(
         let r = from + k;
         k += 1;
         if links[words::wide(r % 2048)] != 0 {
-            if within_linked(sheet, places, ws, links, marks, r) {
+            if within_linked(sheet, places, ws, links, marks, notes, r) {
                 return true;
             }
         }
@@ -160,13 +189,28 @@ fn records(places: &[u32]) -> u32
 }
 
 // Whether a class contains itself.
-pub fn cyclic(sheet: &[u32], places: &[u32], ws: &[u32], links: &[u32; 2048]) -> bool
+pub fn cyclic(
+    sheet: &[u32],
+    places: &[u32],
+    ws: &[u32],
+    links: &[u32; 2048],
+    notes: &mut [u32; 512],
+) -> bool
     requires { ⌜ Packed (now ws) ⌝ }
     ensures { λ r. ⌜ Cyclic (now (sheet .entry)) (now (places .entry)) (now (ws .entry)) (now (links .entry)) r ⌝ }
 {
     let mut marks = [0u32; 2048];
-    if cyclic_among(sheet, places, ws, links, &mut marks, 0, 264) {
+    if cyclic_among(sheet, places, ws, links, &mut marks, notes, 0, 264) {
         return true;
     }
-    cyclic_among(sheet, places, ws, links, &mut marks, 1024, records(places))
+    cyclic_among(
+        sheet,
+        places,
+        ws,
+        links,
+        &mut marks,
+        notes,
+        1024,
+        records(places),
+    )
 }

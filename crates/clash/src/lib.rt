@@ -6,7 +6,8 @@
 // a pair stands in it, marked, until all below it is done. After these it has, by refs modulo 256, 1 and the ref that was queued with its own inverse last; then how many links were gone to look for self-dual marks, how many unknowns were linked,
 // which children of the pair in hand were met, and which are to be, and last 1 and an unknown that met its own inverse (`loose`).
 // `notes` has pairs that were met for an earlier candidate of the same question, each with the children that are to be met for a later one, as bits: none where the pair was worked off with no unknown linked meanwhile, so that it is passed over,
-// and otherwise those that were not linked to each other already. Whatever the notes hold, a clash that is found is one, as children that are passed over say nothing;
+// and otherwise those that were not linked to each other already. Walks are noted too: a type below which `cycles` found nothing is passed over by later walks.
+// Whatever the notes hold, a clash that is found is one, as what is passed over says nothing;
 // but a clash may be missed by them, and so none is used any more once a candidate for which one was used did not unify.
 ghost use mathlib.Core.Path.{_≡_};
 ghost use Prim.Native.Nat.{_+_, _-_, _*_, _/_, _%_, _<_, _≤_};
@@ -68,7 +69,7 @@ const ALL: u32 = 511;
 // A pair whose children were met stays in the queue until all below it is done, marked: this, times one more than that count was, is added to it.
 const VISITED: u32 = 16777216;
 
-// The key of a pair noted stands at its place, itself modulo 251; the children that are to be met stand so many words behind it.
+// The key of a pair or walk noted stands at its place, itself modulo 251; the children that are to be met stand so many words behind it.
 const MASKS: usize = 251;
 
 // These words of the notes say whether one was used for the last candidate tested, and whether none is to be used.
@@ -865,6 +866,30 @@ fn is_mirrored(queue: &[u32; 517], x: u32) -> bool {
     queue[QUEUE + words::wide(x / 2 % 256)] == x / 2 + 1
 }
 
+// Meets a type with its own inverse: what is found from it has the kind and id of its inverse, and differs in side.
+fn meet_own(
+    sheet: &[u32],
+    places: &[u32],
+    ws: &[u32],
+    links: &mut [u32; 2048],
+    queue: &mut [u32; 517],
+    end: usize,
+    t: u32,
+) -> usize
+    ensures { λ r. ⌜ Meets (now (sheet .entry)) (now (places .entry)) (now (ws .entry)) (now (links .entry)) (now (queue .entry)) end t (turn-of 1 t) (now (links .exit)) (now (queue .exit)) r ⌝ }
+{
+    let x = find(links, t);
+    let k = kind(sheet, places, ws, x / 2);
+    if k == 0 {
+        return meet(sheet, places, ws, links, queue, end, t, turn(1, t));
+    }
+    let d = id(sheet, places, ws, x / 2);
+    if sided_once(sheet, queue, end, k, d) {
+        return CLASH;
+    }
+    mirror(queue, end, x, turn(1, x))
+}
+
 // Meets the types of a row with their own inverses, but for those whose refs have been queued so.
 fn meet_mirrored(
     sheet: &[u32],
@@ -884,7 +909,7 @@ fn meet_mirrored(
         let x = xs.types[j];
         j += 1;
         if !is_mirrored(queue, x) {
-            e = meet(sheet, places, ws, links, queue, e, x, turn(1, x));
+            e = meet_own(sheet, places, ws, links, queue, e, x);
             if e == CLASH {
                 return e;
             }
@@ -1165,7 +1190,7 @@ fn clash_args(
             return true;
         }
     }
-    cycles::cyclic(sheet, places, ws, &links)
+    cycles::cyclic(sheet, places, ws, &links, notes)
 }
 
 // Whether the roots of two arguments clash, as Errors of different refs do.

@@ -26,11 +26,8 @@ add-j c = search needs
 is-mirrored-requires : tie.Need-is-mirrored-requires Inv-loop μ-loop
 is-mirrored-requires c κs = search needs
 
-turn-requires : tie.Need-turn-requires Inv-loop μ-loop
-turn-requires c κs = search needs
-
-meet-requires : tie.Need-meet-requires Inv-loop μ-loop
-meet-requires c κs = search needs
+meet-own-requires : tie.Need-meet-own-requires Inv-loop μ-loop
+meet-own-requires c κs = search needs
 
 returns : tie.Need-returns Inv-loop μ-loop
 returns c = search (needs, goes-on)
@@ -61,8 +58,7 @@ meet-mirrored-spec =
     element-copy-out-x
     add-j
     is-mirrored-requires
-    turn-requires
-    meet-requires
+    meet-own-requires
     returns
     loop-less
     loop-again

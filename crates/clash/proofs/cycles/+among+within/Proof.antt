@@ -12,38 +12,40 @@ use Rattle.clash.proofs.cycles.within.Reads as within
 use Rattle.clash.proofs.cycles.within.Kinds as within-kinds
 use Rattle.clash.proofs.cycles.+among+within.Lts-within as within-lts
 use Rattle.clash.proofs.children.Reads as children-reads
+use Rattle.clash.proofs.cycles.finish.Reads as finish-reads
+use Rattle.clash.proofs.cycles.is_walked.Reads as is-walked-reads
 use Rattle.clash.proofs.cycles.mark.Reads as mark-reads
 use Rattle.clash.proofs.cycles.mark_of.Reads as mark-of-reads
 use Rattle.clash.proofs.cycles.root.Reads as root-reads
 use Rattle.clash.proofs.cycles.+among+within.{statement}
 use Rattle.clash.proofs.cycles.+among+within.Tie.{close}
 
-abbrev μ-among : Measures 5 among-kinds.ps ℕ
-μ-among κs a = 2 * a .1 .1 .1 .1 .1 .1 .0 + 1
+abbrev μ-among : Measures 6 among-kinds.ps ℕ
+μ-among κs a = 2 * a .1 .1 .1 .1 .1 .1 .1 .0 + 1
 
-abbrev μ-within : Measures 5 within-kinds.ps ℕ
-μ-within κs a = 2 * a .1 .1 .1 .1 .1 .1 .0
+abbrev μ-within : Measures 6 within-kinds.ps ℕ
+μ-within κs a = 2 * a .1 .1 .1 .1 .1 .1 .1 .0
 
-abbrev among-at : ℕ → In 5 among-kinds.ps
-among-at t = and 5 among-kinds.ps (is 5 among-kinds.ps μ-among t) among.Pre
+abbrev among-at : ℕ → In 6 among-kinds.ps
+among-at t = and 6 among-kinds.ps (is 6 among-kinds.ps μ-among t) among.Pre
 
-abbrev among-below : ℕ → In 5 among-kinds.ps
-among-below t = and 5 among-kinds.ps (falls 5 among-kinds.ps _<_ μ-among t) among.Pre
+abbrev among-below : ℕ → In 6 among-kinds.ps
+among-below t = and 6 among-kinds.ps (falls 6 among-kinds.ps _<_ μ-among t) among.Pre
 
-abbrev within-at : ℕ → In 5 within-kinds.ps
-within-at t = and 5 within-kinds.ps (is 5 within-kinds.ps μ-within t) within.Pre
+abbrev within-at : ℕ → In 6 within-kinds.ps
+within-at t = and 6 within-kinds.ps (is 6 within-kinds.ps μ-within t) within.Pre
 
-abbrev within-below : ℕ → In 5 within-kinds.ps
-within-below t = and 5 within-kinds.ps (falls 5 within-kinds.ps _<_ μ-within t) within.Pre
+abbrev within-below : ℕ → In 6 within-kinds.ps
+within-below t = and 6 within-kinds.ps (falls 6 within-kinds.ps _<_ μ-within t) within.Pre
 
 abbrev among-Inv-loop : among-lts.InvT-loop
-among-Inv-loop sheet places ws links marks₀ left row j₀ marks j = Kept marks₀ marks
+among-Inv-loop sheet places ws links marks₀ notes₀ left row j₀ marks notes j = Kept marks₀ marks
 
 abbrev among-μ-loop : among-lts.MeasureT-loop
-among-μ-loop sheet places ws links marks₀ left row j₀ marks j = row .n - j
+among-μ-loop sheet places ws links marks₀ notes₀ left row j₀ marks notes j = row .n - j
 
 abbrev within-calls : ℕ → within-lts.Claims
-within-calls t = (root-reads.Asked, root-reads.Learnt, mark-of-reads.Asked, mark-of-reads.Learnt, children-reads.Asked, children-reads.Learnt, mark-reads.Asked, mark-reads.Learnt, among-below t, among.Post)
+within-calls t = (root-reads.Asked, root-reads.Learnt, mark-of-reads.Asked, mark-of-reads.Learnt, is-walked-reads.Asked, is-walked-reads.Learnt, children-reads.Asked, children-reads.Learnt, mark-reads.Asked, mark-reads.Learnt, among-below t, among.Post, finish-reads.Asked, finish-reads.Learnt)
 
 among-loop-holds :
     (t : ℕ) →
@@ -146,11 +148,17 @@ within-returns-2 t c = search (needs, within-not)
 within-returns-3 : (t : ℕ) → within-lts.Need-returns-3 (within-calls t) (within-at t) within.Post
 within-returns-3 t c = search (needs, within-not)
 
-within-children-requires : (t : ℕ) → within-lts.Need-children-requires (within-calls t) (within-at t) within.Post
-within-children-requires t c κs = search needs
+within-is-walked-requires : (t : ℕ) → within-lts.Need-is-walked-requires (within-calls t) (within-at t) within.Post
+within-is-walked-requires t c κs = search needs
 
 within-returns-4 : (t : ℕ) → within-lts.Need-returns-4 (within-calls t) (within-at t) within.Post
 within-returns-4 t c = search (needs, within-not)
+
+within-children-requires : (t : ℕ) → within-lts.Need-children-requires (within-calls t) (within-at t) within.Post
+within-children-requires t c κs = search needs
+
+within-returns-5 : (t : ℕ) → within-lts.Need-returns-5 (within-calls t) (within-at t) within.Post
+within-returns-5 t c = search (needs, within-not)
 
 within-mark-requires : (t : ℕ) → within-lts.Need-mark-requires (within-calls t) (within-at t) within.Post
 within-mark-requires t c κs = search needs
@@ -161,14 +169,14 @@ within-sub-among t c = search needs
 within-among-requires : (t : ℕ) → within-lts.Need-among-requires (within-calls t) (within-at t) within.Post
 within-among-requires t c κs = (search needs, (search needs, search (needs, children-few)))
 
-within-returns-5 : (t : ℕ) → within-lts.Need-returns-5 (within-calls t) (within-at t) within.Post
-within-returns-5 t c = search (needs, within-found)
-
-within-mark-requires-2 : (t : ℕ) → within-lts.Need-mark-requires-2 (within-calls t) (within-at t) within.Post
-within-mark-requires-2 t c κs = search needs
-
 within-returns-6 : (t : ℕ) → within-lts.Need-returns-6 (within-calls t) (within-at t) within.Post
-within-returns-6 t c = search (needs, within-done)
+within-returns-6 t c = search (needs, within-found)
+
+within-finish-requires : (t : ℕ) → within-lts.Need-finish-requires (within-calls t) (within-at t) within.Post
+within-finish-requires t c κs = search needs
+
+within-returns-7 : (t : ℕ) → within-lts.Need-returns-7 (within-calls t) (within-at t) within.Post
+within-returns-7 t c = search (needs, within-done)
 
 pub +among+within-spec : {M : Type 1} → statement M
 +among+within-spec =
@@ -197,11 +205,13 @@ pub +among+within-spec : {M : Type 1} → statement M
     (within-returns t)
     (within-returns-2 t)
     (within-returns-3 t)
-    (within-children-requires t)
+    (within-is-walked-requires t)
     (within-returns-4 t)
+    (within-children-requires t)
+    (within-returns-5 t)
     (within-mark-requires t)
     (within-sub-among t)
     (within-among-requires t)
-    (within-returns-5 t)
-    (within-mark-requires-2 t)
     (within-returns-6 t)
+    (within-finish-requires t)
+    (within-returns-7 t)

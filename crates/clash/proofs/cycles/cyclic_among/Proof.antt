@@ -6,10 +6,10 @@ use Rattle.clash.proofs.cycles.cyclic_among.Statement.{statement}
 use Rattle.clash.proofs.cycles.cyclic_among.Tie as tie
 
 abbrev Inv-loop : tie.InvT-loop
-Inv-loop sheet places ws links marks₀ from n k₀ marks k = Kept marks₀ marks
+Inv-loop sheet places ws links marks₀ notes₀ from n k₀ marks notes k = Kept marks₀ marks
 
 abbrev μ-loop : tie.MeasureT-loop
-μ-loop sheet places ws links marks₀ from n k₀ marks k = n - k
+μ-loop sheet places ws links marks₀ notes₀ from n k₀ marks notes k = n - k
 
 loop-holds : tie.Need-loop-holds Inv-loop μ-loop
 loop-holds c = search (needs, kept-same)
