@@ -97,9 +97,25 @@ fn node(table: &mut Table, id: Option<u32>, children: &[u32]) -> u32 {
 /// So many nodes of eight children: the node below, and seven times the last one.
 fn dense(table: &mut Table, id: Option<u32>, nodes: usize) -> u32 {
   let last = node(table, id, &[]);
+  dense_over(table, id, nodes, last)
+}
+
+/// The same over another last one.
+fn dense_over(table: &mut Table, id: Option<u32>, nodes: usize, last: u32) -> u32 {
   let mut children = [last; 8];
   for _ in 1..nodes {
     children[0] = node(table, id, &children);
+  }
+  children[0]
+}
+
+/// So many nodes of eight children, the node below and seven times one without children, over a last one.
+fn chain(table: &mut Table, nodes: usize, last: u32) -> u32 {
+  let leaf = table.add(kind::NEVER, 0, &[]);
+  let mut children = [leaf; 8];
+  children[0] = last;
+  for _ in 1..nodes {
+    children[0] = node(table, None, &children);
   }
   children[0]
 }
@@ -212,6 +228,26 @@ fn meetings() -> Vec<(&'static str, Search)> {
     (
       "a type of 72 nodes that is not its own inverse",
       Search { meeting: Unlike, dense: 72, ..base },
+    ),
+    (
+      "chains of 110 nodes that differ at their ends",
+      Search { meeting: Chain, dense: 110, ..base },
+    ),
+    (
+      "types of 105 nodes over a parameter, and one in itself",
+      Search { meeting: Over, dense: 105, ..base },
+    ),
+    (
+      "seven copies of 14 nodes meet, and one in itself",
+      Search { meeting: Copies, dense: 14, links: 1, ..base },
+    ),
+    (
+      "seven copies of 31 nodes of the signature meet",
+      Search { meeting: Brothers, dense: 31, links: 1, ..base },
+    ),
+    (
+      "types of 110 nodes alike, and an unknown opposed",
+      Search { meeting: Opposed, dense: 110, ..base },
     ),
     (
       "types of 110 nodes alike, and a struct inverted",

@@ -7,7 +7,7 @@ use oracle::{
   sheet::{flag, kind},
 };
 
-use super::{IMPLS, bare, bind, call, dense, links, query, tower};
+use super::{IMPLS, bare, bind, call, chain, dense, dense_over, links, query, tower};
 
 /// How the types of a question and of a candidate meet, before the candidate fails.
 #[derive(Debug, Clone, Copy, PartialEq, Eq)]
@@ -38,6 +38,16 @@ pub enum Meeting {
   Inverse,
   /// A type meets its own inverse, which its last node is not.
   Unlike,
+  /// Two types of one shape, and an unknown that meets its own inverse.
+  Opposed,
+  /// Two chains of nodes that differ at their ends.
+  Chain,
+  /// A dense type with a parameter in place of its last node, and an unknown that would be within itself.
+  Over,
+  /// A parameter that meets copies of a dense type, and an unknown that would be within itself.
+  Copies,
+  /// An unknown of the question that meets copies of a dense type, and one that would be within itself.
+  Brothers,
 }
 
 /// A search in which `branch` candidates of a question ask a sub-question, to so many levels, and all others fail in the last
@@ -131,6 +141,11 @@ impl Search {
     dense(table, self.struct_id(), self.dense)
   }
 
+  /// Links to copies of the dense type.
+  fn copies(&self, table: &mut Table) -> u32 {
+    links(table, self.links, |table| [(); 7].map(|()| self.dense(table)))
+  }
+
   fn struct_id(&self) -> Option<u32> {
     self.of_structs.then_some(self.round() + 1)
   }
@@ -194,6 +209,11 @@ impl Search {
       | Meeting::Mirrored
       | Meeting::Turned
       | Meeting::Unlike
+      | Meeting::Opposed
+      | Meeting::Chain
+      | Meeting::Over
+      | Meeting::Copies
+      | Meeting::Brothers
       | Meeting::Within => {
         return self.failing_before(impl_);
       }
@@ -235,10 +255,30 @@ impl Search {
         [self.dense(table), table.add(kind::STRUCT, self.round() + 1, &[inner]) + 1]
       }
       Meeting::Mirrored => [self.dense(table), table.add(kind::ENUM, 0, &[]) + 1],
+      Meeting::Opposed => {
+        let opposed = table.add(0, 0, &[]);
+        [self.dense(table), table.add(kind::TUPLE, 0, &[opposed, opposed + 1])]
+      }
+      Meeting::Chain => {
+        let last = table.add(kind::KEY, 0, &[]);
+        [chain(table, self.dense, last), table.add(0, 0, &[])]
+      }
       _ => {
+        let first = match self.meeting {
+          Meeting::Over => {
+            let last = table.add(kind::PARAM, 0, &[]);
+            dense_over(table, self.struct_id(), self.dense, last)
+          }
+          Meeting::Copies => {
+            let param = table.add(kind::PARAM, 0, &[]);
+            links(table, self.links, |_| [param; 7])
+          }
+          Meeting::Brothers => self.copies(table),
+          _ => self.dense(table),
+        };
         let within = table.add(0, 0, &[]);
         let round = table.add(kind::TUPLE, 0, &[within]);
-        [self.dense(table), table.add(kind::TUPLE, 0, &[within, round])]
+        [first, table.add(kind::TUPLE, 0, &[within, round])]
       }
     };
     let third = table.add(0, 0, &[]);
@@ -259,6 +299,15 @@ impl Search {
         let last = table.add(last, 0, &[]);
         tower(table, self.struct_id(), self.dense, last)
       }
+      Meeting::Chain => {
+        let last = table.add(kind::TUPLE, 0, &[]);
+        chain(table, self.dense, last)
+      }
+      Meeting::Copies => self.copies(table),
+      Meeting::Brothers => {
+        let unknown = table.add(0, 0, &[]);
+        links(table, self.links, |_| [unknown; 7])
+      }
       _ => self.dense(table),
     };
     let met = match self.meeting {
@@ -270,7 +319,7 @@ impl Search {
         let inner = table.add(kind::TUPLE, 0, &[]);
         table.add(kind::STRUCT, self.round() + 1, &[inner])
       }
-      Meeting::Within => {
+      Meeting::Within | Meeting::Opposed | Meeting::Over | Meeting::Copies | Meeting::Brothers => {
         let unknown = table.add(0, 0, &[]);
         table.add(kind::TUPLE, 0, &[unknown, unknown])
       }
@@ -341,7 +390,7 @@ pub fn random(rng: &mut Rng) -> Search {
   let (levels, branch) = rng.pick(&[(2, 44), (3, 12), (3, 13), (4, 7), (5, 5), (6, 4), (10, 2)]);
   let meeting = rng.pick(&[
     Nothing, Import, Alike, Bottom, Errors, Bound, Mirrored, Within, Turned, Brought, Unknowns,
-    Inverse, Unlike,
+    Inverse, Unlike, Opposed, Chain, Over, Copies, Brothers,
   ]);
   let of_structs = rng.chance(50);
   let filler = rng.range(0, 400);
@@ -351,8 +400,17 @@ pub fn random(rng: &mut Rng) -> Search {
     branch,
     meeting,
     of_structs,
-    dense: rng.range(1, if meeting == Import { 230 } else { 120 }),
-    links: rng.range(1, if meeting == Unknowns { 14 } else { 60 }),
+    dense: match meeting {
+      Import => rng.range(1, 230),
+      Copies => rng.range(1, 15),
+      Brothers => rng.range(1, 32),
+      _ => rng.range(1, 120),
+    },
+    links: match meeting {
+      Unknowns => rng.range(1, 14),
+      Copies | Brothers => 1,
+      _ => rng.range(1, 60),
+    },
     params: rng.chance(20),
     found: 0,
     unreached: if rng.chance(30) { rng.range(0, 300) } else { 0 },
