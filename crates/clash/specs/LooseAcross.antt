@@ -18,62 +18,74 @@ use Rattle.table.specs.ChildTypes.{ChildTypes}
 use Rattle.clash.specs.Meaning.{record-types}
 use Rattle.clash.specs.Refs.{place}
 use Rattle.clash.specs.Children.{cell-type, cell-types-are, cells-none, cells-more}
-use Rattle.clash.specs.Loose.{held, labelled, kids-low, kids-high, TypesAlike, SameKids}
+use Rattle.clash.specs.Loose.{held, labelled, kids-low, kids-high, Fixed, fixed-same, fixed-on, RefsAlike, SameKids}
 
--- true: the cells from h are labelled as the types of a row.
-pub record CellsAlike (s ls : Words) (h : ℕ) (o : Row) (b : Bool) : Type 0 where
-  pub same : b ≡ true → labelled ls (record-types s h) ≡ labelled ls (take (o .n) (o .types))
-
-pub cells-not : (s ls : Words) (h : ℕ) (o : Row) → CellsAlike s ls h o false
-cells-not s ls h o = record { same = λ e. let z : _≡_ {A = ℕ} 0 1 = cc in absurd (omega arith) }
+-- true: the cells from h are labelled as the types of a row, and stay so.
+pub record CellsAlike (s ls : Words) (h : ℕ) (o : Row) (ks : Words) (b : Bool) : Type 0 where
+  pub fixed : Fixed ls ks
+  pub same : b ≡ true → (js : Words) → Fixed ks js → labelled js (record-types s h) ≡ labelled js (take (o .n) (o .types))
 
 -- j cells are, and the chain goes on at c: all are if what is left is.
-pub record Beside (s ls : Words) (h : ℕ) (o : Row) (c j : ℕ) : Type 0 where
+pub record Beside (s ls : Words) (h : ℕ) (o : Row) (ks : Words) (c j : ℕ) : Type 0 where
+  pub fixed : Fixed ls ks
   pub few : j ≤ o .n
   pub long : o .n ≤ length (o .types)
   pub fuel : o .n < length s
-  pub rest : labelled ls (map (cell-type s) (chain-of (length s - j) s c)) ≡ labelled ls (drop j (take (o .n) (o .types))) → labelled ls (record-types s h) ≡ labelled ls (take (o .n) (o .types))
+  pub rest : (js : Words) → Fixed ks js → labelled js (map (cell-type s) (chain-of (length s - j) s c)) ≡ labelled js (drop j (take (o .n) (o .types))) → labelled js (record-types s h) ≡ labelled js (take (o .n) (o .types))
 
-pub beside-start : (s ls : Words) (h : ℕ) (o : Row) → 8 < length s → o .n ≤ 8 → o .n ≤ length (o .types) → Beside s ls h o h 0
+pub beside-start : (s ls : Words) (h : ℕ) (o : Row) → 8 < length s → o .n ≤ 8 → o .n ≤ length (o .types) → Beside s ls h o ls h 0
 unfolding cell-types chain
 beside-start s ls h o f n l = record {
+  fixed = fixed-same ls;
   few = omega arith;
   long = l;
   fuel = omega arith;
-  rest = λ e. ap (labelled ls) (cell-types-are s (chain s h)) ∙ ap (λ k. labelled ls (map (cell-type s) (chain-of k s h))) (let z : length s ≡ length s - 0 = omega arith in z) ∙ e;
+  rest = λ js g e. ap (labelled js) (cell-types-are s (chain s h)) ∙ ap (λ k. labelled js (map (cell-type s) (chain-of k s h))) (let z : length s ≡ length s - 0 = omega arith in z) ∙ e;
 }
 
-module _ (s ls : Words) (h : ℕ) (o : Row) (c j : ℕ) (k : Beside s ls h o c j) where
+module _ (s ls : Words) (h : ℕ) (o : Row) (ks : Words) (c j : ℕ) (k : Beside s ls h o ks c j) where
   count : length (take (o .n) (o .types)) ≡ o .n
   count = length-take-le (o .n) (o .types) (k .long)
 
-  pub beside-end : c ≡ 0 → CellsAlike s ls h o (eqb j (o .n))
+  -- There are more cells than types,
+  pub beside-more : CellsAlike s ls h o ks false
+  beside-more = record { fixed = k .fixed; same = λ e. let z : _≡_ {A = ℕ} 0 1 = cc in absurd (omega arith) }
+
+  -- two differ,
+  pub beside-not : (x y : ℕ) (is : Words) (b : Bool) → RefsAlike ks x y is b → CellsAlike s ls h o is false
+  beside-not x y is b a = record { fixed = fixed-on ls ks is (k .fixed) (a .fixed); same = λ e. let z : _≡_ {A = ℕ} 0 1 = cc in absurd (omega arith) }
+
+  -- or the cells end.
+  pub beside-end : c ≡ 0 → CellsAlike s ls h o ks (eqb j (o .n))
   unfolding labelled
   beside-end z = record {
-    same = λ t.
+    fixed = k .fixed;
+    same = λ t js f.
         let e : j ≡ o .n = eqb-true j (o .n) t in
-        k .rest (ap (λ (xs : Words). labelled ls (map (cell-type s) xs)) (cells-none s (length s - j) c z) ∙ sym (ap (labelled ls) (drop-of-length-le (take (o .n) (o .types)) {i = j} (omega (arith, count, e)))));
+        k .rest js f (ap (λ (xs : Words). labelled js (map (cell-type s) xs)) (cells-none s (length s - j) c z) ∙ sym (ap (labelled js) (drop-of-length-le (take (o .n) (o .types)) {i = j} (omega (arith, count, e)))));
   }
 
-  pub beside-on : (v x y n : ℕ) (b : Bool) → c ≢ 0 → j < o .n → TypesAlike ls x y b → not b ≡ false → x ≡ 2048 + v % 2048 → v ≡ at s (c + 1) → y ≡ at (o .types) j → n ≡ at s c → Beside s ls h o n (j + 1)
+  pub beside-on : (v x y n : ℕ) (is : Words) (b : Bool) → c ≢ 0 → j < o .n → RefsAlike ks (x / 2) (y / 2) is b → not b ≡ false → x ≡ 2048 + v % 2048 → v ≡ at s (c + 1) → y ≡ at (o .types) j → n ≡ at s c → Beside s ls h o is n (j + 1)
   unfolding labelled
-  beside-on v x y n b z l a t ex ev ey en = record {
+  beside-on v x y n is b z l a t ex ev ey en = record {
+    fixed = fixed-on ls ks is (k .fixed) (a .fixed);
     few = omega arith;
     long = k .long;
     fuel = k .fuel;
-    rest = λ e. k .rest
-        (ap (λ (xs : Words). labelled ls (map (cell-type s) xs)) (cells-more s j c (omega (arith, k .few, k .fuel)) z)
+    rest = λ js f e. k .rest js (fixed-on ks is js (a .fixed) f)
+        (ap (λ (xs : Words). labelled js (map (cell-type s) xs)) (cells-more s j c (omega (arith, k .few, k .fuel)) z)
         ∙ ap₂ (λ (i : ℕ) (is : Words). i ∷ is)
-        (ap (λ i. at ls (i / 2 % 2048)) (sym (ex ∙ ap (λ i. 2048 + i % 2048) ev)) ∙ a .same (held b t) ∙ ap (λ i. at ls (i / 2 % 2048)) ey)
-        (ap (λ i. labelled ls (map (cell-type s) (chain-of (length s - (j + 1)) s i))) (sym en) ∙ e)
-        ∙ sym (ap (labelled ls) (drop-cons (take (o .n) (o .types)) j 0 (omega (arith, count)) ∙ (λ i. getD-take (o .n) (o .types) j 0 l i ∷ drop (sym (add-one j) i) (take (o .n) (o .types))))));
+        (ap (λ i. at js (i / 2 % 2048)) (sym (ex ∙ ap (λ i. 2048 + i % 2048) ev)) ∙ a .same (held b t) js f ∙ ap (λ i. at js (i / 2 % 2048)) ey)
+        (ap (λ i. labelled js (map (cell-type s) (chain-of (length s - (j + 1)) s i))) (sym en) ∙ e)
+        ∙ sym (ap (labelled js) (drop-cons (take (o .n) (o .types)) j 0 (omega (arith, count)) ∙ (λ i. getD-take (o .n) (o .types) j 0 l i ∷ drop (sym (add-one j) i) (take (o .n) (o .types))))));
   }
 
 -- The children of a ref that has a record and of a known node.
-pub across-same : (s ps ws ls : Words) (a z p h i : ℕ) (o : Row) (b : Bool) → 1024 ≤ a → z < 256 → ChildTypes ws z o → o .n ≢ 9 → p ≡ place ps a → h ≡ at s (p + 4) → i ≡ h → CellsAlike s ls i o b → SameKids s ps ws ls a z b
-across-same s ps ws ls a z p h i o b ha hz c n ep eh ei k = record {
-  same = λ t.
-      ap (labelled ls) (kids-high s ps ws a (omega arith) ∙ ap (record-types s) (sym (ei ∙ eh ∙ ap (λ v. at s (v + 4)) ep)))
-      ∙ k .same t
-      ∙ ap (labelled ls) (c .are n ∙ sym (kids-low s ps ws z hz));
+pub across-same : (s ps ws ls : Words) (a z p h i : ℕ) (o : Row) (ks : Words) (b : Bool) → 1024 ≤ a → z < 256 → ChildTypes ws z o → o .n ≢ 9 → p ≡ place ps a → h ≡ at s (p + 4) → i ≡ h → CellsAlike s ls i o ks b → SameKids s ps ws ls a z ks b
+across-same s ps ws ls a z p h i o ks b ha hz c n ep eh ei k = record {
+  fixed = k .fixed;
+  same = λ t js f.
+      ap (labelled js) (kids-high s ps ws a (omega arith) ∙ ap (record-types s) (sym (ei ∙ eh ∙ ap (λ v. at s (v + 4)) ep)))
+      ∙ k .same t js f
+      ∙ ap (labelled js) (c .are n ∙ sym (kids-low s ps ws z hz));
 }

@@ -106,14 +106,14 @@ module _ (s ws : Words) (h : ℕ) (short : length (chain s h) ≤ 1024) (formed 
     known-kind n i kd d cs e z = known≢ (sym e ∙ unknown-here ws n (kind-at (types-of ws) n) refl z)
 
     module _ (n : ℕ) (b : n < length (types-of ws)) (r : rep (types-of ws) n ≡ n) (i : Bool) (kd d : ℕ) (cs : List Ty) (e : state-at (types-of ws) n ≡ known i kd d cs) where
-      node-kids : labels f cs ≡ labelled ls (kids s (chain s h) ws (f n))
+      node-kids : labels f cs ≡ labelled ls (kids s (chain s h) ws (f n - 1))
       unfolding children-at children
       node-kids =
           sym (node-labels cs (subst (ChildrenIn (length (types-of ws))) (ap (state-at (types-of ws)) r ∙ e) (whole n b .2)))
           ∙ ap (λ (st : TypeState). labelled ls (map (λ (t : Ty). word-of-type (type-in ws t)) (children st))) (sym e)
           ∙ ap (labelled ls) (sym (kids-low s (chain s h) ws n (omega (arith, types-few ws))))
           ∙ k .nodes .each n b (known-kind n i kd d cs e) r .same
-          ∙ ap (λ v. labelled ls (kids s (chain s h) ws (at ls v))) (sym r)
+          ∙ ap (λ v. labelled ls (kids s (chain s h) ws (at ls v - 1))) (sym r)
 
       node-other : f n ≢ l
       node-other y = k .nodes .each n b (known-kind n i kd d cs e) r .other (ap (at ls) (sym r) ∙ y)
@@ -129,7 +129,7 @@ module _ (s ws : Words) (h : ℕ) (short : length (chain s h) ≤ 1024) (formed 
       its-place : place (chain s h) (1024 + n) ≡ at (chain s h) n
       its-place = place-at (chain s h) (1024 + n) (omega arith) ∙ ap (at (chain s h)) (let z : 1024 + n - 1024 ≡ n = omega arith in z)
 
-      record-kids : kd ≢ kind·param → labels g cs ≡ labelled ls (kids s (chain s h) ws (g n))
+      record-kids : kd ≢ kind·param → labels g cs ≡ labelled ls (kids s (chain s h) ws (g n - 1))
       record-kids np =
           sym (record-labels cs (subst (ChildrenIn (length (table s h))) (ap (state-at (table s h)) (table-flat s h n b) ∙ e) (formed n b .2)))
           ∙ ap (λ (xs : List Ty). labelled ls (map (λ (t : Ty). 2048 + word-of-type t % 2048) xs)) (sym (its-record .cells))
@@ -162,11 +162,11 @@ module _ (s ws : Words) (h : ℕ) (short : length (chain s h) ≤ 1024) (formed 
     alike = record {
       nodes = record {
         up = λ n b. ap (at ls) (sym (whole n b .1));
-        closed = λ a b ha hb ra rb e i j kd d kd′ d′ cs ds ea eb. node-kids a ha ra i kd d cs ea ∙ ap (λ v. labelled ls (kids s (chain s h) ws v)) e ∙ sym (node-kids b hb rb j kd′ d′ ds eb);
+        closed = λ a b ha hb ra rb e i j kd d kd′ d′ cs ds ea eb. node-kids a ha ra i kd d cs ea ∙ ap (λ v. labelled ls (kids s (chain s h) ws (v - 1))) e ∙ sym (node-kids b hb rb j kd′ d′ ds eb);
       };
       param = λ r i d cs b e. record-param r b i kind·param d cs e refl;
-      source = λ a b ha hb e i j kd d kd′ d′ cs ds na nb ea eb. record-kids a ha i kd d cs ea na ∙ ap (λ v. labelled ls (kids s (chain s h) ws v)) e ∙ sym (record-kids b hb j kd′ d′ ds eb nb);
-      both = λ a b ha hb rb e i j kd d kd′ d′ cs ds na ea eb. record-kids a ha i kd d cs ea na ∙ ap (λ v. labelled ls (kids s (chain s h) ws v)) e ∙ sym (node-kids b hb rb j kd′ d′ ds eb);
+      source = λ a b ha hb e i j kd d kd′ d′ cs ds na nb ea eb. record-kids a ha i kd d cs ea na ∙ ap (λ v. labelled ls (kids s (chain s h) ws (v - 1))) e ∙ sym (record-kids b hb j kd′ d′ ds eb nb);
+      both = λ a b ha hb rb e i j kd d kd′ d′ cs ds na ea eb. record-kids a ha i kd d cs ea na ∙ ap (λ v. labelled ls (kids s (chain s h) ws (v - 1))) e ∙ sym (node-kids b hb rb j kd′ d′ ds eb);
       args = args-alike;
     }
 

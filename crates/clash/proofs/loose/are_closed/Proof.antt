@@ -1,5 +1,5 @@
 -- `are_closed`: all that is to be tested.
-use Rattle.clash.specs.Loose.{labelling-not, labelling-all}
+use Rattle.clash.specs.Loose.{labelling-args, labelling-records, labelling-all}
 use borrow.Author.Needs.{needs}
 use Rattle.clash.proofs.loose.are_closed.Statement.{statement}
 use Rattle.clash.proofs.loose.are_closed.Tie as tie
@@ -8,13 +8,16 @@ args-alike-requires : tie.Need-args-alike-requires
 args-alike-requires c κs = search needs
 
 returns : tie.Need-returns
-returns c = search (needs, labelling-not)
+returns c = search (needs, labelling-args)
+
+is-high-requires : tie.Need-is-high-requires
+is-high-requires c κs = search needs
 
 records-closed-requires : tie.Need-records-closed-requires
 records-closed-requires c κs = search needs
 
 returns-2 : tie.Need-returns-2
-returns-2 c = search (needs, labelling-not)
+returns-2 c = search (needs, labelling-records)
 
 nodes-closed-requires : tie.Need-nodes-closed-requires
 nodes-closed-requires c κs = search needs
@@ -28,6 +31,7 @@ are-closed-spec =
     (tie.spec
     args-alike-requires
     returns
+    is-high-requires
     records-closed-requires
     returns-2
     nodes-closed-requires

@@ -1,15 +1,15 @@
 -- `args_alike`: one by one.
 use Prim.Native.Nat.{_-_}
-use Rattle.clash.specs.Loose.{ArgsAlike, args-start, args-not, args-on, args-end}
+use Rattle.clash.specs.Loose.{ArgsGone, args-start, args-not, args-on, args-end}
 use borrow.Author.Needs.{needs}
 use Rattle.clash.proofs.loose.args_alike.Statement.{statement}
 use Rattle.clash.proofs.loose.args_alike.Tie as tie
 
 abbrev Inv-loop : tie.InvT-loop
-Inv-loop ws labels p q k₀ k = ArgsAlike ws labels p q k
+Inv-loop ws labels₀ p q k₀ labels k = ArgsGone ws labels₀ p q k labels
 
 abbrev μ-loop : tie.MeasureT-loop
-μ-loop ws labels p q k₀ k = q .n - k
+μ-loop ws labels₀ p q k₀ labels k = q .n - k
 
 loop-holds : tie.Need-loop-holds Inv-loop μ-loop
 loop-holds c = search (needs, args-start)
@@ -32,8 +32,8 @@ element-copy-out-find c = search needs
 find-requires : tie.Need-find-requires Inv-loop μ-loop
 find-requires c κs = search needs
 
-are-alike-requires : tie.Need-are-alike-requires Inv-loop μ-loop
-are-alike-requires c κs = search needs
+same-label-requires : tie.Need-same-label-requires Inv-loop μ-loop
+same-label-requires c κs = search needs
 
 returns : tie.Need-returns Inv-loop μ-loop
 returns c = search (needs, args-not)
@@ -63,7 +63,7 @@ args-alike-spec =
     mul-find
     element-copy-out-find
     find-requires
-    are-alike-requires
+    same-label-requires
     returns
     add-k
     loop-less

@@ -25,6 +25,9 @@ mul-find c = search needs
 find-requires : tie.Need-find-requires Inv-loop μ-loop
 find-requires c κs = search needs
 
+add-labels : tie.Need-add-labels Inv-loop μ-loop
+add-labels c = search needs
+
 wide-requires : tie.Need-wide-requires Inv-loop μ-loop
 wide-requires c κs = search needs
 
@@ -54,6 +57,7 @@ label-from-spec =
     add-k
     mul-find
     find-requires
+    add-labels
     wide-requires
     mul-labels
     element-write-labels

@@ -1,15 +1,15 @@
 -- `nodes_closed`: one by one.
 use Prim.Native.Nat.{_-_}
-use Rattle.clash.specs.Loose.{NodesClosed, node-low, nodes-start, nodes-not, nodes-on, nodes-end}
+use Rattle.clash.specs.Loose.{NodesGone, node-low, nodes-start, nodes-not, nodes-on, nodes-end}
 use borrow.Author.Needs.{needs}
 use Rattle.clash.proofs.loose.nodes_closed.Statement.{statement}
 use Rattle.clash.proofs.loose.nodes_closed.Tie as tie
 
 abbrev Inv-loop : tie.InvT-loop
-Inv-loop sheet places ws labels l n r₀ r = NodesClosed sheet places ws labels l r
+Inv-loop sheet places ws labels₀ l n r₀ labels r = NodesGone sheet places ws labels₀ l r labels
 
 abbrev μ-loop : tie.MeasureT-loop
-μ-loop sheet places ws labels l n r₀ r = n - r
+μ-loop sheet places ws labels₀ l n r₀ labels r = n - r
 
 count-requires : tie.Need-count-requires Inv-loop μ-loop
 count-requires c κs = search needs

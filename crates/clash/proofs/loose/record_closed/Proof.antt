@@ -22,17 +22,14 @@ offset-requires-2 c κs = search needs
 returns-2 : tie.Need-returns-2
 returns-2 c = search (needs, record-not)
 
-add-label-of : tie.Need-add-label-of
-add-label-of c = search needs
+add-same-label : tie.Need-add-same-label
+add-same-label c = search needs
 
-label-of-requires : tie.Need-label-of-requires
-label-of-requires c κs = search needs
+add-same-label-2 : tie.Need-add-same-label-2
+add-same-label-2 c = search needs
 
-add-label-of-2 : tie.Need-add-label-of-2
-add-label-of-2 c = search needs
-
-label-of-requires-2 : tie.Need-label-of-requires-2
-label-of-requires-2 c κs = search needs
+same-label-requires : tie.Need-same-label-requires
+same-label-requires c κs = search needs
 
 returns-3 : tie.Need-returns-3
 returns-3 c = search (needs, record-param)
@@ -56,10 +53,9 @@ record-closed-spec =
     returns
     offset-requires-2
     returns-2
-    add-label-of
-    label-of-requires
-    add-label-of-2
-    label-of-requires-2
+    add-same-label
+    add-same-label-2
+    same-label-requires
     returns-3
     add-is-closed
     is-closed-requires

@@ -1,18 +1,18 @@
 -- `records_closed`: one by one.
 use Prim.Native.Nat.{_-_}
-use Rattle.clash.specs.Loose.{RecordsClosed, records-start, records-not, records-on, records-end}
+use Rattle.clash.specs.Loose.{RecordsGone, index-low, records-none, records-start, records-not, records-on, records-end}
 use borrow.Author.Needs.{needs}
 use Rattle.clash.proofs.loose.records_closed.Statement.{statement}
 use Rattle.clash.proofs.loose.records_closed.Tie as tie
 
 abbrev Inv-loop : tie.InvT-loop
-Inv-loop sheet places ws labels l n k₀ k = RecordsClosed sheet places ws labels l k
+Inv-loop sheet places ws labels₀ l down n i₀ labels i = RecordsGone sheet places ws labels₀ l down n i labels
 
 abbrev μ-loop : tie.MeasureT-loop
-μ-loop sheet places ws labels l n k₀ k = n - k
+μ-loop sheet places ws labels₀ l down n i₀ labels i = n - i
 
 returns : tie.Need-returns Inv-loop μ-loop
-returns c = search (needs, records-not)
+returns c = search (needs, records-none)
 
 cast-n : tie.Need-cast-n Inv-loop μ-loop
 cast-n c = search needs
@@ -20,14 +20,17 @@ cast-n c = search needs
 loop-holds : tie.Need-loop-holds Inv-loop μ-loop
 loop-holds c = search (needs, records-start)
 
+index-requires : tie.Need-index-requires Inv-loop μ-loop
+index-requires c κs = search needs
+
 record-closed-requires : tie.Need-record-closed-requires Inv-loop μ-loop
-record-closed-requires c κs = search needs
+record-closed-requires c κs = (search needs, search (needs, index-low))
 
 returns-2 : tie.Need-returns-2 Inv-loop μ-loop
 returns-2 c = search (needs, records-not)
 
-add-k : tie.Need-add-k Inv-loop μ-loop
-add-k c = search needs
+add-i : tie.Need-add-i Inv-loop μ-loop
+add-i c = search needs
 
 loop-less : tie.Need-loop-less Inv-loop μ-loop
 loop-less c = search needs
@@ -47,9 +50,10 @@ records-closed-spec =
     returns
     cast-n
     loop-holds
+    index-requires
     record-closed-requires
     returns-2
-    add-k
+    add-i
     loop-less
     loop-again
     returns-3)

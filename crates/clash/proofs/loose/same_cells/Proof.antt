@@ -1,21 +1,21 @@
 -- `same_cells`: cell by cell.
 use Prim.Native.Nat.{_-_}
-use Rattle.clash.specs.LooseAcross.{Beside, cells-not, beside-start, beside-on, beside-end}
+use Rattle.clash.specs.LooseAcross.{Beside, beside-start, beside-more, beside-not, beside-on, beside-end}
 use borrow.Author.Needs.{needs}
 use Rattle.clash.proofs.loose.same_cells.Statement.{statement}
 use Rattle.clash.proofs.loose.same_cells.Tie as tie
 
 abbrev Inv-loop : tie.InvT-loop
-Inv-loop sheet labels head ys c₀ j₀ c j = Beside sheet labels head ys c j
+Inv-loop sheet labels₀ head ys c₀ j₀ labels c j = Beside sheet labels₀ head ys labels c j
 
 abbrev μ-loop : tie.MeasureT-loop
-μ-loop sheet labels head ys c₀ j₀ c j = ys .n - j
+μ-loop sheet labels₀ head ys c₀ j₀ labels c j = ys .n - j
 
 loop-holds : tie.Need-loop-holds Inv-loop μ-loop
 loop-holds c = search (needs, beside-start)
 
 returns : tie.Need-returns Inv-loop μ-loop
-returns c = search (needs, cells-not)
+returns c = search (needs, beside-more)
 
 offset-requires : tie.Need-offset-requires Inv-loop μ-loop
 offset-requires c κs = search needs
@@ -23,17 +23,17 @@ offset-requires c κs = search needs
 own-type-requires : tie.Need-own-type-requires Inv-loop μ-loop
 own-type-requires c κs = search needs
 
-mul-are-alike : tie.Need-mul-are-alike Inv-loop μ-loop
-mul-are-alike c = search needs
+mul-y : tie.Need-mul-y Inv-loop μ-loop
+mul-y c = search needs
 
-element-copy-out-are-alike : tie.Need-element-copy-out-are-alike Inv-loop μ-loop
-element-copy-out-are-alike c = search needs
+element-copy-out-y : tie.Need-element-copy-out-y Inv-loop μ-loop
+element-copy-out-y c = search needs
 
-are-alike-requires : tie.Need-are-alike-requires Inv-loop μ-loop
-are-alike-requires c κs = search needs
+same-label-requires : tie.Need-same-label-requires Inv-loop μ-loop
+same-label-requires c κs = search needs
 
 returns-2 : tie.Need-returns-2 Inv-loop μ-loop
-returns-2 c = search (needs, cells-not)
+returns-2 c = search (needs, beside-not)
 
 next-requires : tie.Need-next-requires Inv-loop μ-loop
 next-requires c κs = search needs
@@ -60,9 +60,9 @@ same-cells-spec =
     returns
     offset-requires
     own-type-requires
-    mul-are-alike
-    element-copy-out-are-alike
-    are-alike-requires
+    mul-y
+    element-copy-out-y
+    same-label-requires
     returns-2
     next-requires
     add-j

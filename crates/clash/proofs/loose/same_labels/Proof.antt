@@ -7,10 +7,10 @@ use Rattle.clash.proofs.loose.same_labels.Statement.{statement}
 use Rattle.clash.proofs.loose.same_labels.Tie as tie
 
 abbrev Inv-loop : tie.InvT-loop
-Inv-loop labels xs ys j₀ j = SameLabels labels j (xs .types) (ys .types) true
+Inv-loop labels₀ xs ys j₀ labels j = SameLabels labels₀ j (xs .types) (ys .types) labels true
 
 abbrev μ-loop : tie.MeasureT-loop
-μ-loop labels xs ys j₀ j = xs .n - j
+μ-loop labels₀ xs ys j₀ labels j = xs .n - j
 
 loop-holds : tie.Need-loop-holds Inv-loop μ-loop
 loop-holds c = search (needs, labels-start)
@@ -27,8 +27,8 @@ mul-y c = search needs
 element-copy-out-y : tie.Need-element-copy-out-y Inv-loop μ-loop
 element-copy-out-y c = search needs
 
-are-alike-requires : tie.Need-are-alike-requires Inv-loop μ-loop
-are-alike-requires c κs = search needs
+same-label-requires : tie.Need-same-label-requires Inv-loop μ-loop
+same-label-requires c κs = search needs
 
 returns : tie.Need-returns Inv-loop μ-loop
 returns c = search (needs, labels-not)
@@ -56,7 +56,7 @@ same-labels-spec =
     element-copy-out-x
     mul-y
     element-copy-out-y
-    are-alike-requires
+    same-label-requires
     returns
     add-j
     loop-less
