@@ -246,8 +246,16 @@ fn meetings() -> Vec<(&'static str, Search)> {
       Search { meeting: Brothers, dense: 31, links: 1, ..base },
     ),
     (
+      "an unknown is bound to a type of 220 nodes, and one in itself",
+      Search { meeting: Deep, dense: 220, ..base },
+    ),
+    (
       "types of 110 nodes alike, and an unknown opposed",
       Search { meeting: Opposed, dense: 110, ..base },
+    ),
+    (
+      "types of 110 nodes alike, and an unknown opposed, then bound",
+      Search { meeting: Late, dense: 110, ..base },
     ),
     (
       "types of 110 nodes alike, and a struct inverted",

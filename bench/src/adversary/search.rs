@@ -48,6 +48,10 @@ pub enum Meeting {
   Copies,
   /// An unknown of the question that meets copies of a dense type, and one that would be within itself.
   Brothers,
+  /// An unknown of the question that is bound to a dense type over a parameter, and one that would be within itself.
+  Deep,
+  /// Two types of one shape, and an unknown that meets its own inverse and is bound then.
+  Late,
 }
 
 /// A search in which `branch` candidates of a question ask a sub-question, to so many levels, and all others fail in the last
@@ -214,6 +218,8 @@ impl Search {
       | Meeting::Over
       | Meeting::Copies
       | Meeting::Brothers
+      | Meeting::Deep
+      | Meeting::Late
       | Meeting::Within => {
         return self.failing_before(impl_);
       }
@@ -259,13 +265,17 @@ impl Search {
         let opposed = table.add(0, 0, &[]);
         [self.dense(table), table.add(kind::TUPLE, 0, &[opposed, opposed + 1])]
       }
+      Meeting::Late => {
+        let late = table.add(0, 0, &[]);
+        [self.dense(table), table.add(kind::TUPLE, 0, &[late, late + 1, late])]
+      }
       Meeting::Chain => {
         let last = table.add(kind::KEY, 0, &[]);
         [chain(table, self.dense, last), table.add(0, 0, &[])]
       }
       _ => {
         let first = match self.meeting {
-          Meeting::Over => {
+          Meeting::Over | Meeting::Deep => {
             let last = table.add(kind::PARAM, 0, &[]);
             dense_over(table, self.struct_id(), self.dense, last)
           }
@@ -308,6 +318,7 @@ impl Search {
         let unknown = table.add(0, 0, &[]);
         links(table, self.links, |_| [unknown; 7])
       }
+      Meeting::Deep => table.add(0, 0, &[]),
       _ => self.dense(table),
     };
     let met = match self.meeting {
@@ -319,9 +330,19 @@ impl Search {
         let inner = table.add(kind::TUPLE, 0, &[]);
         table.add(kind::STRUCT, self.round() + 1, &[inner])
       }
-      Meeting::Within | Meeting::Opposed | Meeting::Over | Meeting::Copies | Meeting::Brothers => {
+      Meeting::Within
+      | Meeting::Opposed
+      | Meeting::Over
+      | Meeting::Copies
+      | Meeting::Brothers
+      | Meeting::Deep => {
         let unknown = table.add(0, 0, &[]);
         table.add(kind::TUPLE, 0, &[unknown, unknown])
+      }
+      Meeting::Late => {
+        let unknown = table.add(0, 0, &[]);
+        let known = table.add(kind::NEVER, 0, &[]);
+        table.add(kind::TUPLE, 0, &[unknown, unknown, known])
       }
       _ => table.add(kind::TUPLE, 0, &[]),
     };
@@ -390,7 +411,7 @@ pub fn random(rng: &mut Rng) -> Search {
   let (levels, branch) = rng.pick(&[(2, 44), (3, 12), (3, 13), (4, 7), (5, 5), (6, 4), (10, 2)]);
   let meeting = rng.pick(&[
     Nothing, Import, Alike, Bottom, Errors, Bound, Mirrored, Within, Turned, Brought, Unknowns,
-    Inverse, Unlike, Opposed, Chain, Over, Copies, Brothers,
+    Inverse, Unlike, Opposed, Chain, Over, Copies, Brothers, Deep, Late,
   ]);
   let of_structs = rng.chance(50);
   let filler = rng.range(0, 400);
@@ -401,7 +422,7 @@ pub fn random(rng: &mut Rng) -> Search {
     meeting,
     of_structs,
     dense: match meeting {
-      Import => rng.range(1, 230),
+      Import | Deep => rng.range(1, 220),
       Copies => rng.range(1, 15),
       Brothers => rng.range(1, 32),
       _ => rng.range(1, 120),
