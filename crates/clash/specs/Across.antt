@@ -18,10 +18,10 @@ use Rattle.table.specs.declared.Row.{Row}
 use Rattle.table.specs.Packing.{types-of, kind-at, id-at, inverted-at}
 use Rattle.table.specs.Nodes.{types-few}
 use Rattle.table.specs.ChildTypes.{ChildTypes, known-in, row-at, types-at-length}
-use Rattle.clash.specs.Meaning.{odd, means, means-turn, turn, row, record-types, record-side, Meaning, made-parts, type-sort}
-use Rattle.clash.specs.Refs.{place, KindOf, kind-node, kind-record, id-node, id-record, side-of, side-node, side-record, type-side, Bit, bit-yes, bit-no, bit-sum, bit-odd, place-high}
-use Rattle.clash.specs.Meeting.{Holds, Aside, Inverts, Meets, Puts, apart, roots-kinds, roots-errors, known-ids, known-inverted, roots-put}
-use Rattle.clash.specs.Children.{cell-type, cell-types-are, cells-none, cells-more, over-record, gathers-node}
+use Rattle.refs.specs.Meaning.{odd, means, means-turn, turn, row, record-types, record-side, Meaning, made-parts, type-sort}
+use Rattle.refs.specs.Refs.{place, KindOf, kind-node, kind-record, id-node, id-record, side-of, side-node, side-record, type-side, apart, Bit, bit-yes, bit-no, bit-sum, bit-odd, place-high}
+use Rattle.clash.specs.Meeting.{Holds, Aside, Inverts, Meets, Puts, roots-kinds, roots-errors, known-ids, known-inverted, roots-put}
+use Rattle.refs.specs.Children.{cell-type, cell-types-are, cells-none, cells-more, over-record, gathers-node}
 use Rattle.clash.specs.Pairs.{row-length, row-same, row-rest}
 
 -- The difference of the sides of a type whose record is at p and of a type of a node.
@@ -180,13 +180,6 @@ module _ (s ps ws ls qs : Words) (e h b : ℕ) (o : Row) (ks rs : Words) (r c j 
 -- A node has at most eight children where they are told.
 pub own-few : (ws : Words) (n m : ℕ) → ChildTypes ws n (row-at ws n m) → m ≢ 9 → m ≤ 8
 own-few ws n m c z = c .few z
-
--- A row that is told has at most eight types.
-pub row-few : (ws : Words) (n : ℕ) (o : Row) → ChildTypes ws n o → o .n ≢ 9 → o .n ≤ 8
-row-few ws n o c z = c .few z
-
-pub row-long : (ws : Words) (n : ℕ) (o : Row) → ChildTypes ws n o → o .n ≢ 9 → o .n ≤ length (o .types)
-row-long ws n o c z = c .long z
 
 -- The children of a type that has a record and of a type of a node.
 pub across-meets : (s ps ws ls qs : Words) (e x y k j p h i b : ℕ) (o : Row) (ks rs : Words) (r : ℕ) →

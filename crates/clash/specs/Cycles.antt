@@ -13,10 +13,10 @@ use Rattle.rules.specs.WordLaws.{word-past}
 use Rattle.rules.specs.Pigeonholes.{lt-or}
 use Rattle.rules.specs.SignedTerms.{SignedSol}
 use Rattle.table.specs.declared.Row.{Row}
-use Rattle.clash.specs.Meaning.{means, Records, Meaning}
-use Rattle.clash.specs.Refs.{Alike}
-use Rattle.clash.specs.Links.{Linked, Finds}
-use Rattle.clash.specs.Children.{Gathers}
+use Rattle.refs.specs.Meaning.{means, Records, Meaning}
+use Rattle.refs.specs.Refs.{Alike}
+use Rattle.refs.specs.Links.{Linked, Finds}
+use Rattle.refs.specs.Children.{Gathers}
 use Rattle.clash.specs.Sizes.{size, size-same, child-smaller, size-mod}
 
 -- x is the root of t, along links and by its type parameter.

@@ -1,12 +1,6 @@
-pub mod Meaning
-pub mod Refs
-pub mod Links
 pub mod Meeting
-pub mod Children
 pub mod Sizes
 pub mod Cycles
-pub mod Loose
-pub mod LooseAcross
 pub mod Pairs
 pub mod Across
 pub mod Readings

@@ -27,8 +27,8 @@ use Rattle.table.specs.Reads.{unknown-here}
 use Rattle.table.specs.ChildTypes.{type-in, type-there}
 use Rattle.queries.specs.declared.Query.{Query}
 use Rattle.queries.specs.Queries.{query-of}
-use Rattle.clash.specs.Refs.{place, place-at}
-use Rattle.clash.specs.Loose.{labelled, kids, kids-low, kids-high, Labelling, LooseMeaning}
+use Rattle.refs.specs.Refs.{place, place-at}
+use Rattle.loose.specs.Loose.{labelled, kids, kids-low, kids-high, Labelling, LooseMeaning}
 use Rattle.clash.specs.Readings.{names, node-term, reading, reading-node, reading-record, known-state, query-length, query-type, query-in, record-word, common-meaning}
 
 -- The node of a type's word.

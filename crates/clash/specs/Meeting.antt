@@ -10,13 +10,12 @@ use lib.Seq.{getD-set-same, getD-set-other}
 use Rattle.rules.specs.Lists.{Words}
 use Rattle.rules.specs.Layout.{kind·error}
 use Rattle.rules.specs.Sheet.{at, kind-flag, row·own-inverse}
-use Rattle.rules.specs.Types.{xor}
 use Rattle.rules.specs.WordLaws.{word-past}
 use Rattle.rules.specs.Pigeonholes.{lt-or}
 use Rattle.rules.specs.SignedTerms.{SignedSol, turned, label, label-plain, label-error, label-flag}
-use Rattle.clash.specs.Meaning.{odd, means, means-mod, means-turn, turn, Meaning, Parts, made-parts}
-use Rattle.clash.specs.Refs.{KindOf, IdOf, sort-type, error-one, id-one, id-any, side-of, type-side, Bit, bit-yes, bit-no, bit-sum, bit-type, bits-apart, Sided, sided-not}
-use Rattle.clash.specs.Links.{Linked, Finds, Links, Settles}
+use Rattle.refs.specs.Meaning.{odd, means, means-mod, means-turn, turn, Meaning, Parts, made-parts}
+use Rattle.refs.specs.Refs.{KindOf, IdOf, sort-type, error-one, id-one, id-any, side-of, type-side, apart, Bit, bit-yes, bit-no, bit-sum, bit-type, bits-apart, Sided, sided-not}
+use Rattle.refs.specs.Links.{Linked, Finds, Links, Settles}
 
 -- What is kept while types are met: the links, and the pairs before place e of the queue, are of types that mean the same; 1000 is said where that cannot be.
 pub record Holds (s : Words) (m : SignedSol) (ls qs : Words) (e : ℕ) : Type 0 where
@@ -127,10 +126,6 @@ module _ (s ls qs : Words) (e x y k d : ℕ) (rs : Words) (b : Bool) (c : Decide
 -- Types a and b are met.
 pub record Meets (s ps ws ls qs : Words) (e a b : ℕ) (ks rs : Words) (r : ℕ) : Type 0 where
   pub at : (m : SignedSol) → Meaning s ps ws m → Holds s m ls qs e → means s m a ≡ means s m b → Holds s m ks rs r
-
--- The difference of the sides of two types.
-abbrev pub apart : Words → Words → Words → ℕ → ℕ → Bool
-apart s ps ws x y = xor (type-side s ps ws x) (type-side s ps ws y)
 
 -- Two types that have kinds and mean the same.
 module _ (s ps ws : Words) (x y k j c d : ℕ) (ek : KindOf s ps ws (x / 2) k) (ej : KindOf s ps ws (y / 2) j) (zk : k ≢ 0) (zj : j ≢ 0) (ec : IdOf s ps ws (x / 2) c) (ed : IdOf s ps ws (y / 2) d) (m : SignedSol) (w : Meaning s ps ws m) (q : means s m x ≡ means s m y) where

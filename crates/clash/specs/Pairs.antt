@@ -14,13 +14,13 @@ use Rattle.rules.specs.Sheet.{at}
 use Rattle.rules.specs.SignedTerms.{Signed, SignedSol, snil, scons, turned, inverse}
 use Rattle.table.specs.declared.Row.{Row}
 use Rattle.queries.specs.declared.Query.{Query}
-use Rattle.clash.specs.Meaning.{means, means-mod, means-turn, turn, row, Meaning, made-parts, type-sort}
-use Rattle.clash.specs.Refs.{KindOf, IdOf, Bit, bits-apart, Sided, type-side, side-of}
-use Rattle.clash.specs.Children.{Gathers}
-use Rattle.clash.specs.Links.{Linked, linked-none}
+use Rattle.refs.specs.Meaning.{means, means-mod, means-turn, turn, row, Meaning, made-parts, type-sort}
+use Rattle.refs.specs.Refs.{KindOf, IdOf, Bit, bits-apart, Sided, type-side, apart, side-of}
+use Rattle.refs.specs.Children.{Gathers}
+use Rattle.refs.specs.Links.{Linked, linked-none}
 use Rattle.clash.specs.Cycles.{Cyclic}
-use Rattle.clash.specs.Loose.{own-type, asked-type, LooseMeaning, Opposed}
-use Rattle.clash.specs.Meeting.{Holds, queued-set, aside-met, aside-only, Meets, apart, known-same, known-sides, kinds-same, errors-same}
+use Rattle.loose.specs.Loose.{own-type, asked-type, LooseMeaning, Opposed}
+use Rattle.clash.specs.Meeting.{Holds, queued-set, aside-met, aside-only, Meets, known-same, known-sides, kinds-same, errors-same}
 
 -- The first n of xs and ys, turned by b, mean the same one by one.
 pub record Pairs (s : Words) (m : SignedSol) (n b : ℕ) (xs ys : Words) : Type 0 where

@@ -30,8 +30,8 @@ use Rattle.table.specs.ChildTypes.{type-in, type-there, known-in}
 use Rattle.queries.specs.declared.Query.{Query}
 use Rattle.queries.specs.Queries.{four, query-of}
 use Rattle.queries.specs.Few.{map-at}
-use Rattle.clash.specs.Meaning.{odd, means, row, Sort, ErrorsApart, Meaning}
-use Rattle.clash.specs.Loose.{LooseMeaning}
+use Rattle.refs.specs.Meaning.{odd, means, row, Sort, ErrorsApart, Meaning}
+use Rattle.loose.specs.Loose.{LooseMeaning}
 use Rattle.clash.specs.Pairs.{Agree, Clashing}
 
 -- A number that none of the first n is above.

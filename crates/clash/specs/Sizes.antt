@@ -12,9 +12,9 @@ use Rattle.rules.specs.Lists.{Words}
 use Rattle.rules.specs.Sheet.{at, kind-flag, row·own-inverse}
 use Rattle.rules.specs.SignedTerms.{Signed, svar, scon, snil, scons, SignedSol, inverse, turned, made, made-own, made-other}
 use Rattle.table.specs.declared.Row.{Row}
-use Rattle.clash.specs.Meaning.{odd, means, row, Meaning}
-use Rattle.clash.specs.Refs.{side-of}
-use Rattle.clash.specs.Children.{Gathers}
+use Rattle.refs.specs.Meaning.{odd, means, row, Meaning}
+use Rattle.refs.specs.Refs.{side-of}
+use Rattle.refs.specs.Children.{Gathers}
 
 unfoldable pub signed-size : Signed → ℕ
 signed-size (svar n b) = 0

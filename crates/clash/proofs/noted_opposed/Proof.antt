@@ -1,5 +1,5 @@
 -- `noted_opposed`: where one is noted.
-use Rattle.clash.specs.Loose.{opposed-not}
+use Rattle.loose.specs.Loose.{opposed-not}
 use borrow.Author.Needs.{needs}
 use Rattle.clash.proofs.noted_opposed.Statement.{statement}
 use Rattle.clash.proofs.noted_opposed.Tie as tie

@@ -11,7 +11,7 @@ use Rattle.clash.proofs.cycles.+among+within.Lts-among as among-lts
 use Rattle.clash.proofs.cycles.within.Reads as within
 use Rattle.clash.proofs.cycles.within.Kinds as within-kinds
 use Rattle.clash.proofs.cycles.+among+within.Lts-within as within-lts
-use Rattle.clash.proofs.children.Reads as children-reads
+use Rattle.refs.proofs.children.Reads as children-reads
 use Rattle.clash.proofs.cycles.finish.Reads as finish-reads
 use Rattle.clash.proofs.cycles.is_walked.Reads as is-walked-reads
 use Rattle.clash.proofs.cycles.mark.Reads as mark-reads

@@ -1,0 +1,71 @@
+-- `args_alike`: one by one.
+use Prim.Native.Nat.{_-_}
+use Rattle.loose.specs.Loose.{ArgsGone, args-start, args-not, args-on, args-end}
+use borrow.Author.Needs.{needs}
+use Rattle.loose.proofs.args_alike.Statement.{statement}
+use Rattle.loose.proofs.args_alike.Tie as tie
+
+abbrev Inv-loop : tie.InvT-loop
+Inv-loop ws labels₀ p q k₀ labels k = ArgsGone ws labels₀ p q k labels
+
+abbrev μ-loop : tie.MeasureT-loop
+μ-loop ws labels₀ p q k₀ labels k = q .n - k
+
+loop-holds : tie.Need-loop-holds Inv-loop μ-loop
+loop-holds c = search (needs, args-start)
+
+mul-own-type : tie.Need-mul-own-type Inv-loop μ-loop
+mul-own-type c = search needs
+
+element-copy-out-own-type : tie.Need-element-copy-out-own-type Inv-loop μ-loop
+element-copy-out-own-type c = search needs
+
+own-type-requires : tie.Need-own-type-requires Inv-loop μ-loop
+own-type-requires c κs = search needs
+
+mul-find : tie.Need-mul-find Inv-loop μ-loop
+mul-find c = search needs
+
+element-copy-out-find : tie.Need-element-copy-out-find Inv-loop μ-loop
+element-copy-out-find c = search needs
+
+find-requires : tie.Need-find-requires Inv-loop μ-loop
+find-requires c κs = search needs
+
+same-label-requires : tie.Need-same-label-requires Inv-loop μ-loop
+same-label-requires c κs = search needs
+
+returns : tie.Need-returns Inv-loop μ-loop
+returns c = search (needs, args-not)
+
+add-k : tie.Need-add-k Inv-loop μ-loop
+add-k c = search needs
+
+loop-less : tie.Need-loop-less Inv-loop μ-loop
+loop-less c = search needs
+
+loop-again : tie.Need-loop-again Inv-loop μ-loop
+loop-again c = search (needs, args-on)
+
+returns-2 : tie.Need-returns-2 Inv-loop μ-loop
+returns-2 c = search (needs, args-end)
+
+pub args-alike-spec : {M : Type 1} → statement M
+args-alike-spec =
+    tie.close
+    (tie.spec
+    Inv-loop
+    μ-loop
+    loop-holds
+    mul-own-type
+    element-copy-out-own-type
+    own-type-requires
+    mul-find
+    element-copy-out-find
+    find-requires
+    same-label-requires
+    returns
+    add-k
+    loop-less
+    loop-again
+    returns-2)
