@@ -28,7 +28,7 @@ ghost use Rattle.opening.specs.Sound.{Sound};
 ghost use Rattle.clash.specs.Refs.{place, KindOf, IdOf, side-of, type-side, Bit, Sided, Alike};
 ghost use Rattle.clash.specs.Meaning.{turn as turn-of, record-side};
 ghost use Rattle.clash.specs.Links.{Finds, Links, Settles};
-ghost use Rattle.clash.specs.Meeting.{Aside, Queues, Puts, Decides, Inverts, Meets, apart as apart-of};
+ghost use Rattle.clash.specs.Meeting.{Aside, Queues, Puts, Decides, Inverts, Meets, Mirrors, apart as apart-of};
 ghost use Rattle.clash.specs.Children.{Cells, Gathers};
 ghost use Rattle.clash.specs.Pairs.{Goes, Ran, Ends, ArgsMet, RootClash, Clashing};
 ghost use Rattle.clash.specs.Loose.{Opposed};
@@ -445,6 +445,27 @@ fn mirror(queue: &mut [u32; 517], end: usize, x: u32, y: u32) -> usize
     end + 1
 }
 
+// Meets a type of kind k with its own inverse, which has the same kind and id, and differs in side.
+fn mirror_known(
+    sheet: &[u32],
+    places: &[u32],
+    ws: &[u32],
+    queue: &mut [u32; 517],
+    end: usize,
+    x: u32,
+    k: u32,
+) -> usize
+    requires { ⌜ KindOf (now sheet) (now places) (now ws) (x / 2) k ⌝ }
+    requires { ⌜ k ≢ 0 ⌝ }
+    ensures { λ r. ⌜ Mirrors (now (sheet .entry)) (now (places .entry)) (now (ws .entry)) (now (queue .entry)) end x (now (queue .exit)) r ⌝ }
+{
+    let d = id(sheet, places, ws, x / 2);
+    if sided_once(sheet, queue, end, k, d) {
+        return CLASH;
+    }
+    mirror(queue, end, x, turn(1, x))
+}
+
 // Meets two types of kind k and id d that differ in side.
 fn meet_inverted(
     sheet: &[u32],
@@ -532,6 +553,31 @@ fn meet_opposed(
     end
 }
 
+// Meets an unknown with a type of kind k: it is linked to that, which is met with its own inverse where the unknown is its own.
+fn bind_own(
+    sheet: &[u32],
+    places: &[u32],
+    ws: &[u32],
+    links: &mut [u32; 2048],
+    queue: &mut [u32; 517],
+    end: usize,
+    x: u32,
+    y: u32,
+    k: u32,
+) -> usize
+    requires { ⌜ KindOf (now sheet) (now places) (now ws) (y / 2) k ⌝ }
+    requires { ⌜ k ≢ 0 ⌝ }
+    ensures { λ r. ⌜ Meets (now (sheet .entry)) (now (places .entry)) (now (ws .entry)) (now (links .entry)) (now (queue .entry)) end x y (now (links .exit)) (now (queue .exit)) r ⌝ }
+{
+    let r = x / 2 % 2048;
+    let up = links[words::wide(r)];
+    link(links, x, y);
+    if up == 2 * r + 2 {
+        return mirror_known(sheet, places, ws, queue, end, y, k);
+    }
+    end
+}
+
 // Meets an unknown with another type of a root: it is linked to that; but another unknown is linked to it where it is its own inverse.
 fn meet_unknown(
     sheet: &[u32],
@@ -548,14 +594,16 @@ fn meet_unknown(
     if x / 2 == y / 2 {
         return meet_opposed(links, queue, end, x, y);
     }
-    if links[words::wide(x / 2 % 2048)] != 0 {
-        if kind(sheet, places, ws, y / 2) == 0 {
-            link(links, y, x);
-            return end;
-        }
+    if links[words::wide(x / 2 % 2048)] == 0 {
+        link(links, x, y);
+        return end;
     }
-    link(links, x, y);
-    end
+    let k = kind(sheet, places, ws, y / 2);
+    if k == 0 {
+        link(links, y, x);
+        return end;
+    }
+    bind_own(sheet, places, ws, links, queue, end, x, y, k)
 }
 
 // Meets types of two roots: an unknown is linked to the other, or it to that, and two that have a kind clash or are queued.
@@ -578,9 +626,8 @@ fn meet_roots(
     }
     let j = kind(sheet, places, ws, y / 2);
     if j == 0 {
-        link(links, y, x);
         count_bound(queue, end);
-        return end;
+        return bind_own(sheet, places, ws, links, queue, end, y, x, k);
     }
     if k != j {
         return CLASH;
@@ -866,7 +913,7 @@ fn is_mirrored(queue: &[u32; 517], x: u32) -> bool {
     queue[QUEUE + words::wide(x / 2 % 256)] == x / 2 + 1
 }
 
-// Meets a type with its own inverse: what is found from it has the kind and id of its inverse, and differs in side.
+// Meets a type with its own inverse: what is found from it is, if it has a kind.
 fn meet_own(
     sheet: &[u32],
     places: &[u32],
@@ -883,11 +930,7 @@ fn meet_own(
     if k == 0 {
         return meet(sheet, places, ws, links, queue, end, t, turn(1, t));
     }
-    let d = id(sheet, places, ws, x / 2);
-    if sided_once(sheet, queue, end, k, d) {
-        return CLASH;
-    }
-    mirror(queue, end, x, turn(1, x))
+    mirror_known(sheet, places, ws, queue, end, x, k)
 }
 
 // Meets the types of a row with their own inverses, but for those whose refs have been queued so.
