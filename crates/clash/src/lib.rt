@@ -1,6 +1,6 @@
 // Whether a candidate's signature, or an impl parameter of the caller's generics, and the question cannot unify: a test made before it is opened.
 // It goes by classes of types that have to be the same, and finds a clash: two types of one class that differ in kind, id or number of children, or are different Errors, or differ in side where the kind is not its own inverse,
-// so that a type is met inverted that may not be (where a type meets its own inverse, its children meet theirs); or an unknown that meets its own inverse and stays free (`loose`); or a class that would contain itself, which is the occurs check (`cycles`). Where it finds none nothing is said.
+// so that a type is met inverted that may not be (where a type meets its own inverse, its children meet theirs; where an unknown did and is bound afterwards, what it is bound to meets its own); or an unknown that meets its own inverse and stays free (`loose`); or a class that would contain itself, which is the occurs check (`cycles`). Where it finds none nothing is said.
 // A type is twice a ref, and one more if it is inverted. Refs are read modulo 2,048: up to 255 roots of the question's table, from 256 on type parameters, from 1,024 on nodes of the signature's table by their records.
 // `links` has for each ref 0, or 1 and the type that the ref is, of the same class; `queue` has pairs of types that are the same and whose children are to be met, in its first 256 words, and is worked off from its end:
 // a pair stands in it, marked, until all below it is done. After these it has, by refs modulo 256, 1 and the ref that was queued with its own inverse last; then how many links were gone to look for self-dual marks, how many unknowns were linked,
@@ -553,7 +553,7 @@ fn meet_opposed(
     end
 }
 
-// Meets an unknown with a type of kind k: it is linked to that, which is met with its own inverse where the unknown is its own.
+// Meets an unknown with a type of kind k: it is linked to that, which is met with its own inverse where the unknown was linked to its own.
 fn bind_own(
     sheet: &[u32],
     places: &[u32],
@@ -578,7 +578,7 @@ fn bind_own(
     end
 }
 
-// Meets an unknown with another type of a root: it is linked to that; but another unknown is linked to it where it is its own inverse.
+// Meets an unknown with another type of a root: it is linked to that; but where it is its own inverse another unknown is linked to it, and a type that has a kind is met with its own inverse.
 fn meet_unknown(
     sheet: &[u32],
     places: &[u32],
@@ -913,7 +913,7 @@ fn is_mirrored(queue: &[u32; 517], x: u32) -> bool {
     queue[QUEUE + words::wide(x / 2 % 256)] == x / 2 + 1
 }
 
-// Meets a type with its own inverse: what is found from it is, if it has a kind.
+// Meets a type with its own inverse: if what is found from it has a kind, that is met with its own.
 fn meet_own(
     sheet: &[u32],
     places: &[u32],
