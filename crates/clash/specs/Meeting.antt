@@ -15,7 +15,7 @@ use Rattle.rules.specs.Pigeonholes.{lt-or}
 use Rattle.rules.specs.SignedTerms.{SignedSol, turned, label, label-plain, label-error, label-flag}
 use Rattle.refs.specs.Meaning.{odd, means, means-mod, means-turn, turn, Meaning, Parts, made-parts}
 use Rattle.refs.specs.Refs.{KindOf, IdOf, sort-type, error-one, id-one, id-any, side-of, type-side, apart, Bit, bit-yes, bit-no, bit-sum, bit-type, bits-apart, Sided, sided-not}
-use Rattle.refs.specs.Links.{Linked, Finds, Links, Settles}
+use Rattle.refs.specs.Links.{Linked, Finds, finds-own, Links, Settles}
 
 -- What is kept while types are met: the links, and the pairs before place e of the queue, are of types that mean the same; 1000 is said where that cannot be.
 pub record Holds (s : Words) (m : SignedSol) (ls qs : Words) (e : ℕ) : Type 0 where
@@ -172,8 +172,8 @@ module _ (s ps ws ls qs : Words) (e x y : ℕ) where
   pub roots-aside : (rs ks ts : Words) (r : ℕ) → Aside qs e rs → Meets s ps ws ls rs e x y ks ts r → Meets s ps ws ls qs e x y ks ts r
   roots-aside rs ks ts r a t = record { at = λ m w h q. t .at m w (a .at s m ls h) q }
 
-  pub roots-right : (ks rs : Words) → Links ls y x ks → Aside qs e rs → Meets s ps ws ls qs e x y ks rs e
-  roots-right ks rs l a = record { at = λ m w h q. a .at s m ks (record { linked = l .at s m (h .linked) (sym q); queued = h .queued; free = h .free }) }
+  pub roots-right : (rs ks ts : Words) (r : ℕ) → Aside qs e rs → Meets s ps ws ls rs e y x ks ts r → Meets s ps ws ls qs e x y ks ts r
+  roots-right rs ks ts r a t = record { at = λ m w h q. t .at m w (a .at s m ls h) (sym q) }
 
   -- Both have one.
   pub roots-kinds : (k j : ℕ) → KindOf s ps ws (x / 2) k → KindOf s ps ws (y / 2) j → k ≢ 0 → j ≢ 0 → k ≢ j → Meets s ps ws ls qs e x y ls qs 1000
@@ -243,28 +243,38 @@ own-apart s ps ws x y e =
       (bit-sum (type-side s ps ws x) (type-side s ps ws y) ((x % 2 + c .0) % 2) ((y % 2 + c .0) % 2) (bit-type s ps ws x (c .0) (c .1)) (bit-type s ps ws y (c .0) o), sides-sum (x % 2) (y % 2) (c .0) (inverse-rest x y e)),
     )
 
--- A type is met with its own inverse by x, which is found from it and has a kind.
-module _ (s ps ws ls qs : Words) (e t x k d : ℕ) (f : Finds ls t x) (ek : KindOf s ps ws (x / 2) k) (zk : k ≢ 0) (ed : IdOf s ps ws (x / 2) d) where
-  own-same : (m : SignedSol) → Linked s m ls → (y : ℕ) → y ≡ turn 1 x → means s m t ≡ means s m (turn 1 t) → means s m x ≡ means s m y
-  own-same m l y ey q =
-      sym (f .at s m l)
-      ∙ q
-      ∙ means-turn s m 1 t
-      ∙ ap (turned s (odd 1)) (f .at s m l)
-      ∙ sym (means-turn s m 1 x)
-      ∙ ap (means s m) (sym ey)
+-- Type x is met with its own inverse, whatever the links are.
+pub record Mirrors (s ps ws qs : Words) (e x : ℕ) (rs : Words) (r : ℕ) : Type 0 where
+  pub at : (ls : Words) (m : SignedSol) → Meaning s ps ws m → Holds s m ls qs e → means s m x ≡ means s m (turn 1 x) → Holds s m ls rs r
 
-  own-meets : (y : ℕ) → y ≡ turn 1 x → (ks rs : Words) (r : ℕ) → Inverts s ls qs e x y k d ks rs r → Meets s ps ws ls qs e t (turn 1 t) ks rs r
-  own-meets y ey ks rs r i =
+module _ (s ps ws qs : Words) (e x k d : ℕ) (ek : KindOf s ps ws (x / 2) k) (zk : k ≢ 0) (ed : IdOf s ps ws (x / 2) d) where
+  mirrors-inverts : (y : ℕ) → y ≡ turn 1 x → (rs : Words) (r : ℕ) → ((ls : Words) → Inverts s ls qs e x y k d ls rs r) → Mirrors s ps ws qs e x rs r
+  mirrors-inverts y ey rs r i =
       let z : x / 2 ≡ y / 2 = omega (arith, ey) in
       let ej = subst (λ n. KindOf s ps ws n k) z ek in
       let eg = subst (λ n. IdOf s ps ws n d) z ed in
       let o = own-apart s ps ws x y ey in
-      let g = known-inverted s ps ws ls qs e x y k ek ej zk d d ed eg (o .0) (o .1 .0) (o .1 .1) ks rs r i in
-      record { at = λ m w h q. g .at m w h (own-same m (h .linked) y ey q) }
+      record { at = λ ls m w h q. (known-inverted s ps ws ls qs e x y k ek ej zk d d ed eg (o .0) (o .1 .0) (o .1 .1) ls rs r (i ls)) .at m w h (q ∙ ap (means s m) (sym ey)) }
 
-  pub own-sided : (rs : Words) (b : Bool) → Decides s qs e k d rs b → b ≡ true → Meets s ps ws ls qs e t (turn 1 t) ls rs 1000
-  own-sided rs b c eb = own-meets (turn 1 x) refl ls rs 1000 (inverts-sided s ls qs e x (turn 1 x) k d rs b c eb)
+  pub mirrors-sided : (rs : Words) (b : Bool) → Decides s qs e k d rs b → b ≡ true → Mirrors s ps ws qs e x rs 1000
+  mirrors-sided rs b c eb = mirrors-inverts (turn 1 x) refl rs 1000 (λ ls. inverts-sided s ls qs e x (turn 1 x) k d rs b c eb)
 
-  pub own-queued : (rs : Words) (b : Bool) (y : ℕ) (ts : Words) (r : ℕ) → Decides s qs e k d rs b → y ≡ turn 1 x → Queues rs e x y ts r → Meets s ps ws ls qs e t (turn 1 t) ls ts r
-  own-queued rs b y ts r c ey p = own-meets y ey ls ts r (inverts-queued s ls qs e x y k d rs b c ts r p)
+  pub mirrors-queued : (rs : Words) (b : Bool) (y : ℕ) (ts : Words) (r : ℕ) → Decides s qs e k d rs b → y ≡ turn 1 x → Queues rs e x y ts r → Mirrors s ps ws qs e x ts r
+  mirrors-queued rs b y ts r c ey p = mirrors-inverts y ey ts r (λ ls. inverts-queued s ls qs e x y k d rs b c ts r p)
+
+-- Two types that mean the same are their own inverses together.
+own-same : (s : Words) (m : SignedSol) (t x : ℕ) → means s m t ≡ means s m x → means s m t ≡ means s m (turn 1 t) → means s m x ≡ means s m (turn 1 x)
+own-same s m t x f q = sym f ∙ q ∙ means-turn s m 1 t ∙ ap (turned s (odd 1)) f ∙ sym (means-turn s m 1 x)
+
+-- A type is met with its own inverse by x, which is found from it.
+pub own-found : (s ps ws ls qs : Words) (e t x : ℕ) (rs : Words) (r : ℕ) → Finds ls t x → Mirrors s ps ws qs e x rs r → Meets s ps ws ls qs e t (turn 1 t) ls rs r
+own-found s ps ws ls qs e t x rs r f p = record { at = λ m w h q. p .at ls m w h (own-same s m t x (f .at s m (h .linked)) q) }
+
+-- An unknown that is linked to its own inverse is linked to y in its place, which is met with its own inverse.
+pub bind-mirrors : (s ps ws ls qs : Words) (e x y c w u : ℕ) (ks rs : Words) (r : ℕ) → c ≡ x / 2 % 2048 → w ≡ c → u ≡ at ls w → u ≡ 2 * c + 2 → Links ls x y ks → Mirrors s ps ws qs e y rs r → Meets s ps ws ls qs e x y ks rs r
+bind-mirrors s ps ws ls qs e x y c w u ks rs r ec ew eu o l p = record {
+  at = λ m a h q.
+      p .at ks m a
+      (record { linked = l .at s m (h .linked) q; queued = h .queued; free = h .free })
+      (own-same s m x y q ((finds-own ls x c w u ec ew eu o) .at s m (h .linked)));
+}

@@ -1,6 +1,6 @@
 // Whether a candidate's signature, or an impl parameter of the caller's generics, and the question cannot unify: a test made before it is opened.
 // It goes by classes of types that have to be the same, and finds a clash: two types of one class that differ in kind, id or number of children, or are different Errors, or differ in side where the kind is not its own inverse,
-// so that a type is met inverted that may not be (where a type meets its own inverse, its children meet theirs); or an unknown that meets its own inverse and stays free (`loose`); or a class that would contain itself, which is the occurs check (`cycles`). Where it finds none nothing is said.
+// so that a type is met inverted that may not be (where a type meets its own inverse, its children meet theirs; where an unknown did and is bound afterwards, what it is bound to meets its own); or an unknown that meets its own inverse and stays free (`loose`); or a class that would contain itself, which is the occurs check (`cycles`). Where it finds none nothing is said.
 // Refs, types and `links` are told in `refs`. `queue` has pairs of types that are the same and whose children are to be met, in its first 256 words, and is worked off from its end:
 // a pair stands in it, marked, until all below it is done. After these it has, by refs modulo 256, 1 and the ref that was queued with its own inverse last; then how many links were gone to look for self-dual marks, how many unknowns were linked,
 // which children of the pair in hand were met, and which are to be, and last 1 and an unknown that met its own inverse (`loose`).
@@ -27,7 +27,7 @@ ghost use Rattle.opening.specs.Sound.{Sound};
 ghost use Rattle.refs.specs.Refs.{KindOf, Bit, Sided};
 ghost use Rattle.refs.specs.Meaning.{turn as turn-of};
 ghost use Rattle.loose.specs.Loose.{Opposed};
-ghost use Rattle.clash.specs.Meeting.{Aside, Queues, Puts, Decides, Inverts, Meets};
+ghost use Rattle.clash.specs.Meeting.{Aside, Queues, Puts, Decides, Inverts, Meets, Mirrors};
 ghost use Rattle.clash.specs.Pairs.{Goes, Ran, Ends, ArgsMet, RootClash, Clashing};
 ghost use Rattle.clash.specs.Across.{sides-across, RecordMet, CellsMet};
 ghost use Rattle.clash.specs.Signatures.{Against, Room, ImplAt, Clashes};
@@ -103,8 +103,10 @@ const SMALL_SHEET: usize = 320;
 
 const SMALL_TABLE: u32 = 64;
 
-// How far down its chain the self-dual mark of a struct or union is looked for.
+// How far down its chain the self-dual mark of a struct or union is looked for, at the roots of the arguments and below them.
 const NEAR: u32 = 256;
+
+const FAR: u32 = 1024;
 
 // The most nodes that a table has.
 const ROOM: usize = 256;
@@ -143,10 +145,10 @@ fn sided(sheet: &[u32], k: u32, d: u32) -> bool
 }
 
 // Whether a kind and id is surely not its own inverse; of Structs and Unions, nothing is said where the self-dual mark would have to be looked for far down their chain.
-fn sided_near(sheet: &[u32], k: u32, d: u32) -> bool
+fn sided_near(sheet: &[u32], k: u32, d: u32, most: u32) -> bool
     ensures { λ r. ⌜ Sided (now (sheet .entry)) k d r ⌝ }
 {
-    if d >= NEAR {
+    if d >= most {
         return sided(sheet, k, d);
     }
     if kinds::kind_flag(
@@ -164,14 +166,14 @@ fn sided_near(sheet: &[u32], k: u32, d: u32) -> bool
 fn may_look(queue: &mut [u32; 517], end: usize, d: u32) -> bool
     ensures { λ _. ⌜ Aside (now (queue .entry)) end (now (queue .exit)) ⌝ }
 {
-    if d >= NEAR {
+    if d >= FAR {
         return false;
     }
     if end >= QUEUE {
         return false;
     }
     let gone = queue[GONE];
-    if gone >= NEAR {
+    if gone >= FAR {
         return false;
     }
     queue[GONE] = gone + d + 1;
@@ -192,7 +194,7 @@ fn sided_once(sheet: &[u32], queue: &mut [u32; 517], end: usize, k: u32, d: u32)
 {
     if is_marked(k) {
         if may_look(queue, end, d) {
-            return sided_near(sheet, k, d);
+            return sided_near(sheet, k, d, FAR);
         }
         return false;
     }
@@ -215,6 +217,27 @@ fn mirror(queue: &mut [u32; 517], end: usize, x: u32, y: u32) -> usize
     let pair = x % 4096 + 4096 * (y % 4096);
     queue[end] = pair;
     end + 1
+}
+
+// Meets a type of kind k with its own inverse, which has the same kind and id, and differs in side.
+fn mirror_known(
+    sheet: &[u32],
+    places: &[u32],
+    ws: &[u32],
+    queue: &mut [u32; 517],
+    end: usize,
+    x: u32,
+    k: u32,
+) -> usize
+    requires { ⌜ KindOf (now sheet) (now places) (now ws) (x / 2) k ⌝ }
+    requires { ⌜ k ≢ 0 ⌝ }
+    ensures { λ r. ⌜ Mirrors (now (sheet .entry)) (now (places .entry)) (now (ws .entry)) (now (queue .entry)) end x (now (queue .exit)) r ⌝ }
+{
+    let d = id(sheet, places, ws, x / 2);
+    if sided_once(sheet, queue, end, k, d) {
+        return CLASH;
+    }
+    mirror(queue, end, x, turn(1, x))
 }
 
 // Meets two types of kind k and id d that differ in side.
@@ -304,7 +327,32 @@ fn meet_opposed(
     end
 }
 
-// Meets an unknown with another type of a root: it is linked to that; but another unknown is linked to it where it is its own inverse.
+// Meets an unknown with a type of kind k: it is linked to that, which is met with its own inverse where the unknown was linked to its own.
+fn bind_own(
+    sheet: &[u32],
+    places: &[u32],
+    ws: &[u32],
+    links: &mut [u32; 2048],
+    queue: &mut [u32; 517],
+    end: usize,
+    x: u32,
+    y: u32,
+    k: u32,
+) -> usize
+    requires { ⌜ KindOf (now sheet) (now places) (now ws) (y / 2) k ⌝ }
+    requires { ⌜ k ≢ 0 ⌝ }
+    ensures { λ r. ⌜ Meets (now (sheet .entry)) (now (places .entry)) (now (ws .entry)) (now (links .entry)) (now (queue .entry)) end x y (now (links .exit)) (now (queue .exit)) r ⌝ }
+{
+    let r = x / 2 % 2048;
+    let up = links[words::wide(r)];
+    link(links, x, y);
+    if up == 2 * r + 2 {
+        return mirror_known(sheet, places, ws, queue, end, y, k);
+    }
+    end
+}
+
+// Meets an unknown with another type of a root: it is linked to that; but where it is its own inverse another unknown is linked to it, and a type that has a kind is met with its own inverse.
 fn meet_unknown(
     sheet: &[u32],
     places: &[u32],
@@ -320,14 +368,16 @@ fn meet_unknown(
     if x / 2 == y / 2 {
         return meet_opposed(links, queue, end, x, y);
     }
-    if links[words::wide(x / 2 % 2048)] != 0 {
-        if kind(sheet, places, ws, y / 2) == 0 {
-            link(links, y, x);
-            return end;
-        }
+    if links[words::wide(x / 2 % 2048)] == 0 {
+        link(links, x, y);
+        return end;
     }
-    link(links, x, y);
-    end
+    let k = kind(sheet, places, ws, y / 2);
+    if k == 0 {
+        link(links, y, x);
+        return end;
+    }
+    bind_own(sheet, places, ws, links, queue, end, x, y, k)
 }
 
 // Meets types of two roots: an unknown is linked to the other, or it to that, and two that have a kind clash or are queued.
@@ -350,9 +400,8 @@ fn meet_roots(
     }
     let j = kind(sheet, places, ws, y / 2);
     if j == 0 {
-        link(links, y, x);
         count_bound(queue, end);
-        return end;
+        return bind_own(sheet, places, ws, links, queue, end, y, x, k);
     }
     if k != j {
         return CLASH;
@@ -638,7 +687,7 @@ fn is_mirrored(queue: &[u32; 517], x: u32) -> bool {
     queue[QUEUE + words::wide(x / 2 % 256)] == x / 2 + 1
 }
 
-// Meets a type with its own inverse: what is found from it has the kind and id of its inverse, and differs in side.
+// Meets a type with its own inverse: if what is found from it has a kind, that is met with its own.
 fn meet_own(
     sheet: &[u32],
     places: &[u32],
@@ -655,11 +704,7 @@ fn meet_own(
     if k == 0 {
         return meet(sheet, places, ws, links, queue, end, t, turn(1, t));
     }
-    let d = id(sheet, places, ws, x / 2);
-    if sided_once(sheet, queue, end, k, d) {
-        return CLASH;
-    }
-    mirror(queue, end, x, turn(1, x))
+    mirror_known(sheet, places, ws, queue, end, x, k)
 }
 
 // Meets the types of a row with their own inverses, but for those whose refs have been queued so.
@@ -990,7 +1035,7 @@ fn root_clash(sheet: &[u32], places: &[u32], ws: &[u32], a: u32, b: u32) -> bool
         return true;
     }
     if apart(sheet, places, ws, a, b) == 1 {
-        return sided_near(sheet, k, d);
+        return sided_near(sheet, k, d, NEAR);
     }
     false
 }

@@ -1,6 +1,6 @@
 -- Links between types that mean the same, and the way along them.
-use Prim.Native.Nat.{ℕ, _+_, _-_, _/_, _%_}
-use mathlib.Core.Path.{_≡_, refl, sym, _∙_, ap}
+use Prim.Native.Nat.{ℕ, _+_, _-_, _*_, _/_, _%_, _<_}
+use mathlib.Core.Path.{_≡_, refl, sym, _∙_, ap, ap₂}
 use mathlib.Core.Logic.{_≢_, ⊎-elim}
 use native.Mathlib.Decide.{ℕ-discrete}
 use native.Mathlib.Omega.{arith}
@@ -45,6 +45,28 @@ finds-up ls t x w u v f e q z ev =
 
 pub finds-far : (ls : Words) (t w u v x : ℕ) → w ≡ t / 2 % 2048 → u ≡ at ls w → u ≢ 0 → v ≡ turn (t % 2) (u - 1) → Finds ls v x → Finds ls t x
 finds-far ls t w u v x e q z ev f = record { at = λ s m l. (finds-up ls t t w u v (finds-same ls t) e q z ev) .at s m l ∙ f .at s m l }
+
+turn-next : (b r : ℕ) → turn b (2 * r + 2 - 1) ≡ r * 2 + (1 + b) % 2
+turn-next b r = omega arith
+
+rest-twice : (q c : ℕ) → c < 2 → (q * 2 + c) % 4096 ≡ q % 2048 * 2 + c
+rest-twice q c l = omega arith
+
+side-next : (x : ℕ) → (1 + x % 2) % 2 ≡ (x + 1) % 2
+side-next x = omega arith
+
+side-small : (x : ℕ) → (x + 1) % 2 < 2
+side-small x = omega arith
+
+-- A ref that is linked to its own inverse means it.
+pub finds-own : (ls : Words) (x r w u : ℕ) → r ≡ x / 2 % 2048 → w ≡ r → u ≡ at ls w → u ≡ 2 * r + 2 → Finds ls x (turn 1 x)
+finds-own ls x r w u er ew eu o =
+    let z : u ≢ 0 = omega (arith, o) in
+    let f = finds-up ls x x w u (turn (x % 2) (u - 1)) (finds-same ls x) (ew ∙ er) eu z refl in
+    let a : turn (x % 2) (u - 1) ≡ r * 2 + (1 + x % 2) % 2 = ap (λ k. turn (x % 2) (k - 1)) o ∙ turn-next (x % 2) r in
+    let b : r * 2 + (1 + x % 2) % 2 ≡ x / 2 % 2048 * 2 + (x + 1) % 2 = ap₂ (λ (i j : ℕ). i * 2 + j) er (side-next x) in
+    let e : turn (x % 2) (u - 1) ≡ turn 1 x % 4096 = a ∙ b ∙ sym (rest-twice (x / 2) ((x + 1) % 2) (side-small x)) in
+    record { at = λ s m l. f .at s m l ∙ ap (means s m) e ∙ means-mod s m (turn 1 x) }
 
 -- ks has a link besides by which x is y.
 pub record Links (ls : Words) (x y : ℕ) (ks : Words) : Type 0 where

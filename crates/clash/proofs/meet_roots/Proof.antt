@@ -19,11 +19,11 @@ returns c = search (needs, roots-aside)
 kind-requires-2 : tie.Need-kind-requires-2
 kind-requires-2 c κs = search needs
 
-link-requires : tie.Need-link-requires
-link-requires c κs = search needs
-
 count-bound-requires-2 : tie.Need-count-bound-requires-2
 count-bound-requires-2 c κs = search needs
+
+bind-own-requires : tie.Need-bind-own-requires
+bind-own-requires c κs = search needs
 
 returns-2 : tie.Need-returns-2
 returns-2 c = search (needs, roots-right)
@@ -46,8 +46,8 @@ meet-roots-spec =
     meet-unknown-requires
     returns
     kind-requires-2
-    link-requires
     count-bound-requires-2
+    bind-own-requires
     returns-2
     returns-3
     meet-known-requires
