@@ -7,7 +7,7 @@ use mathlib.Core.List.{[], _∷_}
 use mathlib.Core.Logic.{_≢_, ⊎-elim}
 use native.Mathlib.Nat.{le-of-suc-le-suc, not-suc-le-zero, eq-or-lt-of-le}
 use native.Mathlib.Omega.{arith}
-use lib.Dec.{T, eqb, ltb, ltb→lt}
+use lib.Dec.{T, eqb, eqb→eq, ltb, ltb→lt}
 use lib.ListN.{length, take, set}
 use lib.Seq.{getD-set-other}
 use borrow.Author.Tests.{lt-ltb, le-ltb, eqb-true}
@@ -250,6 +250,25 @@ node-unknown s ps ws ls l r k e z = record { fixed = fixed-same ls; closed = λ 
 
 pub node-known : (s ps ws ls : Words) (l r : ℕ) (ks : Words) (b : Bool) → Closes s ps ws ls l r ks b → NodeCloses s ps ws ls l r ks b
 node-known s ps ws ls l r ks b c = record { fixed = c .fixed; closed = λ t js f y. c .closed t js f }
+
+-- true: a ref stands for its class itself, and has another label than l.
+pub record Owns (ls : Words) (l r : ℕ) (b : Bool) : Type 0 where
+  pub is : b ≡ true → at ls r ≡ r + 1
+  pub other : b ≡ true → at ls r ≢ l
+
+pub owns-not : (ls : Words) (l r : ℕ) → Owns ls l r false
+owns-not ls l r = record { is = λ e. absurd (never e); other = λ e. absurd (never e) }
+
+pub owns-told : (ls : Words) (l r y : ℕ) → r < 2048 → y ≡ at ls (r % 2048) → y ≢ l → Owns ls l r (eqb y (r + 1))
+owns-told ls l r y h e n =
+    let o : at ls r ≡ y = ap (at ls) (let z : r ≡ r % 2048 = omega arith in z) ∙ sym e in
+    record { is = λ t. o ∙ eqb→eq y (r + 1) (subst T (sym t) tt); other = λ t q. n (sym o ∙ q) }
+
+pub node-own : (s ps ws ls : Words) (l r : ℕ) (b : Bool) → r < 2048 → Owns ls l r b → b ≡ true → NodeCloses s ps ws ls l r ls true
+node-own s ps ws ls l r b h o e =
+    let low : at ls (r % 2048) ≡ at ls r = ap (at ls) (let z : r % 2048 ≡ r = omega arith in z) in
+    node-known s ps ws ls l r ls true
+    (closes-own s ps ws ls l r ls (r + 1) (record { fixed = fixed-same ls; is = sym (low ∙ o .is e) }) h (omega arith) (λ q. o .other e (o .is e ∙ q)) refl)
 
 -- true: so are the known roots among the first n of the question's table,
 pub record NodesGone (s ps ws ls : Words) (l n : ℕ) (ks : Words) : Type 0 where

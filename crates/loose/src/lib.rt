@@ -7,7 +7,7 @@ ghost use lib.ListN.{length};
 ghost use Rattle.rules.specs.Sheet.{at};
 ghost use Rattle.table.specs.Packing.{Packed};
 ghost use Rattle.loose.specs.LooseAcross.{CellsAlike};
-ghost use Rattle.loose.specs.Loose.{Labelled, RefsAlike, turned-round, Kids, SameLabels, SameKids, Closes, NodeCloses, NodesClose, RecordCloses, RecordsClose, ArgsSame, Labels, Opposite, Witness, Opposed};
+ghost use Rattle.loose.specs.Loose.{Labelled, RefsAlike, turned-round, Kids, SameLabels, SameKids, Closes, Owns, NodeCloses, NodesClose, RecordCloses, RecordsClose, ArgsSame, Labels, Opposite, Witness, Opposed};
 use chart::layout;
 use queries::Query;
 use refs::NODES;
@@ -243,6 +243,18 @@ fn is_closed(
     same_children(sheet, places, ws, labels, r, x - 1)
 }
 
+// Whether a ref stands for its class itself, and has another label than l: most nodes of the question do.
+fn is_own(labels: &[u32; 2048], l: u32, r: u32) -> bool
+    requires { ⌜ r < 2048 ⌝ }
+    ensures { λ b. ⌜ Owns (now (labels .entry)) l r b ⌝ }
+{
+    let y = label_of(labels, r);
+    if y == l {
+        return false;
+    }
+    y == r + 1
+}
+
 // Whether a node of the question's table, if it is known, is so.
 fn node_closed(
     sheet: &[u32],
@@ -257,6 +269,9 @@ fn node_closed(
     ensures { λ b. ⌜ NodeCloses (now (sheet .entry)) (now (places .entry)) (now (ws .entry)) (now (labels .entry)) l r (now (labels .exit)) b ⌝ }
 {
     if table::kind_of(ws, r) == 0 {
+        return true;
+    }
+    if is_own(labels, l, r) {
         return true;
     }
     is_closed(sheet, places, ws, labels, l, r)
