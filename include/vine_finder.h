@@ -10,7 +10,7 @@
  *
  * Nothing else is asked of a caller: lengths that do not do, and words that are no sheet or no question, are refused by
  * number (document 01, "Turning a call away"; docs/SHEET.md says how to read an answer). A call keeps nothing, and two
- * calls may run at the same time on buffers of their own. The deepest search takes some 330 KiB of stack. */
+ * calls may run at the same time on buffers of their own. The deepest search takes some 400 KiB of stack. */
 #ifndef VINE_FINDER_H
 #define VINE_FINDER_H
 
