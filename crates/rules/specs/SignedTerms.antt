@@ -611,14 +611,7 @@ module _ (s : Words) (ν : ℕ → ℕ) where
   unfolding unify
   unify-right us = unify-in-right (suc (length us)) s us
 
-  -- Where `unify` succeeds and leaves nodes of one class with one name, what solves the table that it leaves solves the table before, and gives the two types one term.
-  pub unify-signed : (ts : Types) (a b : Ty) → WellFormed ts → a .1 < length ts → b .1 < length ts → Readable ts → RootsUpright ts → Won ((unify s ts a b) .0) → Named ν ((unify s ts a b) .1) → (θ : SignedSol) → SignedSolves s ν ((unify s ts a b) .1) θ → SignedSolves s ν ts θ × (value s θ a ≡ value s θ b)
-  unify-signed ts a b formed ha hb fr up w nm θ sv =
-      let r = unify-right ts a b formed ha hb fr w .1 in
-      let t = unify-tells ts a b formed ha hb fr up w nm (r .0) (r .1 .solves) none tt θ (λ n h u. sv n h) in
-      (λ n h. t .0 n h tt, t .1)
-
-  -- `unify_impl_type` likewise.
+  -- Where `unify_impl_type` succeeds and leaves nodes of one class with one name, what solves the table that it leaves solves the table before, and gives the arguments one term each.
   pub impl-type-signed : (ts : Types) (a b : ImplType) → WellFormed ts → AllIn (length ts) (a .1) → AllIn (length ts) (b .1) → Readable ts → RootsUpright ts → (unify-impl-type s ts a b) .0 ≡ success → Named ν ((unify-impl-type s ts a b) .1) → (θ : SignedSol) → SignedSolves s ν ((unify-impl-type s ts a b) .1) θ → SignedSolves s ν ts θ × (values s θ (a .1) ≡ values s θ (b .1))
   unfolding unify-impl-type unify-types
   impl-type-signed ts a b formed ax ay fr up won nm θ sv =
@@ -1133,9 +1126,6 @@ candidate-joined a w₀ ready ts q neat inside i h won =
     let n = fresh-count (a .sheet) i in
     import-signed (a .sheet) ts q neat inside ((impl-signature (a .sheet) i) .0) (signature-neat a w₀ ready i h) (table-flat (a .sheet) (impl-table (a .sheet) i)) (some (fresh-params ts n)) (with-fresh ts n) (omega (arith, fresh-length ts n)) (fresh-first ts n)
     ((impl-signature (a .sheet) i) .1) (signature-in a w₀ ready i h) (signature-brought a w₀ ready ts q neat inside i h) (signed-given (a .sheet) (fresh-params ts n)) (λ μ. given-follows (a .sheet) μ ((impl-signature (a .sheet) i) .0) (fresh-params ts n)) won
-
-pub candidate-signed : (a : Finder) (w₀ : Words) → Ready a w₀ → (ts : Types) (q : ImplType) → Neat ts → AllIn (length ts) (q .1) → (i : ℕ) → i < many (a .sheet) header·impls → (met (a .sheet) ts q i) .0 ≡ success → SignedCommon (a .sheet) ts ((impl-signature (a .sheet) i) .0) ((impl-signature (a .sheet) i) .1 .1) (q .1)
-candidate-signed a w₀ ready ts q neat inside i h won = candidate-joined a w₀ ready ts q neat inside i h won .common
 
 -- So are there where an impl parameter of the caller's generics unifies with the question: its Params are types of their own.
 pub param-signed : (a : Finder) (w₀ : Words) → Ready a w₀ → (ts : Types) (q : ImplType) → Neat ts → AllIn (length ts) (q .1) → (p : ImplType) → AllIn (length ((impl-params (a .sheet) (a .generics)) .0)) (p .1) → (unify-impl-type (a .sheet) ((import-impl-type ((impl-params (a .sheet) (a .generics)) .0) none p ts) .1) ((import-impl-type ((impl-params (a .sheet) (a .generics)) .0) none p ts) .0) q) .0 ≡ success → SignedCommon (a .sheet) ts ((impl-params (a .sheet) (a .generics)) .0) (p .1) (q .1)
