@@ -16,7 +16,8 @@ use Rattle.rules.specs.Search.{Finder, impl-params}
 use Rattle.rules.specs.Solutions.{AllIn, WellFormed}
 use Rattle.rules.specs.CheckedTables.{Ready}
 use Rattle.rules.specs.Neat.{Neat, impl-params-neat}
-use Rattle.rules.specs.SignedTerms.{SignedCommon, param-signed}
+use Rattle.rules.specs.SignedTerms.{SignedCommon}
+use Rattle.rules.specs.SignedImports.{param-signed}
 use Rattle.table.specs.Packing.{types-of}
 use Rattle.chart.specs.Index.{Indexed}
 use Rattle.queries.specs.declared.Query.{Query}

@@ -76,6 +76,8 @@ pub mod ErrorsApart
 pub mod Labels
 pub mod LabelsCome
 pub mod SignedTerms
+pub mod SignedJoins
+pub mod SignedImports
 pub mod Loose
 pub mod CallKeeps
 pub mod ResultLimits

@@ -25,7 +25,8 @@ use Rattle.rules.specs.SearchKeeps.{fresh-count, signed, met, signature-
 use Rattle.rules.specs.CommonTerms.{fresh-first}
 use Rattle.rules.specs.Labels.{labels, Labels, Unheld, impl-type-labels}
 use Rattle.rules.specs.LabelsCome.{LabelsMeet, LabelsCome, labels-same, labels-come}
-use Rattle.rules.specs.SignedTerms.{Signed, svar, inverse, inverse-twice, turned, value, SignedSuits, SignedCommon, SignedJoined, signed-given, candidate-joined}
+use Rattle.rules.specs.SignedTerms.{Signed, svar, inverse, inverse-twice, turned, value, SignedSuits, SignedCommon}
+use Rattle.rules.specs.SignedImports.{SignedJoined, signed-given, candidate-joined}
 
 -- Labels by which a source's types xs and a table's types ys are alike: f of the table's nodes, g of the source's and π of its parameters. A Param is labelled as its parameter, and the children of two known types of one label are alike, be they of the table or, but for Params, of the source.
 pub record Alike (ts src : Types) (xs ys : List Ty) (f g π : ℕ → ℕ) : Type 0 where
