@@ -213,7 +213,7 @@ fn meetings() -> Vec<(&'static str, Search)> {
     ("candidates of few words", Search { meeting: Nothing, ..base }),
     (
       "candidates with generics far down their chain",
-      Search { meeting: Nothing, generics: 550, ..base },
+      Search { meeting: Nothing, generics: 500, ..base },
     ),
     ("candidates with tables of 220 nodes", Search { meeting: Import, dense: 220, ..base }),
     ("types of 110 nodes alike", Search { meeting: Alike, dense: 110, ..base }),
@@ -257,14 +257,27 @@ fn meetings() -> Vec<(&'static str, Search)> {
       "types of 110 nodes alike, and an unknown opposed, then bound",
       Search { meeting: Late, dense: 110, ..base },
     ),
+    ("the same, bound to its own inverse", Search { meeting: Later, dense: 110, ..base }),
+    (
+      "types of 110 nodes alike, and Defaults inverted",
+      Search { meeting: Defaults, dense: 110, ..base },
+    ),
+    (
+      "the same, where they have to be the same then",
+      Search { meeting: Twice, dense: 110, ..base },
+    ),
+    (
+      "towers of 72 nodes that differ but for a first candidate",
+      Search { meeting: Hidden, dense: 72, ..base },
+    ),
     (
       "types of 110 nodes alike, and a struct inverted",
       Search { meeting: Turned, dense: 110, ..base },
     ),
     ("towers of 110 nodes brought from the sheet", Search { meeting: Brought, dense: 110, ..base }),
     (
-      "the same of 68 nodes, with four that are found",
-      Search { meeting: Brought, dense: 68, found: 4, ..base },
+      "the same of 60 nodes, with four that are found",
+      Search { meeting: Brought, dense: 60, found: 4, ..base },
     ),
     ("few of 300 nodes reached", Search { meeting: Nothing, unreached: 300, ..base }),
     (
@@ -285,7 +298,7 @@ fn meetings() -> Vec<(&'static str, Search)> {
     ),
     (
       "a type of 90 structs meets its inverse, 315 times",
-      Search { meeting: Inverse, of_structs: true, dense: 90, links: 45, structs: 600, ..base },
+      Search { meeting: Inverse, of_structs: true, dense: 90, links: 45, structs: 560, ..base },
     ),
   ]
 }
@@ -295,11 +308,14 @@ pub fn searches() -> Vec<Worst> {
   let name = "four to each of three sub-questions".into();
   let mut all = vec![Worst { part: "results", name, call: search::results(130) }];
   let steps = Search::default().levels;
-  for (part, flex, levels) in
-    [("one question", false, 0), ("search, impl", false, steps), ("search, flex", true, steps)]
-  {
+  for (part, flex, levels, tagged) in [
+    ("one question", false, 0, false),
+    ("search, impl", false, steps, true),
+    ("search, flex", true, steps, true),
+    ("search, the same", false, steps, false),
+  ] {
     for (name, search) in meetings() {
-      let call = Search { flex, levels, ..search }.call();
+      let call = Search { flex, levels, tagged, ..search }.call();
       all.push(Worst { part, name: name.into(), call });
     }
   }

@@ -52,6 +52,14 @@ pub enum Meeting {
   Deep,
   /// Two types of one shape, and an unknown that meets its own inverse and is bound then.
   Late,
+  /// The same, where it is bound to a type that is its own inverse: the order alone makes it fail.
+  Later,
+  /// Two types of one shape, and two Defaults that meet inverted.
+  Defaults,
+  /// Two types of one shape, and two Defaults that have to be the same and meet inverted before.
+  Twice,
+  /// Two types of one shape that differ in what a parameter at the bottom is bound to; for a first candidate they do not.
+  Hidden,
 }
 
 /// A search in which `branch` candidates of a question ask a sub-question, to so many levels, and all others fail in the last
@@ -70,6 +78,8 @@ pub struct Search {
   pub links: usize,
   /// The question's generics have four impl parameters that fail like the candidates.
   pub params: bool,
+  /// Every sub-question is another: each candidate that asks one puts a type of its own round a fourth argument.
+  pub tagged: bool,
   /// Candidates that succeed: what they give is dropped, since each sub-question is followed by one that has no answer.
   pub found: usize,
   /// Nodes of the tables of failing candidates that nothing reaches, behind all others.
@@ -81,7 +91,7 @@ pub struct Search {
 
 impl Search {
   pub fn call(&self) -> Call {
-    let mut sheet = bare(3, self.flex);
+    let mut sheet = bare(3 + usize::from(self.tagged), self.flex);
     let self_dual = u32::from(self.meeting != Meeting::Turned);
     sheet.structs = vec![(0, self_dual); self.structs + 2];
     sheet.generics.extend(vec![Generics::default(); self.generics]);
@@ -90,9 +100,12 @@ impl Search {
       let impl_params = vec![failing.query; 4];
       sheet.generics[0] = Generics { type_params: 1, table: failing.table, impl_params };
     }
-    let recursive = self.recursive(&mut sheet);
-    for _ in 0..self.branch {
-      bind(&mut sheet, recursive.clone());
+    for place in 0..self.branch {
+      let recursive = match sheet.impls.first() {
+        Some(first) if !self.tagged => first.clone(),
+        _ => self.recursive(&mut sheet, place as u32),
+      };
+      bind(&mut sheet, recursive);
     }
     sheet.generics.push(Generics { type_params: 1, ..Generics::default() });
     for _ in 0..self.found {
@@ -124,14 +137,14 @@ impl Search {
     let last = generics.table.add(kind::TUPLE, 0, &[]);
     let tower = tower(&mut generics.table, self.struct_id(), self.dense, last);
     let never = generics.table.add(kind::NEVER, 0, &[]);
-    let needed = query(&mut generics.table, &[tower, never, third], self.flex);
+    let needed = self.query(&mut generics.table, [tower, never, third], None);
     generics.impl_params.push(needed);
     let generics_id = sheet.generics.len() as u32;
     sheet.generics.push(generics);
     let mut impl_ = Impl { generics: generics_id, flags: flag::NAMED, ..Impl::default() };
     let [first, second] = [(); 2].map(|()| impl_.table.add(0, 0, &[]));
     let third = impl_.table.add(kind::PARAM, 0, &[]);
-    impl_.query = query(&mut impl_.table, &[first, second, third], self.flex);
+    impl_.query = self.query(&mut impl_.table, [first, second, third], None);
     impl_.query.trait_ = 2;
     bind(sheet, impl_);
   }
@@ -154,22 +167,38 @@ impl Search {
     self.of_structs.then_some(self.round() + 1)
   }
 
-  /// T[A, B, S[C]], which needs T[A, B, C].
-  fn recursive(&self, sheet: &mut Sheet) -> Impl {
-    let mut generics = Generics { type_params: 3, ..Generics::default() };
+  /// A query for three types, and for a fourth if sub-questions are tagged: the one given, or anything.
+  fn query(&self, table: &mut Table, args: [u32; 3], tag: Option<u32>) -> Query {
+    let mut args = args.to_vec();
+    if self.tagged {
+      args.push(tag.unwrap_or_else(|| table.add(0, 0, &[])));
+    }
+    query(table, &args, self.flex)
+  }
+
+  /// T[A, B, S[C]], which needs T[A, B, C]; tagged T[A, B, S[C], D], which needs T[A, B, C, (Key, D)].
+  fn recursive(&self, sheet: &mut Sheet, key: u32) -> Impl {
+    let mut generics = Generics { type_params: 4, ..Generics::default() };
+    let tag = self.tagged.then(|| {
+      // What differs comes first, so that all that is behind it stands once; node 5 is D.
+      let key = generics.table.add(kind::KEY, key, &[]);
+      generics.table.add(kind::TUPLE, 0, &[key, 2 * 5])
+    });
     let inner = [0, 1, 2].map(|id| generics.table.add(kind::PARAM, id, &[]));
-    let needed = query(&mut generics.table, &inner, self.flex);
+    generics.table.add(kind::PARAM, 3, &[]);
+    let needed = self.query(&mut generics.table, inner, tag);
     generics.impl_params.push(needed);
     if self.found > 0 {
       let last = generics.table.add(kind::ENUM, 0, &[]);
-      let needed = query(&mut generics.table, &[inner[0], inner[1], last], self.flex);
+      let needed = self.query(&mut generics.table, [inner[0], inner[1], last], None);
       generics.impl_params.push(needed);
     }
     let mut impl_ =
       Impl { generics: sheet.generics.len() as u32, flags: flag::NAMED, ..Impl::default() };
     let mut outer = [0, 1, 2].map(|id| impl_.table.add(kind::PARAM, id, &[]));
     outer[2] = impl_.table.add(kind::STRUCT, self.round(), &[outer[2]]);
-    impl_.query = query(&mut impl_.table, &outer, self.flex);
+    let tag = impl_.table.add(kind::PARAM, 3, &[]);
+    impl_.query = self.query(&mut impl_.table, outer, Some(tag));
     sheet.generics.push(generics);
     impl_
   }
@@ -184,7 +213,7 @@ impl Search {
     let last = table.add(kind::PARAM, 0, &[]);
     let first = tower(table, self.struct_id(), self.dense, last);
     table.add(0, 0, &[]);
-    impl_.query = query(table, &[first, second, third], self.flex);
+    impl_.query = self.query(table, [first, second, third], None);
     impl_
   }
 
@@ -220,8 +249,12 @@ impl Search {
       | Meeting::Brothers
       | Meeting::Deep
       | Meeting::Late
+      | Meeting::Later
+      | Meeting::Defaults
+      | Meeting::Twice
+      | Meeting::Hidden
       | Meeting::Within => {
-        return self.failing_before(impl_);
+        return self.failing_before(impl_, key as usize == self.branch + self.found);
       }
       Meeting::Unknowns => {
         let dense = table.add(0, 0, &[]);
@@ -232,12 +265,12 @@ impl Search {
         (dense, links(table, self.links, |_| [dense + 1; 7]))
       }
     };
-    impl_.query = query(table, &[first, second, fails], self.flex);
+    impl_.query = self.query(table, [first, second, fails], None);
     impl_
   }
 
-  /// A candidate that fails in its first two arguments, late.
-  fn failing_before(&self, mut impl_: Impl) -> Impl {
+  /// A candidate that fails in its first two arguments, late; the first of them or another.
+  fn failing_before(&self, mut impl_: Impl, first: bool) -> Impl {
     let table = &mut impl_.table;
     let [first, second] = match self.meeting {
       Meeting::Bottom | Meeting::Errors => {
@@ -265,7 +298,25 @@ impl Search {
         let opposed = table.add(0, 0, &[]);
         [self.dense(table), table.add(kind::TUPLE, 0, &[opposed, opposed + 1])]
       }
-      Meeting::Late => {
+      Meeting::Defaults => [self.dense(table), table.add(kind::DEFAULT, 0, &[]) + 1],
+      Meeting::Twice => {
+        let own = table.add(kind::DEFAULT, 0, &[]);
+        [self.dense(table), table.add(kind::TUPLE, 0, &[own + 1, own])]
+      }
+      Meeting::Hidden => {
+        let param = table.add(kind::PARAM, 0, &[]);
+        let tower = tower(table, self.struct_id(), self.dense, param);
+        let within = table.add(0, 0, &[]);
+        let round = table.add(kind::TUPLE, 0, &[within]);
+        let cyclic = table.add(kind::TUPLE, 0, &[within, round]);
+        // All have the same nodes, so that their records are the same.
+        let ways = [
+          [param, table.add(kind::TUPLE, 0, &[tower, cyclic])],
+          [table.add(kind::TUPLE, 0, &[param]), table.add(kind::TUPLE, 0, &[tower, within])],
+        ];
+        ways[usize::from(!first)]
+      }
+      Meeting::Late | Meeting::Later => {
         let late = table.add(0, 0, &[]);
         [self.dense(table), table.add(kind::TUPLE, 0, &[late, late + 1, late])]
       }
@@ -292,13 +343,17 @@ impl Search {
       }
     };
     let third = table.add(0, 0, &[]);
-    impl_.query = query(table, &[first, second, third], self.flex);
+    impl_.query = self.query(table, [first, second, third], None);
     impl_
   }
 
   /// The arguments that are asked for.
-  fn asked(&self, table: &mut Table) -> [u32; 3] {
+  fn asked(&self, table: &mut Table) -> Vec<u32> {
     let dense = match self.meeting {
+      Meeting::Hidden => {
+        let inner = table.add(kind::NEVER, 0, &[]);
+        table.add(kind::TUPLE, 0, &[inner])
+      }
       Meeting::Nothing | Meeting::Import | Meeting::Brought => table.add(kind::TUPLE, 0, &[]),
       Meeting::Bottom | Meeting::Bound | Meeting::Errors | Meeting::Unlike => {
         let last = match self.meeting {
@@ -339,17 +394,33 @@ impl Search {
         let unknown = table.add(0, 0, &[]);
         table.add(kind::TUPLE, 0, &[unknown, unknown])
       }
-      Meeting::Late => {
+      Meeting::Late | Meeting::Later => {
         let unknown = table.add(0, 0, &[]);
-        let known = table.add(kind::NEVER, 0, &[]);
+        let late = self.meeting == Meeting::Late;
+        let known = table.add(if late { kind::NEVER } else { kind::TUPLE }, 0, &[]);
         table.add(kind::TUPLE, 0, &[unknown, unknown, known])
+      }
+      Meeting::Hidden => {
+        let tower = tower(table, self.struct_id(), self.dense, dense);
+        let unknown = table.add(0, 0, &[]);
+        let pair = table.add(kind::TUPLE, 0, &[unknown, unknown]);
+        table.add(kind::TUPLE, 0, &[tower, pair])
+      }
+      Meeting::Defaults => table.add(kind::DEFAULT, 0, &[]),
+      Meeting::Twice => {
+        let own = table.add(kind::DEFAULT, 0, &[]);
+        table.add(kind::TUPLE, 0, &[own, own])
       }
       _ => table.add(kind::TUPLE, 0, &[]),
     };
     let leaf = table.add(kind::NEVER, 0, &[]);
     let nested =
       (0..self.levels).fold(leaf, |word, _| table.add(kind::STRUCT, self.round(), &[word]));
-    [dense, met, nested]
+    let mut args = vec![dense, met, nested];
+    if self.tagged {
+      args.push(table.add(kind::NEVER, 0, &[]));
+    }
+    args
   }
 }
 
@@ -365,6 +436,7 @@ impl Default for Search {
       dense: 1,
       links: 0,
       params: false,
+      tagged: false,
       found: 0,
       unreached: 0,
       generics: 0,
@@ -411,7 +483,8 @@ pub fn random(rng: &mut Rng) -> Search {
   let (levels, branch) = rng.pick(&[(2, 44), (3, 12), (3, 13), (4, 7), (5, 5), (6, 4), (10, 2)]);
   let meeting = rng.pick(&[
     Nothing, Import, Alike, Bottom, Errors, Bound, Mirrored, Within, Turned, Brought, Unknowns,
-    Inverse, Unlike, Opposed, Chain, Over, Copies, Brothers, Deep, Late,
+    Inverse, Unlike, Opposed, Chain, Over, Copies, Brothers, Deep, Late, Later, Defaults, Twice,
+    Hidden,
   ]);
   let of_structs = rng.chance(50);
   let filler = rng.range(0, 400);
@@ -433,6 +506,7 @@ pub fn random(rng: &mut Rng) -> Search {
       _ => rng.range(1, 60),
     },
     params: rng.chance(20),
+    tagged: rng.chance(50),
     found: 0,
     unreached: if rng.chance(30) { rng.range(0, 300) } else { 0 },
     generics: if of_structs { 0 } else { filler },
