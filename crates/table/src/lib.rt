@@ -19,6 +19,7 @@ ghost use Rattle.rules.specs.Limits.{limit·nodes};
 ghost use Rattle.table.specs.Packing.{table·length, types-of, node-from, with-head, members, Packed, Put, Rewritten, Pushes, Becomes, Roots, Head, Above, TypeWords, up-at, kind-at, inverted-at, id-at};
 ghost use Rattle.table.specs.Writes.{triple, last};
 ghost use Rattle.table.specs.Joins.{moved, root-node};
+ghost use Rattle.table.specs.Alike.{Matched, Alike};
 ghost use Rattle.table.specs.ChildTypes.{type-in, types-row, types-at, row-at, OwnArity, ChildTypes};
 
 // The words of a table of the most nodes, and its most nodes.
@@ -266,6 +267,35 @@ pub fn invert_if(inverted: bool, t: u32) -> u32
     } else {
         t
     }
+}
+
+// Whether children j of nodes x and y are of one root and side, that of y inverted or not, read without tests.
+fn are_alike(ws: &[u32], x: u32, y: u32, j: usize, inverted: bool) -> bool
+    requires { ⌜ Packed (now ws) ⌝ }
+    requires { ⌜ x < 256 ⌝ }
+    requires { ⌜ y < 256 ⌝ }
+    requires { ⌜ j < 8 ⌝ }
+    ensures { λ r. ⌜ r ≡ eqb (at (types-at (now (ws .entry)) x) j) (word-of-type (invert-if inverted (type-of-word (at (types-at (now (ws .entry)) y) j)))) ⌝ }
+{
+    let a = child_type(ws, x, j);
+    let b = child_type(ws, y, j);
+    a == invert_if(inverted, b)
+}
+
+// The first child from i on, of m, at which nodes x and y have children that are not of one root and side, those of y inverted or not; m where there is none.
+pub fn next_apart(ws: &[u32], x: u32, y: u32, i: usize, m: usize, inverted: bool) -> usize
+    requires { ⌜ Packed (now ws) ⌝ }
+    requires { ⌜ Matched (types-of (now ws)) x y m ⌝ }
+    ensures { λ r. ⌜ Alike (types-of (now (ws .entry))) x y inverted i m r ⌝ }
+{
+    let mut j = i;
+    while j < m {
+        if !are_alike(ws, x, y, j, inverted) {
+            return j;
+        }
+        j += 1;
+    }
+    j
 }
 
 // `find`: the type of a root that a type is.
