@@ -89,7 +89,7 @@ digit-small zero w d e = omega arith
 digit-small (suc zero) w d e = omega arith
 digit-small (suc (suc j)) w d e = omega arith
 
-types-at-here : (ws : Words) (n j : ℕ) → j < 8 → word-in ws (digit (j % 3) (at ws (4 * n + (2 + j / 3)))) ≡ at (types-at ws n) j
+pub types-at-here : (ws : Words) (n j : ℕ) → j < 8 → word-in ws (digit (j % 3) (at ws (4 * n + (2 + j / 3)))) ≡ at (types-at ws n) j
 unfolding types-at
 types-at-here ws n zero h = refl
 types-at-here ws n (suc zero) h = refl

@@ -1,20 +1,26 @@
 -- How many nodes a class has, through pushes, stores and joins: no class is ever counted larger than it is, so that sizes stay below the limit.
-use Prim.Native.Nat.{ℕ, zero, suc, _+_, _≤_, _<_}
-use mathlib.Core.Path.{_≡_, refl, sym, _∙_, ap}
+use Prim.Native.Nat.{ℕ, zero, suc, _+_, _*_, _/_, _%_, _≤_, _<_, min}
+use mathlib.Core.Path.{_≡_, refl, sym, _∙_, ap, ap₂}
 use mathlib.Core.Bool.{Bool, true, false}
 use mathlib.Core.List.{[], _∷_, _++_, map}
 use mathlib.Core.Logic.{_≢_}
 use native.Mathlib.Nat.{le-of-suc-le-suc, not-suc-le-zero}
 use native.Mathlib.Decide.{ℕ-discrete}
+use native.Mathlib.Numerals.{add-one}
 use native.Mathlib.Omega.{arith}
 use lib.Dec.{eqb}
 use lib.ListN.{length, getD, set, length-set, length-append, List·getD-append}
 use lib.Seq.{getD-at, getD-set-same, getD-set-other}
 use borrow.Author.Tests.{eq-eqb, ne-eqb}
+use Rattle.rules.specs.Lists.{Words, bit}
+use Rattle.rules.specs.Limits.{limit·nodes}
+use Rattle.rules.specs.Sheet.{at}
+use Rattle.rules.specs.Transfer.{type-of-word}
 use Rattle.rules.specs.Types.{Ty, TypeState, unknown, TypeNode, Types, new-node, node-at, xor, invert-if, state-at, size-at, relabel, or-else, invert-state, hang}
 use Rattle.rules.specs.Solutions.{rep}
 use Rattle.rules.specs.Joining.{map-at, map-length}
-use Rattle.table.specs.Packing.{members, Counted}
+use Rattle.table.specs.Packing.{up-to, node-from, node-of, types-of, members, Counted}
+use Rattle.table.specs.Nodes.{up-to-length, types-length}
 
 -- One node, of root r or not.
 abbrev mark : TypeNode → ℕ → ℕ
@@ -61,6 +67,48 @@ members-own : (ts : Types) (n : ℕ) (d : TypeNode) (r : ℕ) → n < length ts 
 members-own [] n d r h e = absurd (not-suc-le-zero h)
 members-own (nd ∷ ts) zero d r h e = omega (arith, marks nd ts r, mark-yes nd r e)
 members-own (nd ∷ ts) (suc n) d r h e = omega (arith, marks nd ts r, members-own ts n d r (le-of-suc-le-suc h) e)
+
+members-two : (ts : Types) (n m : ℕ) (d : TypeNode) (r : ℕ) → n < length ts → m < length ts → n ≢ m → (getD ts n d) .up .1 ≡ r → (getD ts m d) .up .1 ≡ r → 2 ≤ members ts r
+members-two [] n m d r h l ne e f = absurd (not-suc-le-zero h)
+members-two (nd ∷ ts) zero zero d r h l ne e f = absurd (ne refl)
+members-two (nd ∷ ts) zero (suc m) d r h l ne e f = omega (arith, marks nd ts r, mark-yes nd r e, members-own ts m d r (le-of-suc-le-suc l) f)
+members-two (nd ∷ ts) (suc n) zero d r h l ne e f = omega (arith, marks nd ts r, mark-yes nd r f, members-own ts n d r (le-of-suc-le-suc h) e)
+members-two (nd ∷ ts) (suc n) (suc m) d r h l ne e f = omega (arith, marks nd ts r, members-two ts n m d r (le-of-suc-le-suc h) (le-of-suc-le-suc l) (λ z. ne (ap suc z)) e f)
+
+-- A class of one has no node but its root.
+pub alone : (ts : Types) (r n : ℕ) → members ts r ≡ 1 → r < length ts → rep ts r ≡ r → n < length ts → n ≢ r → (node-at ts n) .up .1 ≢ r
+unfolding rep node-at
+alone ts r n one h e l ne z = omega (arith, members-two ts r n (new-node 0 unknown) r h l (λ q. ne (sym q)) e z)
+
+-- The nodes counted up: d tells whether node i is of root r.
+mark-bit : (nd : TypeNode) (r : ℕ) → mark nd r ≡ bit (eqb (nd .up .1) r)
+unfolding members
+mark-bit nd r = go (eqb (nd .up .1) r) refl
+  where
+    go : (b : Bool) → eqb (nd .up .1) r ≡ b → mark nd r ≡ bit (eqb (nd .up .1) r)
+    go true e = rw (e, members)
+    go false e = rw (e, members)
+
+head-root : (ws : Words) (i : ℕ) → (node-of ws i) .up .1 ≡ at ws (4 * i + 1) / 1024 % 256
+unfolding node-of node-from type-of-word
+head-root ws i = let z : at ws (4 * i + 1) / 512 % 512 / 2 ≡ at ws (4 * i + 1) / 1024 % 256 = omega arith in z
+
+pub members-none : (ws : Words) (r : ℕ) → 0 ≡ members (up-to (node-of ws) 0) r
+unfolding up-to members
+members-none ws r = refl
+
+pub members-more : (ws : Words) (r i c d : ℕ) → c ≡ members (up-to (node-of ws) i) r → d ≡ bit (eqb (at ws (4 * i + 1) / 1024 % 256) r) → c + d ≡ members (up-to (node-of ws) (i + 1)) r
+unfolding up-to
+members-more ws r i c d ec ed =
+    ap₂ (λ (x y : ℕ). x + y) ec (ed ∙ ap (λ k. bit (eqb k r)) (sym (head-root ws i)) ∙ sym (mark-bit (node-of ws i) r))
+    ∙ sym (ap (λ k. members (up-to (node-of ws) k) r) (add-one i) ∙ members-append (up-to (node-of ws) i) (node-of ws i ∷ []) r)
+
+pub count-most : (ws : Words) (m n : ℕ) → m ≡ length (types-of ws) → n ≡ m → n ≤ 256
+count-most ws m n em en = omega (arith, types-length ws)
+
+pub members-all : (ws : Words) (r i n m c : ℕ) → c ≡ members (up-to (node-of ws) i) r → i ≤ n → n ≤ i → n ≡ m → m ≡ length (types-of ws) → c ≡ members (types-of ws) r
+unfolding types-of
+members-all ws r i n m c ec a b en em = ec ∙ ap (λ k. members (up-to (node-of ws) k) r) (let z : i ≡ min (at ws 0) limit·nodes = omega (arith, types-length ws) in z)
 
 -- A node that keeps its root changes no class.
 members-set : (ts : Types) (n : ℕ) (nd d : TypeNode) (r : ℕ) → n < length ts → nd .up .1 ≡ (getD ts n d) .up .1 → members (set ts n nd) r ≡ members ts r

@@ -8,20 +8,22 @@ use native.Mathlib.Nat.{le-of-suc-le-suc, not-suc-le-zero}
 use native.Mathlib.Numerals.{add-one}
 use native.Mathlib.Omega.{arith}
 use lib.Dec.{eqb}
-use lib.ListN.{length, getD, set, take}
-use lib.Seq.{set-getD}
+use native.Mathlib.Decide.{ℕ-discrete}
+use lib.ListN.{length, getD, set, take, length-set}
+use lib.Seq.{set-getD, ext-getD}
 use borrow.Author.Tests.{eq-eqb, ne-eqb, lt-ltb, le-ltb}
 use Rattle.rules.specs.Lists.{Words, bit}
 use Rattle.rules.specs.Sheet.{at}
 use Rattle.rules.specs.Types.{Ty, TypeState, unknown, known, TypeNode, Types, new-node, node-at, xor, invert-if, invert-state, state-at, size-at, relabel, or-else, hang, larger, join}
 use Rattle.rules.specs.Transfer.{type-of-word}
 use Rattle.rules.specs.Answer.{word-of-type}
+use Rattle.rules.specs.Solutions.{rep}
 use Rattle.rules.specs.Joining.{map-length}
 use Rattle.rules.specs.Pigeonholes.{lt-or}
 use Rattle.table.specs.Reads.{unknown-here}
-use Rattle.table.specs.Packing.{head·kind, head·size, head·arity, head·inverted, eight, state-of, id-from, node-from, node-of, with-head, types-of, up-at, kind-at, kind-in, Counted, Packed, Put, Rewritten, Becomes, Roots, Head}
+use Rattle.table.specs.Packing.{head·kind, head·size, head·arity, head·inverted, eight, state-of, id-from, node-from, node-of, with-head, types-of, up-at, kind-at, kind-in, members, Counted, Packed, Put, Rewritten, Becomes, Roots, Head}
 use Rattle.table.specs.Nodes.{type-word, types-few, node-in, node-past}
-use Rattle.table.specs.Classes.{relabel-state, map-node, sizes-most, counted-hang}
+use Rattle.table.specs.Classes.{alone, relabel-state, map-node, set-there, set-beside, sizes-most, counted-hang}
 use Rattle.table.specs.Writes.{put-is, put-node, head-node, even-type, bit-back}
 
 -- A node as type t of its root.
@@ -158,6 +160,20 @@ module _ (ws vs : Words) (n i : ℕ) (f : TypeNode → TypeNode) (en : n ≡ len
   pub firsts-done : n ≤ i → Rewritten ws vs (map f (types-of ws))
   firsts-done h = record { len = w .len; count = w .count; is = w .is ∙ firsts-all f i (types-of ws) (omega arith) }
 
+-- The root alone of a class of one: c counts the class.
+relabel-root : (ts : Types) (lo : ℕ) (t : Ty) → members ts lo ≡ 1 → lo < length ts → rep ts lo ≡ lo → set ts lo (relabel lo t (node-at ts lo)) ≡ map (relabel lo t) ts
+unfolding node-at
+relabel-root ts lo t one h e = ext-getD (new-node 0 unknown) (set ts lo (relabel lo t (node-at ts lo))) (map (relabel lo t) ts) (length-set ts lo (relabel lo t (node-at ts lo)) ∙ sym (map-length (relabel lo t) ts)) (λ i l. each i (omega (arith, length-set ts lo (relabel lo t (node-at ts lo)))))
+  where
+    each : (i : ℕ) → i < length ts → node-at (set ts lo (relabel lo t (node-at ts lo))) i ≡ node-at (map (relabel lo t) ts) i
+    each i l = elim (ℕ-discrete i lo) [
+      | yes q ↦ set-there ts (relabel lo t (node-at ts lo)) lo i h q ∙ sym (map-node (relabel lo t) ts i l ∙ ap (λ k. relabel lo t (node-at ts k)) q)
+      | no q ↦ set-beside ts (relabel lo t (node-at ts lo)) lo i q ∙ sym (map-node (relabel lo t) ts i l ∙ relabel-other lo t (node-at ts i) (alone ts lo i one h e l q))
+    ]
+
+pub relabel-alone : (ws us : Words) (lo c : ℕ) (t : Ty) → lo < length (types-of ws) → rep (types-of ws) lo ≡ lo → c ≡ members (types-of ws) lo → c ≡ 1 → Rewritten ws us (set (types-of ws) lo (relabel lo t (node-at (types-of ws) lo))) → Rewritten ws us (map (relabel lo t) (types-of ws))
+relabel-alone ws us lo c t h e ec one w = record { len = w .len; count = w .count; is = w .is ∙ relabel-root (types-of ws) lo t (sym ec ∙ one) h e }
+
 -- Node n as the root of a class: what it is, and how large.
 unfoldable pub root-node : ℕ → TypeState → ℕ → TypeNode
 root-node n st size = record { up = (false, n); state = st; size = size }
@@ -240,6 +256,15 @@ module _ (ws : Words) (lo hi : ℕ) (g : Packed ws) (r : Roots (types-of ws) (ty
   pub sizes-fit : (a b : ℕ) → a ≡ size-at (types-of ws) (hi / 2) → b ≡ size-at (types-of ws) (lo / 2) → a + b < 512
   unfolding type-of-word
   sizes-fit a b ea eb = omega (arith, types-few ws, sizes-most (types-of ws) (type-of-word lo) (type-of-word hi) (r .left-in) (r .right-in) (r .left-root) (r .right-root) (r .apart) (g .counted))
+
+  -- The class that moves has its root.
+  pub low-in : lo / 2 < length (types-of ws)
+  unfolding type-of-word
+  low-in = r .left-in
+
+  pub low-root : rep (types-of ws) (lo / 2) ≡ lo / 2
+  unfolding type-of-word
+  low-root = r .left-root
 
   pub high-low : hi / 2 < 256
   unfolding type-of-word

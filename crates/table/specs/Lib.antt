@@ -6,3 +6,4 @@ pub mod Writes
 pub mod Copies
 pub mod Joins
 pub mod ChildTypes
+pub mod Alike

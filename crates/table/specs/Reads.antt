@@ -4,6 +4,7 @@ use mathlib.Core.Path.{_≡_, refl, sym, _∙_, ap, ap₂}
 use mathlib.Core.Bool.{Bool, true, false, not}
 use mathlib.Core.List.{List}
 use mathlib.Core.Logic.{_≢_, ⊎-elim}
+use native.Mathlib.Decide.{ℕ-discrete}
 use native.Mathlib.Omega.{arith}
 use lib.Dec.{eqb}
 use lib.ListN.{length, getD, take, length-take, List·getD-eq-default}
@@ -151,6 +152,13 @@ module _ (ws : Words) (n k : ℕ) (ek : k ≡ kind-at (types-of ws) n) where
 
     pub arity-most : (m : ℕ) → w ≡ at ws (4 * n + 1) → m ≡ w / 32 % 16 → 8 ≤ m → 8 ≡ length (children-at (types-of ws) n)
     arity-most m e q l = omega (arith, arity-is e)
+
+-- No node has more children than eight.
+pub children-most : (ws : Words) (n : ℕ) → length (children-at (types-of ws) n) ≤ 8
+children-most ws n = elim (ℕ-discrete (kind-at (types-of ws) n) 0) [
+  | yes z ↦ omega (arith, children-none ws n (kind-at (types-of ws) n) refl z)
+  | no z ↦ omega (arith, arity-is ws n (kind-at (types-of ws) n) refl z (at ws (4 * n + 1)) refl)
+]
 
 -- The j-th of three type words in a word.
 abbrev pub digit : ℕ → ℕ → ℕ

@@ -16,9 +16,10 @@ ghost use Rattle.rules.specs.Transfer.{type-of-word};
 ghost use Rattle.rules.specs.Answer.{word-of-type};
 ghost use Rattle.table.specs.Reads.{digit};
 ghost use Rattle.rules.specs.Limits.{limit·nodes};
-ghost use Rattle.table.specs.Packing.{table·length, types-of, node-from, with-head, Packed, Put, Rewritten, Pushes, Becomes, Roots, Head, Above, TypeWords, up-at, kind-at, inverted-at, id-at};
+ghost use Rattle.table.specs.Packing.{table·length, types-of, node-from, with-head, members, Packed, Put, Rewritten, Pushes, Becomes, Roots, Head, Above, TypeWords, up-at, kind-at, inverted-at, id-at};
 ghost use Rattle.table.specs.Writes.{triple, last};
 ghost use Rattle.table.specs.Joins.{moved, root-node};
+ghost use Rattle.table.specs.Alike.{Matched, Alike};
 ghost use Rattle.table.specs.ChildTypes.{type-in, types-row, types-at, row-at, OwnArity, ChildTypes};
 
 // The words of a table of the most nodes, and its most nodes.
@@ -266,6 +267,35 @@ pub fn invert_if(inverted: bool, t: u32) -> u32
     } else {
         t
     }
+}
+
+// Whether children j of nodes x and y are of one root and side, that of y inverted or not, read without tests.
+fn are_alike(ws: &[u32], x: u32, y: u32, j: usize, inverted: bool) -> bool
+    requires { ⌜ Packed (now ws) ⌝ }
+    requires { ⌜ x < 256 ⌝ }
+    requires { ⌜ y < 256 ⌝ }
+    requires { ⌜ j < 8 ⌝ }
+    ensures { λ r. ⌜ r ≡ eqb (at (types-at (now (ws .entry)) x) j) (word-of-type (invert-if inverted (type-of-word (at (types-at (now (ws .entry)) y) j)))) ⌝ }
+{
+    let a = child_type(ws, x, j);
+    let b = child_type(ws, y, j);
+    a == invert_if(inverted, b)
+}
+
+// The first child from i on, of m, at which nodes x and y have children that are not of one root and side, those of y inverted or not; m where there is none.
+pub fn next_apart(ws: &[u32], x: u32, y: u32, i: usize, m: usize, inverted: bool) -> usize
+    requires { ⌜ Packed (now ws) ⌝ }
+    requires { ⌜ Matched (types-of (now ws)) x y m ⌝ }
+    ensures { λ r. ⌜ Alike (types-of (now (ws .entry))) x y inverted i m r ⌝ }
+{
+    let mut j = i;
+    while j < m {
+        if !are_alike(ws, x, y, j, inverted) {
+            return j;
+        }
+        j += 1;
+    }
+    j
 }
 
 // `find`: the type of a root that a type is.
@@ -520,6 +550,40 @@ fn relabel_class(ws: &mut [u32], lo: u32, t: u32)
     }
 }
 
+// How many nodes have root r.
+fn members_of(ws: &[u32], r: u32) -> u32
+    requires { ⌜ table·length ≤ length (now ws) ⌝ }
+    ensures { λ c. ⌜ c ≡ members (types-of (now (ws .entry))) r ⌝ }
+{
+    let n = wide(count(ws));
+    let mut c = 0;
+    let mut i = 0;
+    while i < n {
+        c += bit_of(ws[NODE * i + HEAD] / 1024 % 256 == r);
+        i += 1;
+    }
+    c
+}
+
+// `relabel_class`, where the root may be the only node of its class: it alone changes then. Counting passes over the nodes faster than relabelling.
+fn relabel_members(ws: &mut [u32], lo: u32, t: u32)
+    requires { ⌜ table·length ≤ length (now ws) ⌝ }
+    requires { ⌜ lo < length (types-of (now ws)) ⌝ }
+    requires { ⌜ rep (types-of (now ws)) lo ≡ lo ⌝ }
+    requires { ⌜ t < 512 ⌝ }
+    ensures { λ _. ⌜ Rewritten (now (ws .entry)) (now (ws .exit)) (map (relabel lo (type-of-word t)) (types-of (now (ws .entry)))) ⌝ }
+{
+    if size_of(ws, lo) != 1 {
+        relabel_class(ws, lo, t);
+        return;
+    }
+    if members_of(ws, lo) != 1 {
+        relabel_class(ws, lo, t);
+        return;
+    }
+    relabel_node(ws, lo, lo, t)
+}
+
 // The head of a root of a size, for the state that another head has, inverted or not.
 fn root_head(h: u32, n: u32, size: u32, inverted: bool) -> u32
     requires { ⌜ n < limit·nodes ⌝ }
@@ -595,7 +659,7 @@ fn hang(ws: &mut [u32], lo: u32, hi: u32)
     let size = sizes(ws, lo, hi);
     let b = opposed(hi, lo);
     let t = type_of(b, hi / 2);
-    relabel_class(ws, lo / 2, t);
+    relabel_members(ws, lo / 2, t);
     set_root(ws, hi / 2, lo / 2, b, size)
 }
 

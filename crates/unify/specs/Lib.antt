@@ -7,5 +7,6 @@ pub mod Noting
 pub mod Known
 pub mod Children
 pub mod Pairs
+pub mod Passing
 pub mod Lists
 pub mod Robinson

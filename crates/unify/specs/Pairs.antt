@@ -103,7 +103,7 @@ unfolding kind-in
 known-state unknown n e = n refl
 known-state (known i k d cs) n e = n (ap kind-in e)
 
-same-children : (ts us : Types) (n : ℕ) → Kept ts us → kind-at ts n ≢ 0 → children-at us n ≡ children-at ts n
+pub same-children : (ts us : Types) (n : ℕ) → Kept ts us → kind-at ts n ≢ 0 → children-at us n ≡ children-at ts n
 unfolding children-at kind-at
 same-children ts us n k z = ap children (k .stays n (known-state (state-at ts n) z))
 

@@ -15,6 +15,8 @@ ghost use Rattle.table.specs.Packing.{types-of, kind-at, id-at, Packed, Good, R
 ghost use Rattle.unify.specs.Lists.{Nodes};
 ghost use Rattle.memo.specs.Memo.{Aside};
 ghost use Rattle.unify.specs.Results.{result-of, code-of, Stops, Unifies, Joined, Joins, TwoRoots, KnownRoots, met-inverted, unify-fields};
+ghost use Rattle.table.specs.Alike.{Matched};
+ghost use Rattle.unify.specs.Passing.{Passes};
 ghost use Rattle.unify.specs.Trying.{Ready, Fuelled, Noted, Binds, Met, Went, Left};
 use chart::kinds;
 use chart::layout;
@@ -408,6 +410,18 @@ fn unify_last(
     unify_in(s, ws, marks, whole, a, b, left);
 }
 
+// The first pair of children from i on, of m, that is to be met: those of one root and side are passed over while fuel is left.
+fn next_pair(ws: &[u32], x: u32, y: u32, inverted: bool, left: u32, i: usize, m: usize) -> usize
+    requires { ⌜ Packed (now ws) ⌝ }
+    requires { ⌜ Matched (types-of (now ws)) x y m ⌝ }
+    ensures { λ r. ⌜ Passes (types-of (now (ws .entry))) x y inverted left i m r ⌝ }
+{
+    if left == 0 {
+        return i;
+    }
+    table::next_apart(ws, x, y, i, m, inverted)
+}
+
 // The children of two types in turn.
 fn unify_each(
     s: &[u32],
@@ -429,17 +443,20 @@ fn unify_each(
     let m = table::child_count(ws, x);
     let mut v = UnifyResult::Success;
     let mut i: usize = 0;
-    while i < m {
-        let a = table::child(ws, x, i);
-        let b = met_child(ws, y, i, inverted);
+    loop {
+        let j = next_pair(ws, x, y, inverted, left, i, m);
+        if j >= m {
+            return v;
+        }
+        let a = table::child(ws, x, j);
+        let b = met_child(ws, y, j, inverted);
         let r = unify_in(s, ws, marks, whole, a, b, left);
         v = and(v, r);
         if stops(whole, v) {
             return v;
         }
-        i += 1;
+        i = j + 1;
     }
-    v
 }
 
 // `unify`, or up to the first pair that does not succeed.

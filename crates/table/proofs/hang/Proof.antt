@@ -1,5 +1,5 @@
 -- `hang`: relabelled, and then the root's node.
-use Rattle.table.specs.Joins.{high-low, moved-long, moved-high, moved-low, hang-done}
+use Rattle.table.specs.Joins.{low-in, low-root, high-low, moved-long, moved-high, moved-low, hang-done}
 use borrow.Author.Needs.{needs}
 use Rattle.table.proofs.hang.Statement.{statement}
 use Rattle.table.proofs.hang.Tie as tie
@@ -13,13 +13,13 @@ opposed-requires c κs = search needs
 type-of-requires : tie.Need-type-of-requires
 type-of-requires c κs = search (needs, high-low)
 
-relabel-class-requires : tie.Need-relabel-class-requires
-relabel-class-requires c κs = search needs
+relabel-members-requires : tie.Need-relabel-members-requires
+relabel-members-requires c κs = search (needs, low-in, low-root)
 
 set-root-requires : tie.Need-set-root-requires
 set-root-requires c κs =
     let start = c .before .before .before .before .before .before .before .before .before .before in
-    let w = c .before .before .before .relabel-class .ensures in
+    let w = c .before .before .before .relabel-members .ensures in
     (moved-long _ _ _ (start .pre .0) (start .pre .1) _ _ w, (moved-high _ _ _ (start .pre .0) (start .pre .1) _ _ w, (moved-low _ _ _ (start .pre .0) (start .pre .1) _ _ w, search needs)))
 
 same-length : tie.Need-same-length
@@ -35,7 +35,7 @@ hang-spec =
     sizes-requires
     opposed-requires
     type-of-requires
-    relabel-class-requires
+    relabel-members-requires
     set-root-requires
     same-length
     returns)

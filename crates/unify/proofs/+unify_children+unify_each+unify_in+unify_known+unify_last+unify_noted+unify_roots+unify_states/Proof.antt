@@ -8,7 +8,8 @@ use Rattle.unify.specs.Noting.{root-small, root-small-2, code-small, beg
 use Rattle.unify.specs.Known.{below-fuelled, still-roots, joined-later, error-left, error-right, known-differ, known-meet}
 use Rattle.unify.specs.Children.{children-each, children-last, children-fail, counts-same, last-none-left, last-none-right, last-left, last-right, last-fuelled, last-met}
 use Rattle.unify.specs.Pairs.{Pairs, pairs-none, pair-left, pair-right, pair-fuelled, pairs-stop, pairs-more, pairs-end}
-use Prim.Native.Nat.{ℕ, _+_, _-_, _*_, _<_}
+use Rattle.unify.specs.Passing.{pairs-matched, pairs-on}
+use Prim.Native.Nat.{ℕ, _+_, _-_, _*_, _≤_, _<_}
 use borrow.Fn.Kinds.{In}
 use borrow.Fn.PlainCycle.{Measures, is, falls, and}
 use Rattle.unify.proofs.unify_children.Reads as unify-children
@@ -50,6 +51,7 @@ use Rattle.unify.proofs.join_on_success.Reads as join-on-success-reads
 use Rattle.unify.proofs.kind.Reads as kind-reads
 use Rattle.unify.proofs.may_meet.Reads as may-meet-reads
 use Rattle.unify.proofs.met_child.Reads as met-child-reads
+use Rattle.unify.proofs.next_pair.Reads as next-pair-reads
 use Rattle.unify.proofs.own_inverse.Reads as own-inverse-reads
 use Rattle.unify.proofs.stops.Reads as stops-reads
 use Rattle.unify.proofs.+unify_children+unify_each+unify_in+unify_known+unify_last+unify_noted+unify_roots+unify_states.{
@@ -162,7 +164,7 @@ abbrev unify-children-calls : ℕ → unify-children-lts.Claims
 unify-children-calls t = (child-count-reads.Asked, child-count-reads.Learnt, unify-each-below t, unify-each.Post, kind-reads.Asked, kind-reads.Learnt, unify-last-below t, unify-last.Post)
 
 abbrev unify-each-calls : ℕ → unify-each-lts.Claims
-unify-each-calls t = (child-count-reads.Asked, child-count-reads.Learnt, child-reads.Asked, child-reads.Learnt, met-child-reads.Asked, met-child-reads.Learnt, unify-in-below t, unify-in.Post, and-reads.Asked, and-reads.Learnt, stops-reads.Asked, stops-reads.Learnt)
+unify-each-calls t = (child-count-reads.Asked, child-count-reads.Learnt, next-pair-reads.Asked, next-pair-reads.Learnt, child-reads.Asked, child-reads.Learnt, met-child-reads.Asked, met-child-reads.Learnt, unify-in-below t, unify-in.Post, and-reads.Asked, and-reads.Learnt, stops-reads.Asked, stops-reads.Learnt)
 
 abbrev unify-in-calls : ℕ → unify-in-lts.Claims
 unify-in-calls t = (find-reads.Asked, find-reads.Learnt, unify-noted-below t, unify-noted.Post, unify-roots-below t, unify-roots.Post)
@@ -222,33 +224,23 @@ unify-children-returns-3 : (t : ℕ) → unify-children-lts.Need-returns-3 (unif
 unify-children-returns-3 t c = search (needs, children-fail)
 
 abbrev unify-each-Inv-loop : unify-each-lts.InvT-loop
-unify-each-Inv-loop s ws₀ marks₀ whole x y inverted left m v₀ i₀ ws marks v i = (length ws ≡ length ws₀) × ((length marks ≡ length marks₀) × Pairs s ws₀ marks₀ ws marks left x y inverted v i)
+unify-each-Inv-loop s ws₀ marks₀ whole x y inverted left m v₀ i₀ ws marks v i = (length ws ≡ length ws₀) × ((length marks ≡ length marks₀) × ((i ≤ m) × Pairs s ws₀ marks₀ ws marks left x y inverted v i))
 
 abbrev unify-each-μ-loop : unify-each-lts.MeasureT-loop
-unify-each-μ-loop s ws₀ marks₀ whole x y inverted left m v₀ i₀ ws marks v i = m - i
+unify-each-μ-loop s ws₀ marks₀ whole x y inverted left m v₀ i₀ ws marks v i = (m + 1) - i
 
 unify-each-child-count-requires : (t : ℕ) → unify-each-lts.Need-child-count-requires (unify-each-calls t) (unify-each-at t) unify-each.Post unify-each-Inv-loop unify-each-μ-loop
 unify-each-child-count-requires t c κs = search needs
 
 unify-each-loop-holds : (t : ℕ) → unify-each-lts.Need-loop-holds (unify-each-calls t) (unify-each-at t) unify-each.Post unify-each-Inv-loop unify-each-μ-loop
-unify-each-loop-holds t c = (search needs, (search needs, search (needs, pairs-none)))
+unify-each-loop-holds t c = (search needs, (search needs, (omega arith, search (needs, pairs-none))))
 
-unify-each-child-requires : (t : ℕ) → unify-each-lts.Need-child-requires (unify-each-calls t) (unify-each-at t) unify-each.Post unify-each-Inv-loop unify-each-μ-loop
-unify-each-child-requires t c κs = search needs
-
-unify-each-met-child-requires : (t : ℕ) → unify-each-lts.Need-met-child-requires (unify-each-calls t) (unify-each-at t) unify-each.Post unify-each-Inv-loop unify-each-μ-loop
-unify-each-met-child-requires t c κs = search needs
-
-unify-each-unify-in-requires : (t : ℕ) → unify-each-lts.Need-unify-in-requires (unify-each-calls t) (unify-each-at t) unify-each.Post unify-each-Inv-loop unify-each-μ-loop
-unify-each-unify-in-requires t c κs =
-    let start = c .before .before .before .before .before .before .before .before .before .before .before .before .before in
-    (omega arith, (search needs, (pair-left _ _ _ _ _ _ _ _ _ _ _ _ _ _ (start .pre .1 .0) (start .pre .1 .1 .0) (c .before .before .before .before .before .before .before .loop .inv .1 .1) (c .before .before .before .before .before .before .before .before .child-count .ensures) (start .pre .1 .1 .1 .0) (c .before .before .before .before .before .before .loop-test .taken) (c .before .before .before .before .child .ensures) (c .before .before .met-child .ensures), (pair-right _ _ _ _ _ _ _ _ _ _ _ _ _ _ (start .pre .1 .0) (start .pre .1 .1 .0) (c .before .before .before .before .before .before .before .loop .inv .1 .1) (c .before .before .before .before .before .before .before .before .child-count .ensures) (start .pre .1 .1 .1 .0) (c .before .before .before .before .before .before .loop-test .taken) (c .before .before .before .before .child .ensures) (c .before .before .met-child .ensures), (search needs, pair-fuelled _ _ _ _ _ _ _ _ _ _ _ _ _ _ (start .pre .1 .0) (start .pre .1 .1 .0) (c .before .before .before .before .before .before .before .loop .inv .1 .1) (c .before .before .before .before .before .before .before .before .child-count .ensures) (start .pre .1 .1 .1 .0) (c .before .before .before .before .before .before .loop-test .taken) (c .before .before .before .before .child .ensures) (c .before .before .met-child .ensures))))))
-
-unify-each-and-requires : (t : ℕ) → unify-each-lts.Need-and-requires (unify-each-calls t) (unify-each-at t) unify-each.Post unify-each-Inv-loop unify-each-μ-loop
-unify-each-and-requires t c κs = search needs
-
-unify-each-stops-requires : (t : ℕ) → unify-each-lts.Need-stops-requires (unify-each-calls t) (unify-each-at t) unify-each.Post unify-each-Inv-loop unify-each-μ-loop
-unify-each-stops-requires t c κs = search needs
+unify-each-next-pair-requires : (t : ℕ) → unify-each-lts.Need-next-pair-requires (unify-each-calls t) (unify-each-at t) unify-each.Post unify-each-Inv-loop unify-each-μ-loop
+unify-each-next-pair-requires t c κs =
+    let start = c .before .before .before .before .before .before .before in
+    let here = c .before .loop .inv in
+    let count = c .before .before .child-count .ensures in
+    (here .1 .1 .1 .good .packed, pairs-matched _ _ _ _ _ _ _ _ _ _ _ _ (start .pre .1 .0) (start .pre .1 .1 .0) (here .1 .1 .1) count (start .pre .1 .1 .1 .0))
 
 unify-each-same-length : (t : ℕ) → unify-each-lts.Need-same-length (unify-each-calls t) (unify-each-at t) unify-each.Post unify-each-Inv-loop unify-each-μ-loop
 unify-each-same-length t c = search needs
@@ -258,19 +250,31 @@ unify-each-same-length-2 t c = search needs
 
 unify-each-returns : (t : ℕ) → unify-each-lts.Need-returns (unify-each-calls t) (unify-each-at t) unify-each.Post unify-each-Inv-loop unify-each-μ-loop
 unify-each-returns t c =
-    let start = c .before .before .before .before .before .before .before .before .before .before .before .before .before .before .before .before .before .before .before .before .before in
-    pairs-stop _ _ _ _ _ _ _ _ _ _ _ _ _ _ (start .pre .1 .0) (start .pre .1 .1 .0) (c .before .before .before .before .before .before .before .before .before .before .before .before .before .before .before .loop .inv .1 .1) (c .before .before .before .before .before .before .before .before .before .before .before .before .before .before .before .before .child-count .ensures) (start .pre .1 .1 .1 .0) (c .before .before .before .before .before .before .before .before .before .before .before .before .before .before .loop-test .taken) (c .before .before .before .before .before .before .before .before .before .before .before .before .child .ensures) (c .before .before .before .before .before .before .before .before .before .before .met-child .ensures) _ _ _ _ _ _ (c .before .before .before .before .before .before .before .unify-in .ensures) (c .before .before .and .ensures) (c .before .stops .ensures) (c .if1 .taken)
+    let start = c .before .before .before .before .before .before .before .before .before in
+    let here = c .before .before .before .loop .inv in
+    let count = c .before .before .before .before .child-count .ensures in
+    let on = pairs-on _ _ _ _ _ _ _ _ _ _ _ _ (start .pre .1 .0) (start .pre .1 .1 .0) (here .1 .1 .1) count (start .pre .1 .1 .1 .0) _ (here .1 .1 .0) (c .before .next-pair .ensures) in
+    pairs-end _ _ _ _ _ _ _ _ _ _ _ _ _ on count (c .if1 .taken)
 
-unify-each-add-i : (t : ℕ) → unify-each-lts.Need-add-i (unify-each-calls t) (unify-each-at t) unify-each.Post unify-each-Inv-loop unify-each-μ-loop
-unify-each-add-i t c = omega arith
+unify-each-child-requires : (t : ℕ) → unify-each-lts.Need-child-requires (unify-each-calls t) (unify-each-at t) unify-each.Post unify-each-Inv-loop unify-each-μ-loop
+unify-each-child-requires t c κs = search needs
 
-unify-each-loop-less : (t : ℕ) → unify-each-lts.Need-loop-less (unify-each-calls t) (unify-each-at t) unify-each.Post unify-each-Inv-loop unify-each-μ-loop
-unify-each-loop-less t c = omega arith
+unify-each-met-child-requires : (t : ℕ) → unify-each-lts.Need-met-child-requires (unify-each-calls t) (unify-each-at t) unify-each.Post unify-each-Inv-loop unify-each-μ-loop
+unify-each-met-child-requires t c κs = search needs
 
-unify-each-loop-again : (t : ℕ) → unify-each-lts.Need-loop-again (unify-each-calls t) (unify-each-at t) unify-each.Post unify-each-Inv-loop unify-each-μ-loop
-unify-each-loop-again t c =
-    let start = c .before .before .before .before .before .before .before .before .before .before .before .before .before .before .before .before .before .before .before .before .before in
-    (c .before .before .before .before .before .before .before .unify-in .kept .1 .0 ∙ c .before .before .before .before .before .before .before .before .before .before .before .before .before .before .before .loop .inv .0, (c .before .before .before .before .before .before .before .unify-in .kept .1 .1 .0 ∙ c .before .before .before .before .before .before .before .before .before .before .before .before .before .before .before .loop .inv .1 .0, pairs-more _ _ _ _ _ _ _ _ _ _ _ _ _ _ (start .pre .1 .0) (start .pre .1 .1 .0) (c .before .before .before .before .before .before .before .before .before .before .before .before .before .before .before .loop .inv .1 .1) (c .before .before .before .before .before .before .before .before .before .before .before .before .before .before .before .before .child-count .ensures) (start .pre .1 .1 .1 .0) (c .before .before .before .before .before .before .before .before .before .before .before .before .before .before .loop-test .taken) (c .before .before .before .before .before .before .before .before .before .before .before .before .child .ensures) (c .before .before .before .before .before .before .before .before .before .before .met-child .ensures) _ _ _ _ _ _ (c .before .before .before .before .before .before .before .unify-in .ensures) (c .before .before .and .ensures) (c .before .stops .ensures) (c .if1 .left) (c .before .before .before .before .before .before .before .unify-in .kept .1 .1 .0)))
+unify-each-unify-in-requires : (t : ℕ) → unify-each-lts.Need-unify-in-requires (unify-each-calls t) (unify-each-at t) unify-each.Post unify-each-Inv-loop unify-each-μ-loop
+unify-each-unify-in-requires t c κs =
+    let start = c .before .before .before .before .before .before .before .before .before .before .before .before .before .before .before in
+    let here = c .before .before .before .before .before .before .before .before .before .loop .inv in
+    let count = c .before .before .before .before .before .before .before .before .before .before .child-count .ensures in
+    let on = pairs-on _ _ _ _ _ _ _ _ _ _ _ _ (start .pre .1 .0) (start .pre .1 .1 .0) (here .1 .1 .1) count (start .pre .1 .1 .1 .0) _ (here .1 .1 .0) (c .before .before .before .before .before .before .before .next-pair .ensures) in
+    (omega arith, (here .1 .1 .1 .good, (pair-left _ _ _ _ _ _ _ _ _ _ _ _ _ _ (start .pre .1 .0) (start .pre .1 .1 .0) on count (start .pre .1 .1 .1 .0) (c .before .before .before .before .before .before .if1 .left) (c .before .before .before .before .child .ensures) (c .before .before .met-child .ensures), (pair-right _ _ _ _ _ _ _ _ _ _ _ _ _ _ (start .pre .1 .0) (start .pre .1 .1 .0) on count (start .pre .1 .1 .1 .0) (c .before .before .before .before .before .before .if1 .left) (c .before .before .before .before .child .ensures) (c .before .before .met-child .ensures), (search needs, pair-fuelled _ _ _ _ _ _ _ _ _ _ _ _ _ _ (start .pre .1 .0) (start .pre .1 .1 .0) on count (start .pre .1 .1 .1 .0) (c .before .before .before .before .before .before .if1 .left) (c .before .before .before .before .child .ensures) (c .before .before .met-child .ensures))))))
+
+unify-each-and-requires : (t : ℕ) → unify-each-lts.Need-and-requires (unify-each-calls t) (unify-each-at t) unify-each.Post unify-each-Inv-loop unify-each-μ-loop
+unify-each-and-requires t c κs = search needs
+
+unify-each-stops-requires : (t : ℕ) → unify-each-lts.Need-stops-requires (unify-each-calls t) (unify-each-at t) unify-each.Post unify-each-Inv-loop unify-each-μ-loop
+unify-each-stops-requires t c κs = search needs
 
 unify-each-same-length-3 : (t : ℕ) → unify-each-lts.Need-same-length-3 (unify-each-calls t) (unify-each-at t) unify-each.Post unify-each-Inv-loop unify-each-μ-loop
 unify-each-same-length-3 t c = search needs
@@ -279,7 +283,26 @@ unify-each-same-length-4 : (t : ℕ) → unify-each-lts.Need-same-length-4 (unif
 unify-each-same-length-4 t c = search needs
 
 unify-each-returns-2 : (t : ℕ) → unify-each-lts.Need-returns-2 (unify-each-calls t) (unify-each-at t) unify-each.Post unify-each-Inv-loop unify-each-μ-loop
-unify-each-returns-2 t c = search (needs, pairs-end)
+unify-each-returns-2 t c =
+    let start = c .before .before .before .before .before .before .before .before .before .before .before .before .before .before .before .before .before .before .before .before .before .before .before in
+    let here = c .before .before .before .before .before .before .before .before .before .before .before .before .before .before .before .before .before .loop .inv in
+    let count = c .before .before .before .before .before .before .before .before .before .before .before .before .before .before .before .before .before .before .child-count .ensures in
+    let on = pairs-on _ _ _ _ _ _ _ _ _ _ _ _ (start .pre .1 .0) (start .pre .1 .1 .0) (here .1 .1 .1) count (start .pre .1 .1 .1 .0) _ (here .1 .1 .0) (c .before .before .before .before .before .before .before .before .before .before .before .before .before .before .before .next-pair .ensures) in
+    pairs-stop _ _ _ _ _ _ _ _ _ _ _ _ _ _ (start .pre .1 .0) (start .pre .1 .1 .0) on count (start .pre .1 .1 .1 .0) (c .before .before .before .before .before .before .before .before .before .before .before .before .before .before .if1 .left) (c .before .before .before .before .before .before .before .before .before .before .before .before .child .ensures) (c .before .before .before .before .before .before .before .before .before .before .met-child .ensures) _ _ _ _ _ _ (c .before .before .before .before .before .before .before .unify-in .ensures) (c .before .before .and .ensures) (c .before .stops .ensures) (c .if2 .taken)
+
+unify-each-add-i : (t : ℕ) → unify-each-lts.Need-add-i (unify-each-calls t) (unify-each-at t) unify-each.Post unify-each-Inv-loop unify-each-μ-loop
+unify-each-add-i t c = omega arith
+
+unify-each-loop-less : (t : ℕ) → unify-each-lts.Need-loop-less (unify-each-calls t) (unify-each-at t) unify-each.Post unify-each-Inv-loop unify-each-μ-loop
+unify-each-loop-less t c = omega (arith, c .before .before .before .before .before .before .before .before .before .before .before .before .before .before .before .next-pair .ensures .alike .low)
+
+unify-each-loop-again : (t : ℕ) → unify-each-lts.Need-loop-again (unify-each-calls t) (unify-each-at t) unify-each.Post unify-each-Inv-loop unify-each-μ-loop
+unify-each-loop-again t c =
+    let start = c .before .before .before .before .before .before .before .before .before .before .before .before .before .before .before .before .before .before .before .before .before .before .before in
+    let here = c .before .before .before .before .before .before .before .before .before .before .before .before .before .before .before .before .before .loop .inv in
+    let count = c .before .before .before .before .before .before .before .before .before .before .before .before .before .before .before .before .before .before .child-count .ensures in
+    let on = pairs-on _ _ _ _ _ _ _ _ _ _ _ _ (start .pre .1 .0) (start .pre .1 .1 .0) (here .1 .1 .1) count (start .pre .1 .1 .1 .0) _ (here .1 .1 .0) (c .before .before .before .before .before .before .before .before .before .before .before .before .before .before .before .next-pair .ensures) in
+    (c .before .before .before .before .before .before .before .unify-in .kept .1 .0 ∙ here .0, (c .before .before .before .before .before .before .before .unify-in .kept .1 .1 .0 ∙ here .1 .0, (omega (arith, c .before .before .before .before .before .before .before .before .before .before .before .before .before .before .if1 .left), pairs-more _ _ _ _ _ _ _ _ _ _ _ _ _ _ (start .pre .1 .0) (start .pre .1 .1 .0) on count (start .pre .1 .1 .1 .0) (c .before .before .before .before .before .before .before .before .before .before .before .before .before .before .if1 .left) (c .before .before .before .before .before .before .before .before .before .before .before .before .child .ensures) (c .before .before .before .before .before .before .before .before .before .before .met-child .ensures) _ _ _ _ _ _ (c .before .before .before .before .before .before .before .unify-in .ensures) (c .before .before .and .ensures) (c .before .stops .ensures) (c .if2 .left) (c .before .before .before .before .before .before .before .unify-in .kept .1 .1 .0))))
 
 unify-in-returns : (t : ℕ) → unify-in-lts.Need-returns (unify-in-calls t) (unify-in-at t) unify-in.Post
 unify-in-returns t c = search (needs, unify-none)
@@ -562,20 +585,21 @@ pub +unify-children+unify-each+unify-in+unify-known+unify-last+unify-noted+unify
     unify-each-μ-loop
     (unify-each-child-count-requires t)
     (unify-each-loop-holds t)
+    (unify-each-next-pair-requires t)
+    (unify-each-same-length t)
+    (unify-each-same-length-2 t)
+    (unify-each-returns t)
     (unify-each-child-requires t)
     (unify-each-met-child-requires t)
     (unify-each-unify-in-requires t)
     (unify-each-and-requires t)
     (unify-each-stops-requires t)
-    (unify-each-same-length t)
-    (unify-each-same-length-2 t)
-    (unify-each-returns t)
-    (unify-each-add-i t)
-    (unify-each-loop-less t)
-    (unify-each-loop-again t)
     (unify-each-same-length-3 t)
     (unify-each-same-length-4 t)
-    (unify-each-returns-2 t))
+    (unify-each-returns-2 t)
+    (unify-each-add-i t)
+    (unify-each-loop-less t)
+    (unify-each-loop-again t))
     (λ t. unify-in-lts.spec (unify-in-calls t) (unify-in-at t)
     unify-in.Post
     (unify-in-returns t)
