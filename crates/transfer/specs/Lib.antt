@@ -3,6 +3,7 @@ pub mod Records
 pub mod Moving
 pub mod Steps
 pub mod Leaves
+pub mod Cells
 pub mod Ways
 pub mod Imports
 pub mod Callers

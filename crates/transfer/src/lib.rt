@@ -80,8 +80,8 @@ fn new_type(n: u32, r: u32) -> u32
     2 * n + r % 2 + 1
 }
 
-// Reads the children of node n of the source, and says how many there are.
-fn read_children(packed: bool, s: &[u32], places: &[u32], n: u32, cs: &mut [u32]) -> usize
+// Reads the children of node n of the source one by one, and says how many there are.
+fn each_child(packed: bool, s: &[u32], places: &[u32], n: u32, cs: &mut [u32]) -> usize
     requires { ⌜ Slim (source-of packed (now s) (now places)) ⌝ }
     requires { ⌜ 8 ≤ length (now cs) ⌝ }
     ensures { λ m. ⌜ Read (source-of packed (now (s .entry)) (now (places .entry))) n (now (cs .exit)) m ⌝ }
@@ -93,6 +93,19 @@ fn read_children(packed: bool, s: &[u32], places: &[u32], n: u32, cs: &mut [u32]
         j += 1;
     }
     m
+}
+
+// The same, where the cells of a record are passed once.
+fn read_children(packed: bool, s: &[u32], places: &[u32], n: u32, cs: &mut [u32]) -> usize
+    requires { ⌜ Slim (source-of packed (now s) (now places)) ⌝ }
+    requires { ⌜ 8 ≤ length (now cs) ⌝ }
+    ensures { λ m. ⌜ Read (source-of packed (now (s .entry)) (now (places .entry))) n (now (cs .exit)) m ⌝ }
+{
+    if packed {
+        each_child(packed, s, places, n, cs)
+    } else {
+        records::read_children(s, places, n, cs)
+    }
 }
 
 // Fills node n in as root type r of the source is, with the children cs, and gives its type: 1 and its type word.
