@@ -5,5 +5,6 @@ pub mod Steps
 pub mod Leaves
 pub mod Cells
 pub mod Ways
+pub mod Gone
 pub mod Imports
 pub mod Callers
