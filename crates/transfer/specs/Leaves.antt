@@ -26,7 +26,7 @@ use Rattle.transfer.specs.Records.{mapped-length}
 use Rattle.rules.specs.Answer.{word-of-type}
 use Rattle.table.specs.Packing.{types-of, Pushes, Becomes, kind-in, id-in, kind-at, inverted-at, id-at, Above, TypeWords}
 use Rattle.table.specs.Nodes.{type-word}
-use Rattle.transfer.specs.Moving.{params-of, entry, Mapping, param-as, Param, Settles, Enters, Typed, Read, Fills, Known, Alike}
+use Rattle.transfer.specs.Moving.{params-of, entry, Mapping, param-as, Param, Gone, Settles, Enters, Typed, Read, Fills, Known, Alike}
 use Rattle.transfer.specs.Steps.{known-parts, settled-mapped, settled-else, param-none}
 
 -- A type word below 512 stays below, inverted or not.
@@ -110,33 +110,49 @@ module _ (ps : Words) (p w : ℕ) (s : TypeWords ps) (ep : p ≡ at ps w) where
           whole : (b : Bool) → b ≡ true → param-as src (params-of b ps) (type-of-word r) ≡ some (invert-if c (type-of-word u))
           whole b e = ap (λ x. param-as src (params-of x ps) (type-of-word r)) e ∙ rw (there, param-as) (ap₂ {C = Option Ty} (λ (x : Bool) (y : Ty). some (invert-if x y)) (sym ec) (sym (ap type-of-word eu ∙ type-word (invert-if i (type-of-word p)))))
 
--- The mapping of N nodes. q is the word of node n.
-module _ (N : ℕ) (ms : Words) (n w q : ℕ) (g : Mapping N ms) (h : n < N) (ew : w ≡ n) (eq : q ≡ at ms w) where
-  most : q ≤ 512
-  most = omega (arith, eq, ap (at ms) ew, g .small n h)
-
-  pub map-fits : q - 1 < 4294967294
-  map-fits = omega (arith, most)
-
-  pub map-adds : (v : ℕ) (c : Bool) → q ≢ 0 → v ≡ word-of-type (invert-if c (type-of-word (q - 1))) → Fits w32 (v + 1)
-  map-adds v c z ev = omega (arith, invert-small c (q - 1) v (omega (arith, most)) ev)
-
 -- The mapping. q is the word of the root of root type r.
-module _ (src : Types) (ps : Option (List Ty)) (ms : Words) (r w q : ℕ) (g : Mapping (length src) ms) (h : r / 2 < length src) (ew : w ≡ r / 2) (eq : q ≡ at ms w) where
+module _ (ms : Words) (r w q : ℕ) (l : at ms (r / 2) ≤ 512) (ew : w ≡ r / 2) (eq : q ≡ at ms w) where
   here : q ≡ at ms (r / 2)
   here = eq ∙ ap (at ms) ew
 
+  pub map-fits : q - 1 < 4294967294
+  map-fits = omega (arith, here)
+
+  pub gone-nowhere : q ≡ 0 → Gone ms r 0
+  gone-nowhere z = record { small = omega arith; none = λ e. sym here ∙ z; there = λ e. absurd (e refl); is = λ e. absurd (e refl) }
+
   module _ (z : q ≢ 0) (v : ℕ) (c : Bool) (ev : v ≡ word-of-type (invert-if c (type-of-word (q - 1)))) where
-    pub settles-there : c ≡ (type-of-word r) .0 → Settles src ps ms r (v + 1)
-    unfolding type-of-word
-    settles-there ec = record {
-      small = omega (arith, invert-small c (q - 1) v (omega (arith, here, g .small (r / 2) h)) ev);
-      is = λ m k. entry-type v (invert-if c (type-of-word (q - 1))) ev ∙ ap {B = Option Ty} (λ (x : Bool). some (invert-if x (type-of-word (q - 1)))) ec ∙ sym (settled-mapped src ps m (type-of-word r) (type-of-word (q - 1)) (sym (k .is (r / 2) h) ∙ ap entry (sym here) ∙ entry-of q z));
+    low-type : v < 512
+    low-type = invert-small c (q - 1) v (omega (arith, here)) ev
+
+    pub map-adds : Fits w32 (v + 1)
+    map-adds = omega (arith, low-type)
+
+    pub gone-there : c ≡ (type-of-word r) .0 → Gone ms r (v + 1)
+    gone-there ec = record {
+      small = omega (arith, low-type);
+      none = λ e. absurd (omega arith);
+      there = λ e q. z (here ∙ q);
+      is = λ e. entry-type v (invert-if c (type-of-word (q - 1))) ev ∙ ap₂ {C = Option Ty} (λ (x : Bool) (y : ℕ). some (invert-if x (type-of-word (y - 1)))) ec here;
     }
 
-  pub settles-else : (v : ℕ) → q ≡ 0 → Param src ps r v → Settles src ps ms r v
-  unfolding type-of-word
-  settles-else v z p = record { small = p .small; is = λ m k. p .is ∙ sym (settled-else src ps m (type-of-word r) (sym (k .is (r / 2) h) ∙ ap entry (sym here) ∙ entry-none q z)) }
+module _ (N : ℕ) (ms : Words) (r : ℕ) (g : Mapping N ms) (h : r / 2 < N) where
+  pub map-long : r / 2 < length ms
+  map-long = omega (arith, g .long)
+
+  pub map-small : at ms (r / 2) ≤ 512
+  map-small = g .small (r / 2) h
+
+-- Where root type r went says what stands for it.
+module _ (src : Types) (ps : Option (List Ty)) (ms : Words) (r : ℕ) (g : Mapping (length src) ms) (h : r / 2 < length src) where
+  module _ (q : ℕ) (e : Gone ms r q) where
+    pub settles-there : q ≢ 0 → Settles src ps ms r q
+    unfolding type-of-word
+    settles-there z = record { small = e .small; is = λ m k. e .is z ∙ sym (settled-mapped src ps m (type-of-word r) (type-of-word (at ms (r / 2) - 1)) (sym (k .is (r / 2) h) ∙ entry-of (at ms (r / 2)) (e .there z))) }
+
+    pub settles-else : (v : ℕ) → q ≡ 0 → Param src ps r v → Settles src ps ms r v
+    unfolding type-of-word
+    settles-else v z p = record { small = p .small; is = λ m k. p .is ∙ sym (settled-else src ps m (type-of-word r) (sym (k .is (r / 2) h) ∙ entry-none (at ms (r / 2)) (e .none z))) }
 
 -- A new node is entered: w is the root.
 pub enters-room : (ws us ms : Words) (r n w : ℕ) → Pushes ws us unknown n → n < 256 → w ≡ r / 2 → Enters ws ms us (set ms w (2 * n + 1)) r n

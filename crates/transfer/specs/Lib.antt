@@ -3,6 +3,8 @@ pub mod Records
 pub mod Moving
 pub mod Steps
 pub mod Leaves
+pub mod Cells
 pub mod Ways
+pub mod Gone
 pub mod Imports
 pub mod Callers

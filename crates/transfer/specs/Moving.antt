@@ -1,5 +1,5 @@
 -- What a transfer in words does: the mapping in a slice, what is kept all along, and what each function comes to.
-use Prim.Native.Nat.{ℕ, zero, suc, _+_, _*_, _/_, _≤_, _<_}
+use Prim.Native.Nat.{ℕ, zero, suc, _+_, _-_, _*_, _/_, _≤_, _<_}
 use mathlib.Core.Path.{_≡_}
 use mathlib.Core.Logic.{_≢_}
 use mathlib.Core.Bool.{Bool, true, false}
@@ -132,6 +132,18 @@ pub record TransfersAll (src : Types) (o : Transfer → List Ty × Transfer) (ws
 pub record Param (src : Types) (ps : Option (List Ty)) (r q : ℕ) : Type 0 where
   pub small : q ≤ 512
   pub is : entry q ≡ param-as src ps (type-of-word r)
+
+-- Where root type r went, in a word.
+pub record Gone (ms : Words) (r q : ℕ) : Type 0 where
+  pub small : q ≤ 512
+  pub none : q ≡ 0 → at ms (r / 2) ≡ 0
+  pub there : q ≢ 0 → at ms (r / 2) ≢ 0
+  pub is : q ≢ 0 → entry q ≡ some (invert-if ((type-of-word r) .0) (type-of-word (at ms (r / 2) - 1)))
+
+-- The same, told of types of records alone: b says that the source is packed.
+pub record GoneRecord (b : Bool) (ms : Words) (t q : ℕ) : Type 0 where
+  pub records : q ≢ 0 → b ≡ false
+  pub gone : q ≢ 0 → Gone ms t q
 
 -- What stands for root type r already, in a word.
 pub record Settles (src : Types) (ps : Option (List Ty)) (ms : Words) (r q : ℕ) : Type 0 where

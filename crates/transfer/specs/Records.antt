@@ -145,7 +145,7 @@ module _ (s places : Words) (n : ℕ) where
     unfolding children-at children
     children-none z = sym (ap (λ st. length (children st)) (unknown-here z))
 
-    children-here : k ≢ 0 → children-at (indexed s places) n ≡ cell-types s (at s (at places n + 4))
+    pub children-here : k ≢ 0 → children-at (indexed s places) n ≡ cell-types s (at s (at places n + 4))
     unfolding children-at children
     children-here z = ap children (known-here z)
 

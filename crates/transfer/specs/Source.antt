@@ -31,7 +31,7 @@ module _ (b : Bool) (s places : Words) where
   unfolding source
   source-packed e = sym (ap (λ c. source c s places) e)
 
-  source-records : b ≡ false → indexed s places ≡ source b s places
+  pub source-records : b ≡ false → indexed s places ≡ source b s places
   unfolding source
   source-records e = sym (ap (λ c. source c s places) e)
 

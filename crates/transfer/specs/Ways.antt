@@ -285,7 +285,7 @@ going-start src f ws ms ts m p g h = record {
   moves = λ l k. record { is = refl; maps = k; types = refl };
 }
 
-going-level : (src : Types) (f : Ty → Transfer → Ty × Transfer) (ws ms us ns ts vs : Words) (m i left : ℕ) → Going src f ws ms us ns ts vs m i → i < m → Levels src (take m ts) left → Level src (type-of-word (at vs i)) left
+pub going-level : (src : Types) (f : Ty → Transfer → Ty × Transfer) (ws ms us ns ts vs : Words) (m i left : ℕ) → Going src f ws ms us ns ts vs m i → i < m → Levels src (take m ts) left → Level src (type-of-word (at vs i)) left
 going-level src f ws ms us ns ts vs m i left g h d = subst (λ x. Level src (type-of-word x) left) (getD-take m ts i 0 h ∙ sym (g .rest i (omega arith))) (d .each i (omega (arith, length-take m ts, g .room)))
 
 pub going-left : (src : Types) (f : Ty → Transfer → Ty × Transfer) (ws ms us ns ts vs : Words) (m i left : ℕ) → Going src f ws ms us ns ts vs m i → i < m → Levels src (take m ts) left → 1 ≤ left

@@ -5,12 +5,13 @@ ghost use mathlib.Core.Bool.{true, false};
 ghost use mathlib.Core.List.{map as map-list};
 ghost use Prim.Native.Nat.{suc, _+_, _*_, _/_, _<_, _≤_};
 ghost use lib.ListN.{length, take};
+ghost use Rattle.rules.specs.Sheet.{at};
 ghost use Rattle.rules.specs.Slim.{Slim};
 ghost use Rattle.rules.specs.Neat.{Neat};
 ghost use Rattle.rules.specs.Transfer.{type-of-word, transfer-in, transfer-each, transfer-types, import-types, export-types};
 ghost use Rattle.table.specs.Packing.{types-of, Packed, TypeWords};
 ghost use Rattle.transfer.specs.Source.{source as source-of};
-ghost use Rattle.transfer.specs.Moving.{params-of, Mapping, Level, Levels, Rooted, Own, Known, Alike, Param, Settles, Enters, Typed, Read, Fills, Transfers, TransfersAll, fresh, filled};
+ghost use Rattle.transfer.specs.Moving.{params-of, Mapping, Level, Levels, Rooted, Own, Known, Alike, Param, Gone, GoneRecord, Settles, Enters, Typed, Read, Fills, Transfers, TransfersAll, fresh, filled};
 ghost use Rattle.transfer.specs.Imports.{types-in, Inside, Imports, ImportsImpl, ImportsImpls};
 
 pub mod records; // records.rt: a table as the records of a chain
@@ -35,6 +36,29 @@ fn param_type(packed: bool, s: &[u32], places: &[u32], with: bool, ps: &[u32], r
     0
 }
 
+// Where root type r went: 0, or 1 and its type word.
+fn mapped_type(map: &[u32], r: u32) -> u32
+    requires { ⌜ r / 2 < length (now map) ⌝ }
+    requires { ⌜ at (now map) (r / 2) ≤ 512 ⌝ }
+    ensures { λ q. ⌜ Gone (now (map .entry)) r q ⌝ }
+{
+    let i = words::wide(r / 2);
+    let q = map[i];
+    if q != 0 {
+        return table::invert_if(table::is_inverted(r), q - 1) + 1;
+    }
+    0
+}
+
+// The same of a type of records, each of which is its own root; 0 of any other source.
+fn gone_type(packed: bool, map: &[u32], t: u32) -> u32
+    requires { ⌜ t / 2 < length (now map) ⌝ }
+    requires { ⌜ at (now map) (t / 2) ≤ 512 ⌝ }
+    ensures { λ q. ⌜ GoneRecord packed (now (map .entry)) t q ⌝ }
+{
+    if packed { 0 } else { mapped_type(map, t) }
+}
+
 // What stands for root type r already, where it went or its parameter: 0, or 1 and its type word.
 fn settled_type(
     packed: bool,
@@ -50,9 +74,9 @@ fn settled_type(
     requires { ⌜ r / 2 < length (source-of packed (now s) (now places)) ⌝ }
     ensures { λ q. ⌜ Settles (source-of packed (now (s .entry)) (now (places .entry))) (params-of with (now (ps .entry))) (now (map .entry)) r q ⌝ }
 {
-    let q = words::word(map, words::wide(r / 2));
+    let q = mapped_type(map, r);
     if q != 0 {
-        return table::invert_if(table::is_inverted(r), q - 1) + 1;
+        return q;
     }
     param_type(packed, s, places, with, ps, r)
 }
@@ -80,8 +104,8 @@ fn new_type(n: u32, r: u32) -> u32
     2 * n + r % 2 + 1
 }
 
-// Reads the children of node n of the source, and says how many there are.
-fn read_children(packed: bool, s: &[u32], places: &[u32], n: u32, cs: &mut [u32]) -> usize
+// Reads the children of node n of the source one by one, and says how many there are.
+fn each_child(packed: bool, s: &[u32], places: &[u32], n: u32, cs: &mut [u32]) -> usize
     requires { ⌜ Slim (source-of packed (now s) (now places)) ⌝ }
     requires { ⌜ 8 ≤ length (now cs) ⌝ }
     ensures { λ m. ⌜ Read (source-of packed (now (s .entry)) (now (places .entry))) n (now (cs .exit)) m ⌝ }
@@ -93,6 +117,19 @@ fn read_children(packed: bool, s: &[u32], places: &[u32], n: u32, cs: &mut [u32]
         j += 1;
     }
     m
+}
+
+// The same, where the cells of a record are passed once.
+fn read_children(packed: bool, s: &[u32], places: &[u32], n: u32, cs: &mut [u32]) -> usize
+    requires { ⌜ Slim (source-of packed (now s) (now places)) ⌝ }
+    requires { ⌜ 8 ≤ length (now cs) ⌝ }
+    ensures { λ m. ⌜ Read (source-of packed (now (s .entry)) (now (places .entry))) n (now (cs .exit)) m ⌝ }
+{
+    if packed {
+        each_child(packed, s, places, n, cs)
+    } else {
+        records::read_children(s, places, n, cs)
+    }
 }
 
 // Fills node n in as root type r of the source is, with the children cs, and gives its type: 1 and its type word.
@@ -223,6 +260,12 @@ fn transfer_each(
     let mut i = 0;
     while i < m {
         let t = ts[i];
+        let g = gone_type(packed, map, t);
+        if g != 0 {
+            ts[i] = g - 1;
+            i += 1;
+            continue;
+        }
         let q = transfer_type(packed, s, places, dst, map, with, ps, t, left - 1);
         if q == 0 {
             return false;

@@ -1,15 +1,18 @@
 // A table as the records of a chain: node n is the record at places[n], its own root.
 ghost use mathlib.Core.Path.{_≡_};
 ghost use mathlib.Core.Bool.{false};
-ghost use Prim.Native.Nat.{_+_};
+ghost use Prim.Native.Nat.{_+_, _≤_};
 ghost use lib.ListN.{length, getD};
 ghost use Rattle.rules.specs.Sheet.{at};
 ghost use Rattle.rules.specs.Types.{find as find-in};
 ghost use Rattle.rules.specs.AcyclicLaws.{children-at};
-ghost use Rattle.rules.specs.Transfer.{type-of-word};
+ghost use Rattle.rules.specs.Slim.{Slim};
+ghost use Rattle.rules.specs.Transfer.{type-of-word, cell-types};
 ghost use Rattle.rules.specs.Answer.{word-of-type};
 ghost use Rattle.table.specs.Packing.{kind-at, inverted-at, id-at};
 ghost use Rattle.transfer.specs.Source.{indexed};
+ghost use Rattle.transfer.specs.Moving.{Read};
+ghost use Rattle.transfer.specs.Cells.{Gathered};
 
 const NODE_KIND: usize = 1;
 
@@ -106,4 +109,35 @@ pub fn child(s: &[u32], places: &[u32], n: u32, j: usize) -> u32
     } else {
         0
     }
+}
+
+// Reads the types in the cells of the chain from a head, and says how many there are.
+fn cells(s: &[u32], head: usize, cs: &mut [u32]) -> usize
+    requires { ⌜ length (cell-types (now s) head) ≤ 8 ⌝ }
+    requires { ⌜ 8 ≤ length (now cs) ⌝ }
+    ensures { λ m. ⌜ Gathered (now (s .entry)) head (now (cs .exit)) m ⌝ }
+{
+    let mut c = head;
+    let mut j = 0;
+    while j < s.len() {
+        if c == 0 {
+            return j;
+        }
+        cs[j] = words::offset(s, c, CELL_TYPE);
+        c = words::next(s, c);
+        j += 1;
+    }
+    j
+}
+
+// Reads the children of node n, and says how many there are.
+pub fn read_children(s: &[u32], places: &[u32], n: u32, cs: &mut [u32]) -> usize
+    requires { ⌜ Slim (indexed (now s) (now places)) ⌝ }
+    requires { ⌜ 8 ≤ length (now cs) ⌝ }
+    ensures { λ m. ⌜ Read (indexed (now (s .entry)) (now (places .entry))) n (now (cs .exit)) m ⌝ }
+{
+    if kind_of(s, places, n) == 0 {
+        return 0;
+    }
+    cells(s, children(s, places, n), cs)
 }

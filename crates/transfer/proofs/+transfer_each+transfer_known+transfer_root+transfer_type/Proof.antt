@@ -11,6 +11,7 @@ use Rattle.transfer.specs.Moving.{params-of}
 use Rattle.transfer.specs.Records.{source-unknown}
 use Rattle.transfer.specs.Leaves.{kind-known}
 use Rattle.transfer.specs.Ways.{Going, going-start, going-left, going-falls, going-down, going-full, going-next, going-done, read-room, read-levels, children-own, children-small, children-room, children-count, children-alike, known-done, known-full, root-room, root-full, root-unknown, entered-mapping, entered-own, root-known, root-inside, type-settled, root-level, type-fresh}
+use Rattle.transfer.specs.Gone.{next-long, next-small, going-gone}
 use Prim.Native.Nat.{ℕ, _<_}
 use borrow.Fn.Kinds.{In}
 use borrow.Fn.PlainCycle.{Measures, is, falls, and}
@@ -27,6 +28,7 @@ use Rattle.transfer.proofs.transfer_type.Reads as transfer-type
 use Rattle.transfer.proofs.transfer_type.Kinds as transfer-type-kinds
 use Rattle.transfer.proofs.+transfer_each+transfer_known+transfer_root+transfer_type.Lts-transfer_type as transfer-type-lts
 use Rattle.transfer.proofs.fill.Reads as fill-reads
+use Rattle.transfer.proofs.gone_type.Reads as gone-type-reads
 use Rattle.transfer.proofs.new_type.Reads as new-type-reads
 use Rattle.transfer.proofs.push_node.Reads as push-node-reads
 use Rattle.transfer.proofs.read_children.Reads as read-children-reads
@@ -111,7 +113,7 @@ abbrev transfer-each-μ-loop : transfer-each-lts.MeasureT-loop
 transfer-each-μ-loop packed s places dst₀ map₀ with ps ts₀ m left i₀ dst map ts i = m - i
 
 abbrev transfer-each-calls : ℕ → transfer-each-lts.Claims
-transfer-each-calls t = (transfer-type-below t, transfer-type.Post)
+transfer-each-calls t = (gone-type-reads.Asked, gone-type-reads.Learnt, transfer-type-below t, transfer-type.Post)
 
 abbrev transfer-known-calls : ℕ → transfer-known-lts.Claims
 transfer-known-calls t = (read-children-reads.Asked, read-children-reads.Learnt, transfer-each-below t, transfer-each.Post, fill-reads.Asked, fill-reads.Learnt)
@@ -131,23 +133,8 @@ transfer-each-mul-t t c = search needs
 transfer-each-slice-read-t : (t : ℕ) → transfer-each-lts.Need-slice-read-t (transfer-each-calls t) (transfer-each-at t) transfer-each.Post transfer-each-Inv-loop transfer-each-μ-loop
 transfer-each-slice-read-t t c = search needs
 
-transfer-each-sub-transfer-type : (t : ℕ) → transfer-each-lts.Need-sub-transfer-type (transfer-each-calls t) (transfer-each-at t) transfer-each.Post transfer-each-Inv-loop transfer-each-μ-loop
-transfer-each-sub-transfer-type t c = search (needs, going-left)
-
-transfer-each-transfer-type-requires : (t : ℕ) → transfer-each-lts.Need-transfer-type-requires (transfer-each-calls t) (transfer-each-at t) transfer-each.Post transfer-each-Inv-loop transfer-each-μ-loop
-transfer-each-transfer-type-requires t c κs = (search (needs, going-falls), (search needs, (search needs, (search needs, (search needs, search (needs, going-down))))))
-
-transfer-each-same-length : (t : ℕ) → transfer-each-lts.Need-same-length (transfer-each-calls t) (transfer-each-at t) transfer-each.Post transfer-each-Inv-loop transfer-each-μ-loop
-transfer-each-same-length t c = search needs
-
-transfer-each-same-length-2 : (t : ℕ) → transfer-each-lts.Need-same-length-2 (transfer-each-calls t) (transfer-each-at t) transfer-each.Post transfer-each-Inv-loop transfer-each-μ-loop
-transfer-each-same-length-2 t c = search needs
-
-transfer-each-same-length-3 : (t : ℕ) → transfer-each-lts.Need-same-length-3 (transfer-each-calls t) (transfer-each-at t) transfer-each.Post transfer-each-Inv-loop transfer-each-μ-loop
-transfer-each-same-length-3 t c = search needs
-
-transfer-each-returns : (t : ℕ) → transfer-each-lts.Need-returns (transfer-each-calls t) (transfer-each-at t) transfer-each.Post transfer-each-Inv-loop transfer-each-μ-loop
-transfer-each-returns t c = search (needs, going-full)
+transfer-each-gone-type-requires : (t : ℕ) → transfer-each-lts.Need-gone-type-requires (transfer-each-calls t) (transfer-each-at t) transfer-each.Post transfer-each-Inv-loop transfer-each-μ-loop
+transfer-each-gone-type-requires t c κs = (search (needs, next-long), search (needs, next-small))
 
 transfer-each-sub-ts : (t : ℕ) → transfer-each-lts.Need-sub-ts (transfer-each-calls t) (transfer-each-at t) transfer-each.Post transfer-each-Inv-loop transfer-each-μ-loop
 transfer-each-sub-ts t c = search needs
@@ -165,7 +152,43 @@ transfer-each-loop-less : (t : ℕ) → transfer-each-lts.Need-loop-less (transf
 transfer-each-loop-less t c = search needs
 
 transfer-each-loop-again : (t : ℕ) → transfer-each-lts.Need-loop-again (transfer-each-calls t) (transfer-each-at t) transfer-each.Post transfer-each-Inv-loop transfer-each-μ-loop
-transfer-each-loop-again t c = (search needs, search needs, search (needs, going-next))
+transfer-each-loop-again t c = (search needs, search needs, search (needs, going-gone))
+
+transfer-each-sub-transfer-type : (t : ℕ) → transfer-each-lts.Need-sub-transfer-type (transfer-each-calls t) (transfer-each-at t) transfer-each.Post transfer-each-Inv-loop transfer-each-μ-loop
+transfer-each-sub-transfer-type t c = search (needs, going-left)
+
+transfer-each-transfer-type-requires : (t : ℕ) → transfer-each-lts.Need-transfer-type-requires (transfer-each-calls t) (transfer-each-at t) transfer-each.Post transfer-each-Inv-loop transfer-each-μ-loop
+transfer-each-transfer-type-requires t c κs = (search (needs, going-falls), (search needs, (search needs, (search needs, (search needs, search (needs, going-down))))))
+
+transfer-each-same-length : (t : ℕ) → transfer-each-lts.Need-same-length (transfer-each-calls t) (transfer-each-at t) transfer-each.Post transfer-each-Inv-loop transfer-each-μ-loop
+transfer-each-same-length t c = search needs
+
+transfer-each-same-length-2 : (t : ℕ) → transfer-each-lts.Need-same-length-2 (transfer-each-calls t) (transfer-each-at t) transfer-each.Post transfer-each-Inv-loop transfer-each-μ-loop
+transfer-each-same-length-2 t c = search needs
+
+transfer-each-same-length-3 : (t : ℕ) → transfer-each-lts.Need-same-length-3 (transfer-each-calls t) (transfer-each-at t) transfer-each.Post transfer-each-Inv-loop transfer-each-μ-loop
+transfer-each-same-length-3 t c = search needs
+
+transfer-each-returns : (t : ℕ) → transfer-each-lts.Need-returns (transfer-each-calls t) (transfer-each-at t) transfer-each.Post transfer-each-Inv-loop transfer-each-μ-loop
+transfer-each-returns t c = search (needs, going-full, c .before .before .before .before .before .before .before .before .before .before .before .before .before .before .before .before .before .before .before .before)
+
+transfer-each-sub-ts-2 : (t : ℕ) → transfer-each-lts.Need-sub-ts-2 (transfer-each-calls t) (transfer-each-at t) transfer-each.Post transfer-each-Inv-loop transfer-each-μ-loop
+transfer-each-sub-ts-2 t c = search needs
+
+transfer-each-mul-ts-2 : (t : ℕ) → transfer-each-lts.Need-mul-ts-2 (transfer-each-calls t) (transfer-each-at t) transfer-each.Post transfer-each-Inv-loop transfer-each-μ-loop
+transfer-each-mul-ts-2 t c = search (needs, c .before .before .before .before .before .before .before .before .before .before .before .before .before .before .before .before .before .before .before .before)
+
+transfer-each-slice-write-ts-2 : (t : ℕ) → transfer-each-lts.Need-slice-write-ts-2 (transfer-each-calls t) (transfer-each-at t) transfer-each.Post transfer-each-Inv-loop transfer-each-μ-loop
+transfer-each-slice-write-ts-2 t c = search needs
+
+transfer-each-add-i-2 : (t : ℕ) → transfer-each-lts.Need-add-i-2 (transfer-each-calls t) (transfer-each-at t) transfer-each.Post transfer-each-Inv-loop transfer-each-μ-loop
+transfer-each-add-i-2 t c = search needs
+
+transfer-each-loop-less-2 : (t : ℕ) → transfer-each-lts.Need-loop-less-2 (transfer-each-calls t) (transfer-each-at t) transfer-each.Post transfer-each-Inv-loop transfer-each-μ-loop
+transfer-each-loop-less-2 t c = search needs
+
+transfer-each-loop-again-2 : (t : ℕ) → transfer-each-lts.Need-loop-again-2 (transfer-each-calls t) (transfer-each-at t) transfer-each.Post transfer-each-Inv-loop transfer-each-μ-loop
+transfer-each-loop-again-2 t c = (search needs, search needs, search (needs, going-next, c .before .before .before .before .before .before .before .before .before .before .before .before .before .before .before .before .before .before .before .before))
 
 transfer-each-same-length-4 : (t : ℕ) → transfer-each-lts.Need-same-length-4 (transfer-each-calls t) (transfer-each-at t) transfer-each.Post transfer-each-Inv-loop transfer-each-μ-loop
 transfer-each-same-length-4 t c = search needs
@@ -299,18 +322,25 @@ pub +transfer-each+transfer-known+transfer-root+transfer-type-spec : {M : Type 1
     (transfer-each-loop-holds t)
     (transfer-each-mul-t t)
     (transfer-each-slice-read-t t)
-    (transfer-each-sub-transfer-type t)
-    (transfer-each-transfer-type-requires t)
-    (transfer-each-same-length t)
-    (transfer-each-same-length-2 t)
-    (transfer-each-same-length-3 t)
-    (transfer-each-returns t)
+    (transfer-each-gone-type-requires t)
     (transfer-each-sub-ts t)
     (transfer-each-mul-ts t)
     (transfer-each-slice-write-ts t)
     (transfer-each-add-i t)
     (transfer-each-loop-less t)
     (transfer-each-loop-again t)
+    (transfer-each-sub-transfer-type t)
+    (transfer-each-transfer-type-requires t)
+    (transfer-each-same-length t)
+    (transfer-each-same-length-2 t)
+    (transfer-each-same-length-3 t)
+    (transfer-each-returns t)
+    (transfer-each-sub-ts-2 t)
+    (transfer-each-mul-ts-2 t)
+    (transfer-each-slice-write-ts-2 t)
+    (transfer-each-add-i-2 t)
+    (transfer-each-loop-less-2 t)
+    (transfer-each-loop-again-2 t)
     (transfer-each-same-length-4 t)
     (transfer-each-same-length-5 t)
     (transfer-each-same-length-6 t)

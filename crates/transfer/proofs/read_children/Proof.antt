@@ -1,62 +1,34 @@
--- The children of a node of the source. The loop's invariant: the first j are read. The measure is what is left of them.
-use Prim.Native.Nat.{_-_}
-use mathlib.Core.Path.{_≡_}
-use lib.ListN.{length}
-use Rattle.transfer.specs.Source.{source}
-use Rattle.transfer.specs.Leaves.{Reading, reading-start, reading-next, reading-done}
+-- The children of a node of the source.
+use Rattle.transfer.specs.Cells.{records-slim, records-read}
 use borrow.Author.Needs.{needs}
 use Rattle.transfer.proofs.read_children.Statement.{statement}
 use Rattle.transfer.proofs.read_children.Tie as tie
 
-abbrev Inv-loop : tie.InvT-loop
-Inv-loop packed s places n cs₀ m j₀ cs j = (length cs ≡ length cs₀) × Reading (source packed s places) n cs m j
+each-child-requires : tie.Need-each-child-requires
+each-child-requires c κs = search needs
 
-abbrev μ-loop : tie.MeasureT-loop
-μ-loop packed s places n cs₀ m j₀ cs j = m - j
+read-children-requires : tie.Need-read-children-requires
+read-children-requires c κs = (search (needs, records-slim), search needs)
 
-child-count-requires : tie.Need-child-count-requires Inv-loop μ-loop
-child-count-requires c κs = search needs
-
-loop-holds : tie.Need-loop-holds Inv-loop μ-loop
-loop-holds c = search (needs, reading-start)
-
-child-requires : tie.Need-child-requires Inv-loop μ-loop
-child-requires c κs = search needs
-
-mul-cs : tie.Need-mul-cs Inv-loop μ-loop
-mul-cs c = search needs
-
-slice-write-cs : tie.Need-slice-write-cs Inv-loop μ-loop
-slice-write-cs c = search needs
-
-add-j : tie.Need-add-j Inv-loop μ-loop
-add-j c = search needs
-
-loop-less : tie.Need-loop-less Inv-loop μ-loop
-loop-less c = search needs
-
-loop-again : tie.Need-loop-again Inv-loop μ-loop
-loop-again c = search (needs, reading-next)
-
-same-length : tie.Need-same-length Inv-loop μ-loop
+same-length : tie.Need-same-length
 same-length c = search needs
 
-returns : tie.Need-returns Inv-loop μ-loop
-returns c = search (needs, reading-done)
+returns : tie.Need-returns
+returns c = search needs
+
+same-length-2 : tie.Need-same-length-2
+same-length-2 c = search needs
+
+returns-2 : tie.Need-returns-2
+returns-2 c = search (needs, records-read)
 
 pub read-children-spec : {M : Type 1} → statement M
 read-children-spec =
     tie.close
     (tie.spec
-    Inv-loop
-    μ-loop
-    child-count-requires
-    loop-holds
-    child-requires
-    mul-cs
-    slice-write-cs
-    add-j
-    loop-less
-    loop-again
+    each-child-requires
+    read-children-requires
     same-length
-    returns)
+    returns
+    same-length-2
+    returns-2)
