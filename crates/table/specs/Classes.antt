@@ -1,26 +1,20 @@
--- How many nodes a class has, through pushes, stores and joins: no class is ever counted larger than it is, so that sizes stay below the limit.
-use Prim.Native.Nat.{ℕ, zero, suc, _+_, _*_, _/_, _%_, _≤_, _<_, min}
-use mathlib.Core.Path.{_≡_, refl, sym, _∙_, ap, ap₂}
+-- How many nodes a class has, through pushes, stores and joins: every class is counted, so that sizes stay below the limit, and a root of size one is alone in its class.
+use Prim.Native.Nat.{ℕ, zero, suc, _+_, _≤_, _<_}
+use mathlib.Core.Path.{_≡_, refl, sym, _∙_, ap}
 use mathlib.Core.Bool.{Bool, true, false}
 use mathlib.Core.List.{[], _∷_, _++_, map}
 use mathlib.Core.Logic.{_≢_}
-use native.Mathlib.Nat.{le-of-suc-le-suc, not-suc-le-zero}
+use native.Mathlib.Nat.{le-of-suc-le-suc, not-suc-le-zero, lt-irrefl}
 use native.Mathlib.Decide.{ℕ-discrete}
-use native.Mathlib.Numerals.{add-one}
 use native.Mathlib.Omega.{arith}
 use lib.Dec.{eqb}
 use lib.ListN.{length, getD, set, length-set, length-append, List·getD-append}
 use lib.Seq.{getD-at, getD-set-same, getD-set-other}
 use borrow.Author.Tests.{eq-eqb, ne-eqb}
-use Rattle.rules.specs.Lists.{Words, bit}
-use Rattle.rules.specs.Limits.{limit·nodes}
-use Rattle.rules.specs.Sheet.{at}
-use Rattle.rules.specs.Transfer.{type-of-word}
 use Rattle.rules.specs.Types.{Ty, TypeState, unknown, TypeNode, Types, new-node, node-at, xor, invert-if, state-at, size-at, relabel, or-else, invert-state, hang}
 use Rattle.rules.specs.Solutions.{rep}
 use Rattle.rules.specs.Joining.{map-at, map-length}
-use Rattle.table.specs.Packing.{up-to, node-from, node-of, types-of, members, Counted}
-use Rattle.table.specs.Nodes.{up-to-length, types-length}
+use Rattle.table.specs.Packing.{members, Counted}
 
 -- One node, of root r or not.
 abbrev mark : TypeNode → ℕ → ℕ
@@ -68,6 +62,12 @@ members-own [] n d r h e = absurd (not-suc-le-zero h)
 members-own (nd ∷ ts) zero d r h e = omega (arith, marks nd ts r, mark-yes nd r e)
 members-own (nd ∷ ts) (suc n) d r h e = omega (arith, marks nd ts r, members-own ts n d r (le-of-suc-le-suc h) e)
 
+-- A root that none has has none.
+members-beyond : (ts : Types) (d : TypeNode) (r : ℕ) → ((n : ℕ) → n < length ts → (getD ts n d) .up .1 ≢ r) → members ts r ≡ 0
+unfolding members
+members-beyond [] d r f = refl
+members-beyond (nd ∷ ts) d r f = omega (arith, marks nd ts r, mark-no nd r (f 0 (omega arith)), members-beyond ts d r (λ n h. f (suc n) (omega arith)))
+
 members-two : (ts : Types) (n m : ℕ) (d : TypeNode) (r : ℕ) → n < length ts → m < length ts → n ≢ m → (getD ts n d) .up .1 ≡ r → (getD ts m d) .up .1 ≡ r → 2 ≤ members ts r
 members-two [] n m d r h l ne e f = absurd (not-suc-le-zero h)
 members-two (nd ∷ ts) zero zero d r h l ne e f = absurd (ne refl)
@@ -79,36 +79,6 @@ members-two (nd ∷ ts) (suc n) (suc m) d r h l ne e f = omega (arith, marks nd 
 pub alone : (ts : Types) (r n : ℕ) → members ts r ≡ 1 → r < length ts → rep ts r ≡ r → n < length ts → n ≢ r → (node-at ts n) .up .1 ≢ r
 unfolding rep node-at
 alone ts r n one h e l ne z = omega (arith, members-two ts r n (new-node 0 unknown) r h l (λ q. ne (sym q)) e z)
-
--- The nodes counted up: d tells whether node i is of root r.
-mark-bit : (nd : TypeNode) (r : ℕ) → mark nd r ≡ bit (eqb (nd .up .1) r)
-unfolding members
-mark-bit nd r = go (eqb (nd .up .1) r) refl
-  where
-    go : (b : Bool) → eqb (nd .up .1) r ≡ b → mark nd r ≡ bit (eqb (nd .up .1) r)
-    go true e = rw (e, members)
-    go false e = rw (e, members)
-
-head-root : (ws : Words) (i : ℕ) → (node-of ws i) .up .1 ≡ at ws (4 * i + 1) / 1024 % 256
-unfolding node-of node-from type-of-word
-head-root ws i = let z : at ws (4 * i + 1) / 512 % 512 / 2 ≡ at ws (4 * i + 1) / 1024 % 256 = omega arith in z
-
-pub members-none : (ws : Words) (r : ℕ) → 0 ≡ members (up-to (node-of ws) 0) r
-unfolding up-to members
-members-none ws r = refl
-
-pub members-more : (ws : Words) (r i c d : ℕ) → c ≡ members (up-to (node-of ws) i) r → d ≡ bit (eqb (at ws (4 * i + 1) / 1024 % 256) r) → c + d ≡ members (up-to (node-of ws) (i + 1)) r
-unfolding up-to
-members-more ws r i c d ec ed =
-    ap₂ (λ (x y : ℕ). x + y) ec (ed ∙ ap (λ k. bit (eqb k r)) (sym (head-root ws i)) ∙ sym (mark-bit (node-of ws i) r))
-    ∙ sym (ap (λ k. members (up-to (node-of ws) k) r) (add-one i) ∙ members-append (up-to (node-of ws) i) (node-of ws i ∷ []) r)
-
-pub count-most : (ws : Words) (m n : ℕ) → m ≡ length (types-of ws) → n ≡ m → n ≤ 256
-count-most ws m n em en = omega (arith, types-length ws)
-
-pub members-all : (ws : Words) (r i n m c : ℕ) → c ≡ members (up-to (node-of ws) i) r → i ≤ n → n ≤ i → n ≡ m → m ≡ length (types-of ws) → c ≡ members (types-of ws) r
-unfolding types-of
-members-all ws r i n m c ec a b en em = ec ∙ ap (λ k. members (up-to (node-of ws) k) r) (let z : i ≡ min (at ws 0) limit·nodes = omega (arith, types-length ws) in z)
 
 -- A node that keeps its root changes no class.
 members-set : (ts : Types) (n : ℕ) (nd d : TypeNode) (r : ℕ) → n < length ts → nd .up .1 ≡ (getD ts n d) .up .1 → members (set ts n nd) r ≡ members ts r
@@ -197,6 +167,11 @@ members-kept : (ts : Types) (n : ℕ) (nd : TypeNode) (r : ℕ) → n < length t
 unfolding rep node-at
 members-kept ts n nd r h e = members-set ts n nd (new-node 0 unknown) r h e
 
+-- A node that is to be pushed is no root as yet.
+members-next : (ts : Types) → Counted ts → members ts (length ts) ≡ 0
+unfolding rep node-at
+members-next ts k = members-beyond ts (new-node 0 unknown) (length ts) (λ n h e. lt-irrefl (length ts) (omega (arith, k .inside n h, e)))
+
 -- A pushed node is its own root, and a class of one.
 pub counted-push : (ts : Types) (st : TypeState) → Counted ts → Counted (ts ++ (new-node (length ts) st ∷ []))
 unfolding new-node
@@ -221,17 +196,17 @@ counted-push ts st k = record { inside = λ n h. inside n h (ℕ-discrete n (len
     inside n h (yes q) = omega (arith, long, at-last n q)
     inside n h (no q) = let l : n < N = omega (arith, long) in omega (arith, long, at-first n l, k .inside n l)
 
-    sizes : (r : ℕ) → r < length us → rep us r ≡ r → Dec (r ≡ N) → size-at us r ≤ members us r
-    sizes r h e (yes q) = omega (arith, at-last r q, own us r r h e)
+    sizes : (r : ℕ) → r < length us → rep us r ≡ r → Dec (r ≡ N) → size-at us r ≡ members us r
+    sizes r h e (yes q) = omega (arith, at-last r q, ap (members us) q, members-append ts (new-node N st ∷ []) N, mark-yes (new-node N st) N refl, members-next ts k)
     sizes r h e (no q) =
         let l : r < N = omega (arith, long) in
         let f = at-first r l in
-        omega (arith, f .1, members-append ts (new-node N st ∷ []) r, k .sizes r l (sym (f .0) ∙ e))
+        omega (arith, f .1, members-append ts (new-node N st ∷ []) r, mark-no (new-node N st) r (λ z. q (sym z)), k .sizes r l (sym (f .0) ∙ e))
 
--- A root stored anew is a class of one at least.
-pub counted-set : (ts : Types) (m : ℕ) (st : TypeState) → m < length ts → rep ts m ≡ m → Counted ts → Counted (set ts m (new-node m st))
+-- A root that is a class of one is stored anew.
+pub counted-set : (ts : Types) (m : ℕ) (st : TypeState) → m < length ts → rep ts m ≡ m → size-at ts m ≡ 1 → Counted ts → Counted (set ts m (new-node m st))
 unfolding new-node
-counted-set ts m st hm rm k = record { inside = λ n h. inside n h (ℕ-discrete n m); sizes = λ r h e. sizes r h e (ℕ-discrete r m) }
+counted-set ts m st hm rm sm k = record { inside = λ n h. inside n h (ℕ-discrete n m); sizes = λ r h e. sizes r h e (ℕ-discrete r m) }
   where
     us : Types
     us = set ts m (new-node m st)
@@ -249,8 +224,8 @@ counted-set ts m st hm rm k = record { inside = λ n h. inside n h (ℕ-discrete
     inside n h (yes q) = omega (arith, long, there n q)
     inside n h (no q) = omega (arith, long, else n q, k .inside n (omega (arith, long)))
 
-    sizes : (r : ℕ) → r < length us → rep us r ≡ r → Dec (r ≡ m) → size-at us r ≤ members us r
-    sizes r h e (yes q) = omega (arith, there r q, own us r r h e)
+    sizes : (r : ℕ) → r < length us → rep us r ≡ r → Dec (r ≡ m) → size-at us r ≡ members us r
+    sizes r h e (yes q) = omega (arith, there r q, ap (members us) q, members-kept ts m (new-node m st) m hm (sym rm), k .sizes m hm rm, sm)
     sizes r h e (no q) = omega (arith, else r q, members-kept ts m (new-node m st) r hm (sym rm), k .sizes r (omega (arith, long)) (sym (else r q .0) ∙ e))
 
 pub map-node : (f : TypeNode → TypeNode) (ts : Types) (n : ℕ) → n < length ts → node-at (map f ts) n ≡ f (node-at ts n)
@@ -319,7 +294,7 @@ module _ (ts : Types) (lo hi : Ty) (hlo : lo .1 < length ts) (hhi : hi .1 < leng
         | no e ↦ omega (arith, all, rep-kept ts us n (lo .1) (hi .1) (xor (hi .0) (lo .0)) (beside n l q) ne e, k .inside n l)
       ]
 
-      sizes : (r : ℕ) → r < length us → rep us r ≡ r → Dec (r ≡ hi .1) → size-at us r ≤ members us r
+      sizes : (r : ℕ) → r < length us → rep us r ≡ r → Dec (r ≡ hi .1) → size-at us r ≡ members us r
       sizes r h e (yes q) = omega (arith, size-is us r top (there r q), same r, ap (members ms) q, members-into (lo .1) (hi .1) (xor (hi .0) (lo .0)) ne ts, k .sizes (lo .1) hlo rlo, k .sizes (hi .1) hhi rhi)
       sizes r h e (no q) = let l : r < length ts = omega (arith, all) in elim (ℕ-discrete (rep ts r) (lo .1)) [
         | yes z ↦ absurd (q (sym e ∙ rep-moved ts us r (lo .1) (hi .1) (xor (hi .0) (lo .0)) (beside r l q) ne z))

@@ -160,7 +160,7 @@ module _ (ws vs : Words) (n i : ℕ) (f : TypeNode → TypeNode) (en : n ≡ len
   pub firsts-done : n ≤ i → Rewritten ws vs (map f (types-of ws))
   firsts-done h = record { len = w .len; count = w .count; is = w .is ∙ firsts-all f i (types-of ws) (omega arith) }
 
--- The root alone of a class of one: c counts the class.
+-- The root alone of a class of one.
 relabel-root : (ts : Types) (lo : ℕ) (t : Ty) → members ts lo ≡ 1 → lo < length ts → rep ts lo ≡ lo → set ts lo (relabel lo t (node-at ts lo)) ≡ map (relabel lo t) ts
 unfolding node-at
 relabel-root ts lo t one h e = ext-getD (new-node 0 unknown) (set ts lo (relabel lo t (node-at ts lo))) (map (relabel lo t) ts) (length-set ts lo (relabel lo t (node-at ts lo)) ∙ sym (map-length (relabel lo t) ts)) (λ i l. each i (omega (arith, length-set ts lo (relabel lo t (node-at ts lo)))))
@@ -171,8 +171,8 @@ relabel-root ts lo t one h e = ext-getD (new-node 0 unknown) (set ts lo (relabel
       | no q ↦ set-beside ts (relabel lo t (node-at ts lo)) lo i q ∙ sym (map-node (relabel lo t) ts i l ∙ relabel-other lo t (node-at ts i) (alone ts lo i one h e l q))
     ]
 
-pub relabel-alone : (ws us : Words) (lo c : ℕ) (t : Ty) → lo < length (types-of ws) → rep (types-of ws) lo ≡ lo → c ≡ members (types-of ws) lo → c ≡ 1 → Rewritten ws us (set (types-of ws) lo (relabel lo t (node-at (types-of ws) lo))) → Rewritten ws us (map (relabel lo t) (types-of ws))
-relabel-alone ws us lo c t h e ec one w = record { len = w .len; count = w .count; is = w .is ∙ relabel-root (types-of ws) lo t (sym ec ∙ one) h e }
+pub relabel-alone : (ws us : Words) (lo c : ℕ) (t : Ty) → Packed ws → lo < length (types-of ws) → rep (types-of ws) lo ≡ lo → c ≡ size-at (types-of ws) lo → c ≡ 1 → Rewritten ws us (set (types-of ws) lo (relabel lo t (node-at (types-of ws) lo))) → Rewritten ws us (map (relabel lo t) (types-of ws))
+relabel-alone ws us lo c t g h e ec one w = record { len = w .len; count = w .count; is = w .is ∙ relabel-root (types-of ws) lo t (sym (g .counted .sizes lo h e) ∙ sym ec ∙ one) h e }
 
 -- Node n as the root of a class: what it is, and how large.
 unfoldable pub root-node : ℕ → TypeState → ℕ → TypeNode

@@ -105,10 +105,10 @@ unfoldable pub members : Types → ℕ → ℕ
 members [] r = 0
 members (nd ∷ ts) r = elim (eqb (nd .up .1) r) [ true ↦ suc (members ts r) | false ↦ members ts r ]
 
--- A table whose roots are nodes, and none of whose classes is counted larger than it is.
+-- A table whose roots are nodes, and whose classes are counted.
 pub record Counted (ts : Types) : Type 0 where
   pub inside : (n : ℕ) → n < length ts → rep ts n < length ts
-  pub sizes : (r : ℕ) → r < length ts → rep ts r ≡ r → size-at ts r ≤ members ts r
+  pub sizes : (r : ℕ) → r < length ts → rep ts r ≡ r → size-at ts r ≡ members ts r
 
 -- Words that are a table: room for the most nodes, and no more nodes than that.
 pub record Packed (ws : Words) : Type 0 where

@@ -12,7 +12,7 @@ use borrow.Author.Tests.{ne-eqb}
 use Rattle.rules.specs.Lists.{Words, bit}
 use Rattle.rules.specs.Limits.{limit·nodes}
 use Rattle.rules.specs.Sheet.{at}
-use Rattle.rules.specs.Types.{Ty, TypeState, unknown, known, TypeNode, Types, new-node}
+use Rattle.rules.specs.Types.{Ty, TypeState, unknown, known, TypeNode, Types, new-node, size-at}
 use Rattle.rules.specs.Transfer.{type-of-word}
 use Rattle.rules.specs.Solutions.{rep}
 use Rattle.table.specs.Packing.{up-to, eight, state-of, id-from, node-from, node-of, with-head, types-of, Counted, Packed, Put, Rewritten, Pushes, Becomes, Head, Above, TypeWords}
@@ -247,11 +247,11 @@ wrote-known ws us cs n h k d i m x y z b ei em e nz few small ex ey ez p =
     (head-node h k (2 * n) 1 m (eqb i 1) x y z e ∙ cc (even-type n, state-known k b d (map type-of-word cs) nz, bit-back b i ei, kids, id)) p
 
 -- A root is stored anew.
-pub set-root : (ws us : Words) (n : ℕ) (st : TypeState) → Packed ws → n < length (types-of ws) → rep (types-of ws) n ≡ n → Put ws us n (new-node n st) → Becomes us (set (types-of ws) n (new-node n st))
-set-root ws us n st g h r p =
+pub set-root : (ws us : Words) (n : ℕ) (st : TypeState) → Packed ws → n < length (types-of ws) → rep (types-of ws) n ≡ n → size-at (types-of ws) n ≡ 1 → Put ws us n (new-node n st) → Becomes us (set (types-of ws) n (new-node n st))
+set-root ws us n st g h r z p =
     let w = put-node ws us n (new-node n st) h p in
     record {
-      packed = record { long = omega (arith, w .len, g .long); few = omega (arith, w .count, g .few); counted = subst Counted (sym (w .is)) (counted-set (types-of ws) n st h r (g .counted)) };
+      packed = record { long = omega (arith, w .len, g .long); few = omega (arith, w .count, g .few); counted = subst Counted (sym (w .is)) (counted-set (types-of ws) n st h r z (g .counted)) };
       is = w .is;
     }
 

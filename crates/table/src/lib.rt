@@ -16,7 +16,7 @@ ghost use Rattle.rules.specs.Transfer.{type-of-word};
 ghost use Rattle.rules.specs.Answer.{word-of-type};
 ghost use Rattle.table.specs.Reads.{digit};
 ghost use Rattle.rules.specs.Limits.{limit·nodes};
-ghost use Rattle.table.specs.Packing.{table·length, types-of, node-from, with-head, members, Packed, Put, Rewritten, Pushes, Becomes, Roots, Head, Above, TypeWords, up-at, kind-at, inverted-at, id-at};
+ghost use Rattle.table.specs.Packing.{table·length, types-of, node-from, with-head, Packed, Put, Rewritten, Pushes, Becomes, Roots, Head, Above, TypeWords, up-at, kind-at, inverted-at, id-at};
 ghost use Rattle.table.specs.Writes.{triple, last};
 ghost use Rattle.table.specs.Joins.{moved, root-node};
 ghost use Rattle.table.specs.Alike.{Matched, Alike};
@@ -444,11 +444,12 @@ pub fn new_known(ws: &mut [u32], inverted: bool, kind: u32, id: u32, cs: &[u32])
     n
 }
 
-// Makes root n known, and a class of its own.
+// Makes root n, a class of its own, known.
 pub fn set_known(ws: &mut [u32], n: u32, inverted: bool, kind: u32, id: u32, cs: &[u32])
     requires { ⌜ Packed (now ws) ⌝ }
     requires { ⌜ n < length (types-of (now ws)) ⌝ }
     requires { ⌜ rep (types-of (now ws)) n ≡ n ⌝ }
+    requires { ⌜ size-at (types-of (now ws)) n ≡ 1 ⌝ }
     requires { ⌜ kind ≢ 0 ⌝ }
     requires { ⌜ kind < 16 ⌝ }
     requires { ⌜ Above id (length (now cs)) ⌝ }
@@ -550,34 +551,15 @@ fn relabel_class(ws: &mut [u32], lo: u32, t: u32)
     }
 }
 
-// How many nodes have root r.
-fn members_of(ws: &[u32], r: u32) -> u32
-    requires { ⌜ table·length ≤ length (now ws) ⌝ }
-    ensures { λ c. ⌜ c ≡ members (types-of (now (ws .entry))) r ⌝ }
-{
-    let n = wide(count(ws));
-    let mut c = 0;
-    let mut i = 0;
-    while i < n {
-        c += bit_of(ws[NODE * i + HEAD] / 1024 % 256 == r);
-        i += 1;
-    }
-    c
-}
-
-// `relabel_class`, where the root may be the only node of its class: it alone changes then. Counting passes over the nodes faster than relabelling.
+// `relabel_class`, where the root may be the only node of its class: it alone changes then.
 fn relabel_members(ws: &mut [u32], lo: u32, t: u32)
-    requires { ⌜ table·length ≤ length (now ws) ⌝ }
+    requires { ⌜ Packed (now ws) ⌝ }
     requires { ⌜ lo < length (types-of (now ws)) ⌝ }
     requires { ⌜ rep (types-of (now ws)) lo ≡ lo ⌝ }
     requires { ⌜ t < 512 ⌝ }
     ensures { λ _. ⌜ Rewritten (now (ws .entry)) (now (ws .exit)) (map (relabel lo (type-of-word t)) (types-of (now (ws .entry)))) ⌝ }
 {
     if size_of(ws, lo) != 1 {
-        relabel_class(ws, lo, t);
-        return;
-    }
-    if members_of(ws, lo) != 1 {
         relabel_class(ws, lo, t);
         return;
     }

@@ -9,7 +9,7 @@ use lib.ListN.{length, set, take}
 use Rattle.rules.specs.Lists.{Words}
 use Rattle.rules.specs.Limits.{limit·nodes}
 use Rattle.rules.specs.Sheet.{at}
-use Rattle.rules.specs.Types.{Ty, unknown, known, Types, new-node, invert-if, state-at}
+use Rattle.rules.specs.Types.{Ty, unknown, known, Types, new-node, invert-if, state-at, size-at}
 use Rattle.rules.specs.Solutions.{rep}
 use Rattle.rules.specs.Slim.{Slim}
 use Rattle.rules.specs.RootRank.{rank}
@@ -56,6 +56,7 @@ pub record Levels (src : Types) (ts : Words) (k : ℕ) : Type 0 where
 pub record Own (ts : Types) (n : ℕ) : Type 0 where
   pub inside : n < length ts
   pub root : rep ts n ≡ n
+  pub alone : size-at ts n ≡ 1
 
 -- A node that is not unknown.
 pub record Known (ts : Types) (n : ℕ) : Type 0 where
@@ -70,6 +71,7 @@ pub record Alike (src : Types) (n m : ℕ) : Type 0 where
 pub record Keeps (ts us : Types) : Type 0 where
   pub long : length ts ≤ length us
   pub roots : (n : ℕ) → n < length ts → rep us n ≡ rep ts n
+  pub sizes : (n : ℕ) → n < length ts → size-at us n ≡ size-at ts n
 
 -- What root type r stands for as a Param.
 unfoldable pub param-as : Types → Option (List Ty) → Ty → Option Ty

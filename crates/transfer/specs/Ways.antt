@@ -16,7 +16,7 @@ use borrow.Author.Tests.{eq-eqb, ne-eqb}
 use Rattle.rules.specs.Lists.{Words}
 use Rattle.rules.specs.Limits.{limit·nodes}
 use Rattle.rules.specs.Sheet.{at}
-use Rattle.rules.specs.Types.{Ty, TypeState, unknown, known, TypeNode, Types, new-node, node-at, find, state-at}
+use Rattle.rules.specs.Types.{Ty, TypeState, unknown, known, TypeNode, Types, new-node, node-at, find, state-at, size-at}
 use Rattle.rules.specs.Solutions.{rep}
 use Rattle.rules.specs.AcyclicLaws.{children-at}
 use Rattle.rules.specs.Transfer.{Transfer, mapped, transfer-each, transfer-in, type-of-word}
@@ -34,29 +34,37 @@ use Rattle.transfer.specs.Leaves.{type-at, entry-of, entry-none, few-chi
 
 -- Tables that keep their nodes.
 keeps-same : (ts : Types) → Keeps ts ts
-keeps-same ts = record { long = omega arith; roots = λ n h. refl }
+keeps-same ts = record { long = omega arith; roots = λ n h. refl; sizes = λ n h. refl }
 
 keeps-on : (ts us vs : Types) → Keeps ts us → Keeps us vs → Keeps ts vs
-keeps-on ts us vs a b = record { long = le-trans (a .long) (b .long); roots = λ n h. b .roots n (le-trans h (a .long)) ∙ a .roots n h }
+keeps-on ts us vs a b = record { long = le-trans (a .long) (b .long); roots = λ n h. b .roots n (le-trans h (a .long)) ∙ a .roots n h; sizes = λ n h. b .sizes n (le-trans h (a .long)) ∙ a .sizes n h }
 
 rep-of : (ts us : Types) (n m : ℕ) → node-at us n ≡ node-at ts m → rep us n ≡ rep ts m
 unfolding rep
 rep-of ts us n m e = ap (λ (nd : TypeNode). nd .up .1) e
 
+size-of : (ts us : Types) (n m : ℕ) → node-at us n ≡ node-at ts m → size-at us n ≡ size-at ts m
+unfolding size-at
+size-of ts us n m e = ap (λ (nd : TypeNode). nd .size) e
+
 keeps-push : (ts : Types) (nd : TypeNode) → Keeps ts (ts ++ (nd ∷ []))
-keeps-push ts nd = record { long = omega (arith, length-append ts (nd ∷ [])); roots = λ n h. rep-of ts (ts ++ (nd ∷ [])) n n (push-before ts nd n h) }
+keeps-push ts nd = record { long = omega (arith, length-append ts (nd ∷ [])); roots = λ n h. rep-of ts (ts ++ (nd ∷ [])) n n (push-before ts nd n h); sizes = λ n h. size-of ts (ts ++ (nd ∷ [])) n n (push-before ts nd n h) }
 
 own-last : (ts : Types) (st : TypeState) (n : ℕ) → n ≡ length ts → Own (ts ++ (new-node n st ∷ [])) n
-unfolding rep new-node
-own-last ts st n e = record { inside = omega (arith, length-append ts (new-node n st ∷ [])); root = ap (λ (nd : TypeNode). nd .up .1) (push-last ts (new-node n st) n e) }
+unfolding rep size-at new-node
+own-last ts st n e = record { inside = omega (arith, length-append ts (new-node n st ∷ [])); root = ap (λ (nd : TypeNode). nd .up .1) (push-last ts (new-node n st) n e); alone = ap (λ (nd : TypeNode). nd .size) (push-last ts (new-node n st) n e) }
 
 keeps-set : (ts : Types) (n : ℕ) (st : TypeState) → Own ts n → Keeps ts (set ts n (new-node n st))
-unfolding rep new-node
+unfolding rep size-at new-node
 keeps-set ts n st o = record {
   long = omega (arith, length-set ts n (new-node n st));
   roots = λ k h. elim (ℕ-discrete k n) [
     | yes q ↦ ap (λ (nd : TypeNode). nd .up .1) (set-there ts (new-node n st) n k (o .inside) q) ∙ sym (ap (rep ts) q ∙ o .root)
     | no q ↦ rep-of ts (set ts n (new-node n st)) k k (set-beside ts (new-node n st) n k q)
+  ];
+  sizes = λ k h. elim (ℕ-discrete k n) [
+    | yes q ↦ ap (λ (nd : TypeNode). nd .size) (set-there ts (new-node n st) n k (o .inside) q) ∙ sym (ap (size-at ts) q ∙ o .alone)
+    | no q ↦ size-of ts (set ts n (new-node n st)) k k (set-beside ts (new-node n st) n k q)
   ];
 }
 
@@ -208,7 +216,7 @@ read-levels src n cs m k g h d = record {
 }
 
 own-kept : (ts us : Types) (n : ℕ) → Own ts n → Keeps ts us → Own us n
-own-kept ts us n o k = record { inside = omega (arith, o .inside, k .long); root = k .roots n (o .inside) ∙ o .root }
+own-kept ts us n o k = record { inside = omega (arith, o .inside, k .long); root = k .roots n (o .inside) ∙ o .root; alone = k .sizes n (o .inside) ∙ o .alone }
 
 module _ (src : Types) (f : Transfer → List Ty × Transfer) (ws ms us ns cs vs : Words) (m : ℕ) (b : Bool) (a : TransfersAll src f ws ms us ns cs vs m b) where
   pub children-own : (n : ℕ) → Own (types-of ws) n → Own (types-of us) n

@@ -16,26 +16,14 @@ same-length c = search needs
 returns : tie.Need-returns
 returns c = search needs
 
-members-of-requires : tie.Need-members-of-requires
-members-of-requires c κs = search needs
-
-relabel-class-requires-2 : tie.Need-relabel-class-requires-2
-relabel-class-requires-2 c κs = search needs
+relabel-node-requires : tie.Need-relabel-node-requires
+relabel-node-requires c κs = search needs
 
 same-length-2 : tie.Need-same-length-2
 same-length-2 c = search needs
 
 returns-2 : tie.Need-returns-2
-returns-2 c = search needs
-
-relabel-node-requires : tie.Need-relabel-node-requires
-relabel-node-requires c κs = search needs
-
-same-length-3 : tie.Need-same-length-3
-same-length-3 c = search needs
-
-returns-3 : tie.Need-returns-3
-returns-3 c = search (needs, relabel-alone)
+returns-2 c = search (needs, relabel-alone)
 
 pub relabel-members-spec : {M : Type 1} → statement M
 relabel-members-spec =
@@ -45,10 +33,6 @@ relabel-members-spec =
     relabel-class-requires
     same-length
     returns
-    members-of-requires
-    relabel-class-requires-2
-    same-length-2
-    returns-2
     relabel-node-requires
-    same-length-3
-    returns-3)
+    same-length-2
+    returns-2)

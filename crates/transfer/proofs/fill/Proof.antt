@@ -15,7 +15,7 @@ id-of-requires : tie.Need-id-of-requires
 id-of-requires c κs = search needs
 
 set-known-requires : tie.Need-set-known-requires
-set-known-requires c κs = (search needs, (search needs, (search needs, (search (needs, kind-there), (search (needs, kind-low), (search (needs, id-above), (search (needs, alike-few), search needs)))))))
+set-known-requires c κs = (search needs, (search needs, (search needs, (search needs, (search (needs, kind-there), (search (needs, kind-low), (search (needs, id-above), (search (needs, alike-few), search needs))))))))
 
 new-type-requires : tie.Need-new-type-requires
 new-type-requires c κs = search (needs, node-low)
