@@ -416,11 +416,8 @@ module _ (s ws us : Words) (q : ImplType) (i : ℕ) (qs : Queries) (o : Opens s 
     pub opened-tail : Tail (part 6410 us) qs 0
     opened-tail = o .tail full unfit
 
-    pub opened-few : qs .n ≤ 4
-    opened-few = opened-tail .few
-
-    pub opened-part : (d : ℕ) → 41024 * d + 47434 ≤ length ws → 41024 * d + 6410 + 11538 * (qs .n - 0 - 1) ≤ length (part 6410 us)
-    opened-part d h = omega (arith, part-length 6410 us, o .opened .len, opened-few)
+    pub opened-part : (d : ℕ) → 41024 * d + 47434 ≤ length ws → 41024 * d + 41024 ≤ length (part 6410 us)
+    opened-part d h = omega (arith, part-length 6410 us, o .opened .len)
 
     module _ (L cur : ℕ) (ask : Types → ImplType → Run (List Result)) (ys : Words) (asked : Asked) (room : 12820 ≤ length ws) (w : Answers (within (ltb L) (find-subimpls ask (types-of (part 6410 us)) (drop 0 (queries-of qs))) cur) asked ys) (l : length ys ≡ length (part 6410 us)) where
       back : Lent 6410 us ys (putMid 6410 (length us - 6410) us ys)

@@ -3,3 +3,4 @@ pub mod Tails
 pub mod Steps
 pub mod Members
 pub mod Cycle
+pub mod Recalling

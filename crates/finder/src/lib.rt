@@ -7,7 +7,7 @@ ghost use Rattle.rules.specs.Layout.{header·impls};
 ghost use Rattle.rules.specs.Sheet.{at, many};
 ghost use Rattle.rules.specs.Run.{within};
 ghost use Rattle.rules.specs.Search.{find-subimpls, try-candidate, question as question-run};
-ghost use Rattle.table.specs.Packing.{types-of};
+ghost use Rattle.table.specs.Packing.{table·length, types-of, Packed};
 ghost use Rattle.slots.specs.Gathering.{Row};
 ghost use Rattle.slots.specs.Turns.{Answers, Stepped};
 ghost use Rattle.queries.specs.Queries.{query-of, queries-of};
@@ -17,6 +17,7 @@ ghost use Rattle.finder.specs.Steps.{ask-below, candidates-left};
 ghost use Rattle.finder.specs.Tails.{sub-one};
 ghost use Rattle.finder.specs.Members.{CandidateStep, ResultStep};
 ghost use Rattle.finder.specs.Cycle.{ElementAt, Elements, Collects};
+ghost use Rattle.finder.specs.Recalling.{row-of, Counts, SameWords, SameTable, Room, Recalled, Noted, Recall, ToNothing, Keeps, Recalls};
 use queries::Queries;
 use queries::Query;
 use slots::Asked;
@@ -46,6 +47,17 @@ const MARKS: usize = 512;
 const SMALL_SHEET: usize = 320;
 
 const MIDDLE_SHEET: usize = 1280;
+
+// The words of a table's node.
+const NODE: usize = 4;
+
+// Where the steps of noted sub-questions stand: behind their row.
+const STEPS: usize = 25;
+
+// Sub-questions in words.
+struct QueryRow {
+    words: [u32; 25],
+}
 
 // Built-in fork and drop, then the generics' impl parameters, in slices for a sheet of middle size.
 fn begin_middle(
@@ -215,6 +227,149 @@ fn open_one(
     open_wide(sheet, sets, ws, notes, f, q, i)
 }
 
+// Whether the first n words of two slices are the same.
+fn same_words(a: &[u32], b: &[u32], n: usize) -> bool
+    ensures { λ r. ⌜ SameWords (now (a .entry)) (now (b .entry)) n r ⌝ }
+{
+    let mut i = 0;
+    while i < n {
+        if words::word(a, i) != words::word(b, i) {
+            return false;
+        }
+        i += 1;
+    }
+    true
+}
+
+// Whether two tables are the same: the words of the nodes that they have.
+fn same_table(a: &[u32], b: &[u32]) -> bool
+    requires { ⌜ Packed (now a) ⌝ }
+    requires { ⌜ table·length ≤ length (now b) ⌝ }
+    ensures { λ r. ⌜ SameTable (now (a .entry)) (now (b .entry)) r ⌝ }
+{
+    same_words(a, b, NODE * words::wide(table::count(a)) + 1)
+}
+
+// Sub-questions in words: how many, their traits?, how many type words each has, and the places for them.
+fn row_of(qs: Queries) -> QueryRow
+    requires { ⌜ Counts qs ⌝ }
+    ensures { λ r. ⌜ r .words ≡ row-of qs ⌝ }
+{
+    let words = [
+        qs.n as u32,
+        qs.trs[0],
+        qs.trs[1],
+        qs.trs[2],
+        qs.trs[3],
+        qs.counts[0] as u32,
+        qs.counts[1] as u32,
+        qs.counts[2] as u32,
+        qs.counts[3] as u32,
+        qs.args[0],
+        qs.args[1],
+        qs.args[2],
+        qs.args[3],
+        qs.args[4],
+        qs.args[5],
+        qs.args[6],
+        qs.args[7],
+        qs.args[8],
+        qs.args[9],
+        qs.args[10],
+        qs.args[11],
+        qs.args[12],
+        qs.args[13],
+        qs.args[14],
+        qs.args[15],
+    ];
+    QueryRow { words }
+}
+
+// How many steps the noted sub-questions took, if these are they, of the same table, and found nothing; else 0.
+fn recalled(ws: &[u32], last: &[u32], noted: &[u32], row: &[u32]) -> u32
+    requires { ⌜ Packed (now ws) ⌝ }
+    requires { ⌜ Room (now last) (now noted) ⌝ }
+    ensures { λ r. ⌜ Recalled (now (ws .entry)) (now (last .entry)) (now (noted .entry)) (now (row .entry)) r ⌝ }
+{
+    let k = words::word(noted, STEPS);
+    if k == 0 {
+        return 0;
+    }
+    if same_words(row, noted, STEPS) {
+        if same_table(ws, last) {
+            return k;
+        }
+    }
+    0
+}
+
+// Sub-questions that are to be asked are noted, with their table.
+fn note(ws: &[u32], last: &mut [u32; 1025], noted: &mut [u32; 26], row: &[u32; 25])
+    requires { ⌜ Packed (now ws) ⌝ }
+    requires { ⌜ Room (now last) (now noted) ⌝ }
+    requires { ⌜ length (now row) ≡ 25 ⌝ }
+    ensures { λ _. ⌜ Noted (types-of (now (ws .entry))) (now (row .entry)) (now (last .exit)) (now (noted .exit)) ⌝ }
+{
+    table::copy_table(ws, last);
+    words::copy(row, noted, STEPS)
+}
+
+// The steps of sub-questions that are known to find nothing, within the limit; else 0, and they are noted.
+fn recall(
+    ws: &[u32],
+    last: &mut [u32; 1025],
+    noted: &mut [u32; 26],
+    qs: Queries,
+    limit: u32,
+    count: u32,
+) -> u32
+    requires { ⌜ Packed (now ws) ⌝ }
+    requires { ⌜ Counts qs ⌝ }
+    requires { ⌜ Room (now last) (now noted) ⌝ }
+    ensures { λ r. ⌜ Recall (now (ws .entry)) qs limit count (now (last .entry)) (now (noted .entry)) (now (last .exit)) (now (noted .exit)) r ⌝ }
+{
+    let row = row_of(qs);
+    let words = row.words;
+    let k = recalled(ws, last, noted, &words);
+    if 0 < k {
+        if count <= limit {
+            if k <= limit - count {
+                return k;
+            }
+        }
+    }
+    note(ws, last, noted, &words);
+    0
+}
+
+// How many steps it took to find nothing, within the limit; 0 where something was found, or the search was refused.
+fn steps_to_nothing(answer: Asked, limit: u32, count: u32) -> u32
+    ensures { λ r. ⌜ ToNothing answer limit count r ⌝ }
+{
+    match answer {
+        Asked::Refused { number, count } => 0,
+        Asked::Found { count: end, n } => {
+            if n != 0 {
+                return 0;
+            }
+            if limit < end {
+                return 0;
+            }
+            if end <= count {
+                return 0;
+            }
+            end - count
+        }
+    }
+}
+
+// Keeps these steps behind the row.
+fn keep(noted: &mut [u32; 26], answer: Asked, limit: u32, count: u32)
+    ensures { λ _. ⌜ Keeps (now (noted .entry)) (now (noted .exit)) answer limit count ⌝ }
+{
+    noted[STEPS] = steps_to_nothing(answer, limit, count);
+}
+
 // A question, with `depth` levels left for it and what it asks: `_find_impl`.
 pub fn question(
     sheet: &[u32],
@@ -254,7 +409,8 @@ pub fn question(
     }
 }
 
-// The candidates of a question by id: what each gives is added behind the n results that stand. The notes of their tests are lent from one to the next.
+// The candidates of a question by id: what each gives is added behind the n results that stand. The notes of their tests are lent from one to the next,
+// and so are the sub-questions that were asked last, with their table.
 fn candidates(
     sheet: &[u32],
     sets: &[u32],
@@ -283,11 +439,26 @@ fn candidates(
         };
     }
     let mut notes = [0u32; 512];
+    let mut last = [0u32; 1025];
+    let mut noted = [0u32; 26];
     let mut stand = n;
     let mut cur = count;
     let mut id = steps::next_id(sheet, sets, found, 0);
     while id < steps::NONE {
-        let one = candidate(sheet, sets, ws, &mut notes, f, q, id, depth, stand, cur);
+        let one = candidate(
+            sheet,
+            sets,
+            ws,
+            &mut notes,
+            &mut last,
+            &mut noted,
+            f,
+            q,
+            id,
+            depth,
+            stand,
+            cur,
+        );
         match one {
             Asked::Refused { number, count } => {
                 return Asked::Refused { number, count };
@@ -311,6 +482,8 @@ fn candidate(
     sets: &[u32],
     ws: &mut [u32],
     notes: &mut [u32; 512],
+    last: &mut [u32; 1025],
+    noted: &mut [u32; 26],
     f: Finder,
     q: Query,
     i: usize,
@@ -324,7 +497,9 @@ fn candidate(
     requires { ⌜ 41024 * depth + 47434 ≤ length (now ws) ⌝ }
     requires { ⌜ count ≤ 4000000000 ⌝ }
     requires { ⌜ n ≤ 4 ⌝ }
-    ensures { λ r. ⌜ CandidateStep (f .limit) (try-candidate (ask-below depth (finder-of (now (sheet .entry)) f)) (now (sheet .entry)) (types-of (now (ws .entry))) (query-of q) i) n count (now (ws .entry)) r (now (ws .exit)) ⌝ }
+    requires { ⌜ Recalls (ask-below depth (finder-of (now sheet) f)) (now last) (now noted) ⌝ }
+    ensures step { λ r. ⌜ CandidateStep (f .limit) (try-candidate (ask-below depth (finder-of (now (sheet .entry)) f)) (now (sheet .entry)) (types-of (now (ws .entry))) (query-of q) i) n count (now (ws .entry)) r (now (ws .exit)) ⌝ }
+    ensures recalls { λ _. ⌜ Recalls (ask-below depth (finder-of (now (sheet .entry)) f)) (now (last .exit)) (now (noted .exit)) ⌝ }
 {
     let qs = open_one(sheet, sets, ws, notes, f, q, i);
     if qs.n == steps::FULL {
@@ -333,8 +508,41 @@ fn candidate(
     if qs.n == steps::UNFIT {
         return Asked::Found { count, n };
     }
-    let asked = sub_questions(sheet, sets, &mut ws[steps::SUB..], f, qs, 0, depth, count);
+    let part = &mut ws[steps::SUB..];
+    let asked = recall_or_ask(sheet, sets, part, last, noted, f, qs, depth, count);
     slots::settle_wrapped(ws, asked, n, RESULTS, i as u32)
+}
+
+// All sub-questions of a candidate. Where the last candidate's were the same, of the same table, and found nothing, these find nothing either, in as many steps.
+fn recall_or_ask(
+    sheet: &[u32],
+    sets: &[u32],
+    ws: &mut [u32],
+    last: &mut [u32; 1025],
+    noted: &mut [u32; 26],
+    f: Finder,
+    qs: Queries,
+    depth: usize,
+    count: u32,
+) -> Asked
+    requires { ⌜ Searching (now sheet) (now sets) f ⌝ }
+    requires { ⌜ Tail (now ws) qs 0 ⌝ }
+    requires { ⌜ 41024 * depth + 41024 ≤ length (now ws) ⌝ }
+    requires { ⌜ count ≤ 4000000000 ⌝ }
+    requires { ⌜ Recalls (ask-below depth (finder-of (now sheet) f)) (now last) (now noted) ⌝ }
+    ensures answers { λ r. ⌜ Answers (within (ltb (f .limit)) (find-subimpls (ask-below depth (finder-of (now (sheet .entry)) f)) (types-of (now (ws .entry))) (drop 0 (queries-of qs))) count) r (now (ws .exit)) ⌝ }
+    ensures recalls { λ _. ⌜ Recalls (ask-below depth (finder-of (now (sheet .entry)) f)) (now (last .exit)) (now (noted .exit)) ⌝ }
+{
+    let k = recall(ws, last, noted, qs, f.limit, count);
+    if 0 < k {
+        return Asked::Found {
+            count: count + k,
+            n: 0,
+        };
+    }
+    let asked = sub_questions(sheet, sets, ws, f, qs, 0, depth, count);
+    keep(noted, asked, f.limit, count);
+    asked
 }
 
 // Sub-questions from one on, from left to right: `find_subimpls`. The last one's results are those of all.
