@@ -177,10 +177,6 @@ module _ (s ps ws ls qs : Words) (e h b : ℕ) (o : Row) (ks rs : Words) (r c j 
         pub crosses-on : (n : ℕ) → n ≡ at s c → Crosses s ps ws ls qs e h b o is ts u n (j + 1)
         crosses-on n en = crosses-next cells-on n en
 
--- A node has at most eight children where they are told.
-pub own-few : (ws : Words) (n m : ℕ) → ChildTypes ws n (row-at ws n m) → m ≢ 9 → m ≤ 8
-own-few ws n m c z = c .few z
-
 -- The children of a type that has a record and of a type of a node.
 pub across-meets : (s ps ws ls qs : Words) (e x y k j p h i b : ℕ) (o : Row) (ks rs : Words) (r : ℕ) →
     KindOf s ps ws (x / 2) k → k ≢ 0 → 1024 ≤ x / 2 → y / 2 < 256 → j ≡ kind-at (types-of ws) (y / 2) → j ≢ 0 → ChildTypes ws (y / 2) o → o .n ≢ 9 → p ≡ place ps (x / 2) → h ≡ at s (p + 4) → i ≡ h → Bit (sides-across s p ws x y) b → CellsMet s ps ws ls qs e i b o ks rs r → Meets s ps ws ls qs e x y ks rs r

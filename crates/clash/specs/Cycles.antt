@@ -1,23 +1,26 @@
 -- Classes of types that would contain themselves: there are none, for a type is larger than its children.
-use Prim.Native.Nat.{ℕ, zero, suc, _/_, _%_, _<_}
-use mathlib.Core.Path.{_≡_, sym, _∙_, ap}
+use Prim.Native.Nat.{ℕ, zero, suc, _+_, _-_, _/_, _%_, _≤_, _<_}
+use mathlib.Core.Path.{_≡_, sym, _∙_, ap, subst}
 use mathlib.Core.Bool.{Bool, true, false}
+use mathlib.Core.List.{_∷_, map}
 use mathlib.Core.Logic.{_≢_, _⊎_, inl, inr, ⊎-elim}
 use native.Mathlib.Decide.{ℕ-discrete}
+use native.Mathlib.Numerals.{add-one}
 use native.Mathlib.Omega.{arith}
-use lib.ListN.{length, set, replicate, length-set}
-use lib.Seq.{getD-set-same, getD-set-other}
+use lib.ListN.{length, set, drop, replicate, length-set, length-drop}
+use lib.Seq.{getD-set-same, getD-set-other, drop-cons}
 use Rattle.rules.specs.Lists.{Words}
-use Rattle.rules.specs.Sheet.{at}
+use Rattle.rules.specs.Sheet.{at, chain, chain-of}
+use Rattle.rules.specs.Transfer.{cell-types}
 use Rattle.rules.specs.WordLaws.{word-past}
 use Rattle.rules.specs.Pigeonholes.{lt-or}
 use Rattle.rules.specs.SignedTerms.{SignedSol}
-use Rattle.table.specs.declared.Row.{Row}
-use Rattle.refs.specs.Meaning.{means, Records, Meaning}
-use Rattle.refs.specs.Refs.{Alike}
+use Rattle.table.specs.ChildTypes.{ChildTypes, types-at, row-at}
+use Rattle.refs.specs.Meaning.{means, record-types, Records, Meaning}
+use Rattle.refs.specs.Refs.{Alike, KindOf, place, side-of}
 use Rattle.refs.specs.Links.{Linked, Finds}
-use Rattle.refs.specs.Children.{Gathers}
-use Rattle.clash.specs.Sizes.{size, size-same, child-smaller, size-mod}
+use Rattle.refs.specs.Children.{cell-type, cell-types-are, cells-more, gathers-node, over-record}
+use Rattle.clash.specs.Sizes.{size, size-same, over-smaller, child-smaller, size-mod}
 
 -- x is the root of t, along links and by its type parameter.
 pub record Roots (s ps ls : Words) (t x : ℕ) : Type 0 where
@@ -51,6 +54,11 @@ pub record Within (s ps ws ls ms : Words) (t : ℕ) (us : Words) (b : Bool) : Ty
 -- A walk down from the first n of ns.
 pub record Among (s ps ws ls ms : Words) (n : ℕ) (ns us : Words) (b : Bool) : Type 0 where
   pub cycle : b ≡ true → (m : SignedSol) → Meaning s ps ws m → Linked s m ls → ((j : ℕ) → j < n → Below m ms (at ns j)) → ⊥
+  pub kept : b ≡ false → Kept ms us
+
+-- A walk down from what is smaller than ref r.
+pub record Inside (s ps ws ls ms : Words) (r : ℕ) (us : Words) (b : Bool) : Type 0 where
+  pub cycle : b ≡ true → (m : SignedSol) → Meaning s ps ws m → Linked s m ls → ((t : ℕ) → size m (t / 2) < size m r → Below m ms t) → ⊥
   pub kept : b ≡ false → Kept ms us
 
 not-false : true ≡ false → ⊥
@@ -90,20 +98,17 @@ within-open s ps ws ls ms t x k r e q = record {
 }
 
 -- Its root x is opened.
-module _ (s ps ws ls ms : Words) (t x : ℕ) (o : Row) (r : Roots s ps ls t x) (g : Gathers s ps ws (x / 2) o) (z : o .n ≢ 9) (ns : Words) (en : ns ≡ set ms (x / 2 % 2048) 1) (us : Words) (b : Bool) (a : Among s ps ws ls ns (o .n) (o .types) us b) where
-  children-below : (m : SignedSol) → Meaning s ps ws m → Linked s m ls → Below m ms t → (j : ℕ) → j < o .n → Below m ns (at (o .types) j)
-  children-below m w l c j h = record { less = λ y e. one y (newly ms (x / 2 % 2048) 1 (y % 2048) (sym (ap (λ (us′ : Words). at us′ (y % 2048)) en) ∙ e)) }
+module _ (s ps ws ls ms : Words) (t x : ℕ) (r : Roots s ps ls t x) (ns : Words) (en : ns ≡ set ms (x / 2 % 2048) 1) (us : Words) (b : Bool) (a : Inside s ps ws ls ns (x / 2) us b) where
+  smaller-below : (m : SignedSol) → Meaning s ps ws m → Linked s m ls → Below m ms t → (u : ℕ) → size m (u / 2) < size m (x / 2) → Below m ns u
+  smaller-below m w l c u small = record { less = λ y e. one y (newly ms (x / 2 % 2048) 1 (y % 2048) (sym (ap (λ (us′ : Words). at us′ (y % 2048)) en) ∙ e)) }
     where
-      small : size m (at (o .types) j / 2) < size m (x / 2)
-      small = child-smaller s ps ws m (x / 2) o g z w j h
-
-      one : (y : ℕ) → ((y % 2048 ≡ x / 2 % 2048) × (_≡_ {A = ℕ} 1 1)) ⊎ ((y % 2048 ≢ x / 2 % 2048) × (at ms (y % 2048) ≡ 1)) → size m (at (o .types) j / 2) < size m y
+      one : (y : ℕ) → ((y % 2048 ≡ x / 2 % 2048) × (_≡_ {A = ℕ} 1 1)) ⊎ ((y % 2048 ≢ x / 2 % 2048) × (at ms (y % 2048) ≡ 1)) → size m (u / 2) < size m y
       one y (inl p) = omega (arith, small, size-mod m y (x / 2) (p .0))
       one y (inr p) = omega (arith, small, c .less y (p .1), size-same s m t x (r .same m (w .records) l))
 
   pub within-found : b ≡ true → Within s ps ws ls ms t us true
   within-found e = record {
-    cycle = λ y m w l c. a .cycle e m w l (children-below m w l c);
+    cycle = λ y m w l c. a .cycle e m w l (smaller-below m w l c);
     kept = λ y. absurd (not-false y);
   }
 
@@ -126,14 +131,89 @@ module _ (s ps ws ls ms : Words) (n : ℕ) (xs ns : Words) (k : Kept ms ns) wher
   pub among-end : Among s ps ws ls ms n xs ns false
   among-end = record { cycle = λ e. absurd (not-true e); kept = λ e. k }
 
-  pub among-found : (j : ℕ) (us : Words) (b : Bool) → j < n → Within s ps ws ls ns (at xs j) us b → b ≡ true → Among s ps ws ls ms n xs us true
-  among-found j us b h w e = record {
-    cycle = λ y m v l c. w .cycle e m v l (kept-below m ms ns (at xs j) k (c j h));
+  pub among-found : (j t : ℕ) (us : Words) (b : Bool) → t ≡ at xs j → j < n → Within s ps ws ls ns t us b → b ≡ true → Among s ps ws ls ms n xs us true
+  among-found j t us b et h w e = record {
+    cycle = λ y m v l c. w .cycle e m v l (kept-below m ms ns t k (subst (Below m ms) (sym et) (c j h)));
     kept = λ y. absurd (not-false y);
   }
 
 pub kept-on : (s ps ws ls ms ns : Words) (t : ℕ) (us : Words) (b : Bool) → Kept ms ns → Within s ps ws ls ns t us b → b ≡ false → Kept ms us
 kept-on s ps ws ls ms ns t us b k w e = record { was = λ y q. k .was y (w .kept e .was y q) }
+
+-- One that was walked is marked as done.
+pub kept-marked : (s ps ws ls ms ns : Words) (t : ℕ) (us : Words) (b : Bool) (vs : Words) → Kept ms ns → Within s ps ws ls ns t us b → b ≡ false → vs ≡ set us (t / 2 % 2048) 2 → Kept ms vs
+kept-marked s ps ws ls ms ns t us b vs k w e ev = record { was = λ y q. one y (newly us (t / 2 % 2048) 2 y (sym (ap (λ (us′ : Words). at us′ y) ev) ∙ q)) }
+  where
+    one : (y : ℕ) → ((y ≡ t / 2 % 2048) × (_≡_ {A = ℕ} 2 1)) ⊎ ((y ≢ t / 2 % 2048) × (at us y ≡ 1)) → at ms y ≡ 1
+    one y (inl p) = absurd (let q = p .1 in omega arith)
+    one y (inr p) = kept-on s ps ws ls ms ns t us b k w e .was y (p .1)
+
+-- j cells of the chain from h are passed, and it goes on at c.
+pub record Passes (s : Words) (h : ℕ) (ms ns : Words) (c j : ℕ) : Type 0 where
+  pub kept : Kept ms ns
+  pub few : j ≤ 8
+  pub fuel : 8 ≤ length s
+  pub rest : drop j (record-types s h) ≡ map (cell-type s) (chain-of (length s - j) s c)
+
+pub passes-start : (s : Words) (h : ℕ) (ms : Words) → 8 ≤ length s → Passes s h ms ms h 0
+unfolding cell-types chain
+passes-start s h ms l = record {
+  kept = kept-same ms;
+  few = omega arith;
+  fuel = l;
+  rest = cell-types-are s (chain s h) ∙ ap (λ k. map (cell-type s) (chain-of k s h)) (let z : length s ≡ length s - 0 = omega arith in z);
+}
+
+module _ (s ps ws ls : Words) (h : ℕ) (ms ns : Words) (c j : ℕ) (k : Passes s h ms ns c j) where
+  pub passes-end : Among s ps ws ls ms (length (record-types s h)) (record-types s h) ns false
+  passes-end = among-end s ps ws ls ms (length (record-types s h)) (record-types s h) ns (k .kept)
+
+  module _ (z : c ≢ 0) (y : j ≢ 8) where
+    more : drop j (record-types s h) ≡ cell-type s c ∷ map (cell-type s) (chain-of (length s - (j + 1)) s (at s c))
+    more = k .rest ∙ ap (map (cell-type s)) (cells-more s j c (omega (arith, k .few, k .fuel)) z)
+
+    inside : j < length (record-types s h)
+    inside = omega (arith, length-drop j (record-types s h), ap length more)
+
+    on : (us : Words) (n : ℕ) → Kept ms us → n ≡ at s c → Passes s h ms us n (j + 1)
+    on us n d en = record {
+      kept = d;
+      few = omega (arith, k .few);
+      fuel = k .fuel;
+      rest =
+          ap (λ i. drop i (record-types s h)) (add-one j)
+          ∙ ap (drop 1) (sym (drop-cons (record-types s h) j 0 inside) ∙ more)
+          ∙ ap (λ i. map (cell-type s) (chain-of (length s - (j + 1)) s i)) (sym en);
+    }
+
+    -- The next was walked before,
+    pub passes-over : (n : ℕ) → n ≡ at s c → Passes s h ms ns n (j + 1)
+    passes-over n en = on ns n (k .kept) en
+
+    -- or is walked now.
+    module _ (v x : ℕ) (us : Words) (b : Bool) (ev : v ≡ at s (c + 1)) (ex : x ≡ 2048 + v % 2048) (w : Within s ps ws ls ns x us b) where
+      pub passes-on : (vs : Words) (n : ℕ) → b ≡ false → vs ≡ set us (x / 2 % 2048) 2 → n ≡ at s c → Passes s h ms vs n (j + 1)
+      passes-on vs n e q en = on vs n (kept-marked s ps ws ls ms ns x us b vs (k .kept) w e q) en
+
+      pub passes-found : b ≡ true → Among s ps ws ls ms (length (record-types s h)) (record-types s h) us true
+      passes-found e = among-found s ps ws ls ms (length (record-types s h)) (record-types s h) ns (k .kept) j x us b
+          (ex ∙ ap (λ i. 2048 + i % 2048) ev ∙ sym (ap (λ (l : Words). at l 0) (sym (drop-cons (record-types s h) j 0 inside) ∙ more))) inside w e
+
+-- The children of a ref are smaller.
+pub inside-not : (s ps ws ls ms : Words) (r : ℕ) → Inside s ps ws ls ms r ms false
+inside-not s ps ws ls ms r = record { cycle = λ e. absurd (not-true e); kept = λ e. kept-same ms }
+
+pub inside-node : (s ps ws ls ms : Words) (r k n : ℕ) (us : Words) (b : Bool) → KindOf s ps ws r k → k ≢ 0 → r < 256 → ChildTypes ws r (row-at ws r n) → n ≢ 9 → Among s ps ws ls ms n (types-at ws r) us b → Inside s ps ws ls ms r us b
+inside-node s ps ws ls ms r k n us b e z h t d a = record {
+  cycle = λ y m w l c. a .cycle y m w l (λ j o. c (at (types-at ws r) j) (child-smaller s ps ws m r (row-at ws r n) (gathers-node s ps ws r k (row-at ws r n) e z h t) d w j o));
+  kept = a .kept;
+}
+
+pub inside-record : (s ps ws ls ms : Words) (r k p h i : ℕ) (us : Words) (b : Bool) → KindOf s ps ws r k → k ≢ 0 → 256 ≤ r → p ≡ place ps r → h ≡ at s (p + 4) → i ≡ h → Among s ps ws ls ms (length (record-types s i)) (record-types s i) us b → Inside s ps ws ls ms r us b
+inside-record s ps ws ls ms r k p h i us b e z g ep eh ei a = record {
+  cycle = λ y m w l c. a .cycle y m w l (λ j o. c (at (record-types s i) j) (over-smaller s m r (side-of s ps ws r) (record-types s i) (over-record s ps ws m r k p h i w e z g ep eh ei) j o));
+  kept = a .kept;
+}
 
 -- true: nothing gives meanings in which links are true.
 pub record Cyclic (s ps ws ls : Words) (b : Bool) : Type 0 where

@@ -14,7 +14,7 @@ use Rattle.rules.specs.SignedTerms.{Signed, svar, scon, snil, scons, SignedSol,
 use Rattle.table.specs.declared.Row.{Row}
 use Rattle.refs.specs.Meaning.{odd, means, row, Meaning}
 use Rattle.refs.specs.Refs.{side-of}
-use Rattle.refs.specs.Children.{Gathers}
+use Rattle.refs.specs.Children.{Over, Gathers}
 
 unfoldable pub signed-size : Signed → ℕ
 signed-size (svar n b) = 0
@@ -72,17 +72,16 @@ row-larger s m [] j h = absurd (not-suc-le-zero h)
 row-larger s m (t ∷ ts) zero h = omega (arith, means-size s m t)
 row-larger s m (t ∷ ts) (suc j) h = omega (arith, row-larger s m ts j (le-of-suc-le-suc h))
 
-pub child-smaller : (s ps ws : Words) (m : SignedSol) (r : ℕ) (o : Row) → Gathers s ps ws r o → o .n ≢ 9 → Meaning s ps ws m → (j : ℕ) → j < o .n → size m (at (o .types) j / 2) < size m r
+pub over-smaller : (s : Words) (m : SignedSol) (r : ℕ) (i : Bool) (ts : Words) → Over s (m (r % 2048)) i (row s m ts) → (j : ℕ) → j < length ts → size m (at ts j / 2) < size m r
 unfolding size
-child-smaller s ps ws m r o g z w j h =
-    let c = g .are z m w in
-    let ts = take (o .n) (o .types) in
-    omega (
-      arith,
-      ap signed-size (c .is) ∙ made-size s (side-of s ps ws r) (c .kind) (c .id) (row s m ts),
-      row-larger s m ts j (omega (arith, length-take-le (o .n) (o .types) (g .long z))),
-      ap (λ t. size m (t / 2)) (getD-take (o .n) (o .types) j 0 h),
-    )
+over-smaller s m r i ts c j h = omega (arith, ap signed-size (c .is) ∙ made-size s i (c .kind) (c .id) (row s m ts), row-larger s m ts j h)
+
+pub child-smaller : (s ps ws : Words) (m : SignedSol) (r : ℕ) (o : Row) → Gathers s ps ws r o → o .n ≢ 9 → Meaning s ps ws m → (j : ℕ) → j < o .n → size m (at (o .types) j / 2) < size m r
+child-smaller s ps ws m r o g z w j h = omega (
+  arith,
+  over-smaller s m r (side-of s ps ws r) (take (o .n) (o .types)) (g .are z m w) j (omega (arith, length-take-le (o .n) (o .types) (g .long z))),
+  ap (λ t. size m (t / 2)) (getD-take (o .n) (o .types) j 0 h),
+)
 
 -- Refs are read modulo 2048.
 pub size-mod : (m : SignedSol) (a b : ℕ) → a % 2048 ≡ b % 2048 → size m a ≡ size m b

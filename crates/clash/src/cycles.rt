@@ -3,19 +3,25 @@
 // Types whose walk is done are noted, and passed over for later candidates of the same question.
 ghost use mathlib.Core.Path.{_≡_};
 ghost use Prim.Native.Nat.{_+_, _*_, _/_, _%_, _<_, _≤_};
-ghost use lib.ListN.{set};
+ghost use mathlib.Core.Logic.{_≢_};
+ghost use lib.ListN.{set, length};
 ghost use Rattle.rules.specs.Sheet.{at};
 ghost use Rattle.table.specs.Packing.{Packed};
-ghost use Rattle.clash.specs.Cycles.{Roots, Within, Among, Cycling, Cyclic};
+ghost use Rattle.table.specs.ChildTypes.{types-at};
+ghost use Rattle.refs.specs.Meaning.{record-types};
+ghost use Rattle.refs.specs.Refs.{KindOf};
+ghost use Rattle.clash.specs.Cycles.{Roots, Within, Inside, Among, Cycling, Cyclic};
 use crate::note_mask;
 use crate::noted;
 use crate::place_or_node;
+use chart::layout;
+use refs::NODES;
 use refs::UNTOLD;
-use refs::children;
 use refs::find;
 use refs::kind;
+use refs::own_type;
 use refs::parameter;
-use table::Row;
+use refs::place_of;
 
 const OPEN: u32 = 1;
 
@@ -93,19 +99,57 @@ fn within(
     if is_walked(places, notes, x) {
         return false;
     }
-    let row = children(sheet, places, ws, x / 2);
-    if row.n == UNTOLD {
+    let j = kind(sheet, places, ws, x / 2);
+    if j == 0 {
         return false;
     }
     mark(marks, x / 2, OPEN);
-    if among(sheet, places, ws, links, marks, notes, row, left - 1) {
+    if below(sheet, places, ws, links, marks, notes, x / 2, j, left - 1) {
         return true;
     }
     finish(places, marks, notes, x);
     false
 }
 
-// Whether one of a row is.
+// Whether a class of a child of ref r, which has kind k, is.
+fn below(
+    sheet: &[u32],
+    places: &[u32],
+    ws: &[u32],
+    links: &[u32; 2048],
+    marks: &mut [u32; 2048],
+    notes: &mut [u32; 512],
+    r: u32,
+    k: u32,
+    left: usize,
+) -> bool
+    requires { ⌜ Packed (now ws) ⌝ }
+    requires { ⌜ KindOf (now sheet) (now places) (now ws) r k ⌝ }
+    requires { ⌜ k ≢ 0 ⌝ }
+    ensures { λ b. ⌜ Inside (now (sheet .entry)) (now (places .entry)) (now (ws .entry)) (now (links .entry)) (now (marks .entry)) r (now (marks .exit)) b ⌝ }
+{
+    if r < NODES {
+        let n = table::own_children(ws, r);
+        if n == UNTOLD {
+            return false;
+        }
+        return among(sheet, places, ws, links, marks, notes, r, n, left);
+    }
+    let p = place_of(places, r);
+    let head = words::offset(sheet, p, layout::NODE_CHILDREN);
+    among_cells(
+        sheet,
+        places,
+        ws,
+        links,
+        marks,
+        notes,
+        words::wide(head),
+        left,
+    )
+}
+
+// Whether one of the n children of node r is. Most have been walked; a child is marked as done itself, beside its root.
 fn among(
     sheet: &[u32],
     places: &[u32],
@@ -113,19 +157,61 @@ fn among(
     links: &[u32; 2048],
     marks: &mut [u32; 2048],
     notes: &mut [u32; 512],
-    row: Row,
+    r: u32,
+    n: usize,
     left: usize,
 ) -> bool
     requires { ⌜ Packed (now ws) ⌝ }
-    requires { ⌜ row .n ≤ 8 ⌝ }
-    ensures { λ r. ⌜ Among (now (sheet .entry)) (now (places .entry)) (now (ws .entry)) (now (links .entry)) (now (marks .entry)) (row .n) (row .types) (now (marks .exit)) r ⌝ }
+    requires { ⌜ r < 256 ⌝ }
+    requires { ⌜ n ≤ 8 ⌝ }
+    ensures { λ b. ⌜ Among (now (sheet .entry)) (now (places .entry)) (now (ws .entry)) (now (links .entry)) (now (marks .entry)) n (types-at (now (ws .entry)) r) (now (marks .exit)) b ⌝ }
 {
     let mut j: usize = 0;
-    while j < row.n {
-        if within(sheet, places, ws, links, marks, notes, row.types[j], left) {
-            return true;
-        }
+    while j < n {
+        let t = table::child_type(ws, r, j);
         j += 1;
+        if mark_of(marks, t / 2) != DONE {
+            if within(sheet, places, ws, links, marks, notes, t, left) {
+                return true;
+            }
+            mark(marks, t / 2, DONE);
+        }
+    }
+    false
+}
+
+// Whether one of the first eight types in the cells from a head is.
+fn among_cells(
+    sheet: &[u32],
+    places: &[u32],
+    ws: &[u32],
+    links: &[u32; 2048],
+    marks: &mut [u32; 2048],
+    notes: &mut [u32; 512],
+    head: usize,
+    left: usize,
+) -> bool
+    requires { ⌜ Packed (now ws) ⌝ }
+    ensures { λ b. ⌜ Among (now (sheet .entry)) (now (places .entry)) (now (ws .entry)) (now (links .entry)) (now (marks .entry)) (length (record-types (now (sheet .entry)) head)) (record-types (now (sheet .entry)) head) (now (marks .exit)) b ⌝ }
+{
+    if sheet.len() < 8 {
+        return false;
+    }
+    let mut c = head;
+    let mut j: usize = 0;
+    while c != 0 {
+        if j == 8 {
+            return false;
+        }
+        let t = own_type(words::offset(sheet, c, layout::CELL_TYPE));
+        c = words::next(sheet, c);
+        j += 1;
+        if mark_of(marks, t / 2) != DONE {
+            if within(sheet, places, ws, links, marks, notes, t, left) {
+                return true;
+            }
+            mark(marks, t / 2, DONE);
+        }
     }
     false
 }

@@ -10,7 +10,7 @@ use native.Mathlib.Omega.{arith}
 use lib.Dec.{T, eqb, eqb→eq, ltb, ltb→lt}
 use lib.ListN.{length, take, set}
 use lib.Seq.{getD-set-other}
-use borrow.Author.Tests.{lt-ltb, le-ltb, eqb-true}
+use borrow.Author.Tests.{lt-ltb, le-ltb, eqb-true, eq-eqb}
 use Rattle.rules.specs.Lists.{Words}
 use Rattle.rules.specs.Sheet.{at}
 use Rattle.rules.specs.Types.{Ty, invert-if, find}
@@ -136,6 +136,13 @@ alike-both ls x y ks is a b k z j = record { fixed = fixed-on ls ks is (k .fixed
     one e js f =
         let o : at is (x % 2048) ≡ b = sym (j .is) ∙ eqb-true a b e in
         f .kept (x % 2048) (λ q. z (sym o ∙ q)) ∙ o ∙ k .is ∙ sym (fixed-on ks is js (j .fixed) f .kept (y % 2048) (λ q. z (k .is ∙ q)))
+
+-- One label is read, and is b, or is set to b.
+pub alike-read : (ls : Words) (x y : ℕ) (ks : Words) (w a b : ℕ) → Labelled ls y ks b → b ≢ 0 → w ≡ x % 2048 → a ≡ at ks w → a ≡ b → RefsAlike ls x y ks true
+alike-read ls x y ks w a b k z e q o = subst (RefsAlike ls x y ks) (eq-eqb a b o) (alike-both ls x y ks ks a b k z (labelled-there ks x w a e q))
+
+pub alike-set : (ls : Words) (x y : ℕ) (ks : Words) (w a b v : ℕ) → Labelled ls y ks b → b ≢ 0 → w ≡ x % 2048 → a ≡ at ks w → a ≡ 0 → v ≡ at (set ks w b) w → RefsAlike ls x y (set ks w b) (eqb v b)
+alike-set ls x y ks w a b v k z e q o t = alike-both ls x y ks (set ks w b) v b k z (labelled-set ks x w a b v e q o t)
 
 -- The children of a ref, as a row, where they are told.
 pub record Kids (s ps ws : Words) (r : ℕ) (o : Row) : Type 0 where

@@ -14,18 +14,15 @@ use Rattle.rules.specs.Lists.{Words}
 use Rattle.rules.specs.Sheet.{at, chain, chain-of}
 use Rattle.rules.specs.Transfer.{cell-types}
 use Rattle.table.specs.declared.Row.{Row}
-use Rattle.table.specs.ChildTypes.{ChildTypes}
+use Rattle.table.specs.ChildTypes.{ChildTypes, row-at, types-at-length}
 use Rattle.refs.specs.Meaning.{record-types}
 use Rattle.refs.specs.Refs.{place}
 use Rattle.refs.specs.Children.{cell-type, cell-types-are, cells-none, cells-more}
 use Rattle.loose.specs.Loose.{held, labelled, kids-low, kids-high, Fixed, fixed-same, fixed-on, RefsAlike, SameKids}
 
--- A row that is told has at most eight types.
-pub row-few : (ws : Words) (n : ℕ) (o : Row) → ChildTypes ws n o → o .n ≢ 9 → o .n ≤ 8
-row-few ws n o c z = c .few z
-
-pub row-long : (ws : Words) (n : ℕ) (o : Row) → ChildTypes ws n o → o .n ≢ 9 → o .n ≤ length (o .types)
-row-long ws n o c z = c .long z
+-- A node has at most eight children where they are told.
+pub own-few : (ws : Words) (n m : ℕ) → ChildTypes ws n (row-at ws n m) → m ≢ 9 → m ≤ 8
+own-few ws n m c z = c .few z
 
 -- true: the cells from h are labelled as the types of a row, and stay so.
 pub record CellsAlike (s ls : Words) (h : ℕ) (o : Row) (ks : Words) (b : Bool) : Type 0 where
@@ -40,12 +37,12 @@ pub record Beside (s ls : Words) (h : ℕ) (o : Row) (ks : Words) (c j : ℕ) : 
   pub fuel : o .n < length s
   pub rest : (js : Words) → Fixed ks js → labelled js (map (cell-type s) (chain-of (length s - j) s c)) ≡ labelled js (drop j (take (o .n) (o .types))) → labelled js (record-types s h) ≡ labelled js (take (o .n) (o .types))
 
-pub beside-start : (s ls : Words) (h : ℕ) (o : Row) → 8 < length s → o .n ≤ 8 → o .n ≤ length (o .types) → Beside s ls h o ls h 0
+pub beside-start : (s ws ls : Words) (h z n : ℕ) → 8 < length s → n ≤ 8 → Beside s ls h (row-at ws z n) ls h 0
 unfolding cell-types chain
-beside-start s ls h o f n l = record {
+beside-start s ws ls h z n f l = record {
   fixed = fixed-same ls;
   few = omega arith;
-  long = l;
+  long = omega (arith, types-at-length ws z);
   fuel = omega arith;
   rest = λ js g e. ap (labelled js) (cell-types-are s (chain s h)) ∙ ap (λ k. labelled js (map (cell-type s) (chain-of k s h))) (let z : length s ≡ length s - 0 = omega arith in z) ∙ e;
 }
@@ -72,9 +69,9 @@ module _ (s ls : Words) (h : ℕ) (o : Row) (ks : Words) (c j : ℕ) (k : Beside
         k .rest js f (ap (λ (xs : Words). labelled js (map (cell-type s) xs)) (cells-none s (length s - j) c z) ∙ sym (ap (labelled js) (drop-of-length-le (take (o .n) (o .types)) {i = j} (omega (arith, count, e)))));
   }
 
-  pub beside-on : (v x y n : ℕ) (is : Words) (b : Bool) → c ≢ 0 → j < o .n → RefsAlike ks (x / 2) (y / 2) is b → not b ≡ false → x ≡ 2048 + v % 2048 → v ≡ at s (c + 1) → y ≡ at (o .types) j → n ≡ at s c → Beside s ls h o is n (j + 1)
+  pub beside-on : (v x y n : ℕ) (is : Words) (b : Bool) → c ≢ 0 → j ≢ o .n → RefsAlike ks (x / 2) (y / 2) is b → not b ≡ false → x ≡ 2048 + v % 2048 → v ≡ at s (c + 1) → y ≡ at (o .types) j → n ≡ at s c → Beside s ls h o is n (j + 1)
   unfolding labelled
-  beside-on v x y n is b z l a t ex ev ey en = record {
+  beside-on v x y n is b z d a t ex ev ey en = let l : j < o .n = omega (arith, k .few) in record {
     fixed = fixed-on ls ks is (k .fixed) (a .fixed);
     few = omega arith;
     long = k .long;

@@ -6,6 +6,7 @@ ghost use Prim.Native.Nat.{_+_, _%_, _<_, _≤_};
 ghost use lib.ListN.{length};
 ghost use Rattle.rules.specs.Sheet.{at};
 ghost use Rattle.table.specs.Packing.{Packed};
+ghost use Rattle.table.specs.ChildTypes.{row-at};
 ghost use Rattle.loose.specs.LooseAcross.{CellsAlike};
 ghost use Rattle.loose.specs.Loose.{Labelled, RefsAlike, turned-round, Kids, SameLabels, SameKids, Closes, Owns, NodeCloses, NodesClose, RecordCloses, RecordsClose, ArgsSame, Labels, Opposite, Witness, Opposed};
 use chart::layout;
@@ -50,8 +51,16 @@ fn same_label(labels: &mut [u32; 2048], x: u32, y: u32) -> bool
     if b == 0 {
         return false;
     }
-    let a = label(labels, x, b);
-    a == b
+    let i = words::wide(x % 2048);
+    let a = labels[i];
+    if a == b {
+        return true;
+    }
+    if a != 0 {
+        return false;
+    }
+    labels[i] = b;
+    labels[i] == b
 }
 
 // Labels n refs from one on by their roots.
@@ -62,7 +71,12 @@ fn label_from(links: &[u32; 2048], labels: &mut [u32; 2048], from: u32, n: u32)
     while k < n {
         let r = from + k;
         k += 1;
-        labels[words::wide(r % 2048)] = find(links, 2 * r) / 2 % 2048 + 1;
+        let i = words::wide(r % 2048);
+        if links[i] == 0 {
+            labels[i] = r + 1;
+        } else {
+            labels[i] = find(links, 2 * r) / 2 % 2048 + 1;
+        }
     }
 }
 
@@ -118,28 +132,42 @@ fn same_labels(labels: &mut [u32; 2048], xs: Row, ys: Row) -> bool
     true
 }
 
-// Whether the types in the cells from a head are labelled as those of a row, as many.
-fn same_cells(sheet: &[u32], labels: &mut [u32; 2048], head: usize, ys: Row) -> bool
+// Whether the types in the cells from a head are labelled as the n children of node z. The loop has a constant bound, so that it is unrolled.
+fn same_cells(
+    sheet: &[u32],
+    ws: &[u32],
+    labels: &mut [u32; 2048],
+    head: usize,
+    z: u32,
+    n: usize,
+) -> bool
+    requires { ⌜ Packed (now ws) ⌝ }
     requires { ⌜ 8 < length (now sheet) ⌝ }
-    requires { ⌜ ys .n ≤ 8 ⌝ }
-    requires { ⌜ ys .n ≤ length (ys .types) ⌝ }
-    ensures { λ r. ⌜ CellsAlike (now (sheet .entry)) (now (labels .entry)) head ys (now (labels .exit)) r ⌝ }
+    requires { ⌜ z < 256 ⌝ }
+    requires { ⌜ n ≤ 8 ⌝ }
+    ensures { λ r. ⌜ CellsAlike (now (sheet .entry)) (now (labels .entry)) head (row-at (now (ws .entry)) z n) (now (labels .exit)) r ⌝ }
 {
     let mut c = head;
     let mut j: usize = 0;
-    while c != 0 {
-        if j >= ys.n {
+    while j < 8 {
+        if c == 0 {
+            return j == n;
+        }
+        if j == n {
             return false;
         }
         let x = own_type(words::offset(sheet, c, layout::CELL_TYPE));
-        let y = ys.types[j];
+        let y = table::child_type(ws, z, j);
         if !same_label(labels, x / 2, y / 2) {
             return false;
         }
         c = words::next(sheet, c);
         j += 1;
     }
-    j == ys.n
+    if c != 0 {
+        return false;
+    }
+    j == n
 }
 
 // Whether the children of a ref that has a record and of a node are labelled alike.
@@ -162,13 +190,13 @@ fn same_across(
     if table::kind_of(ws, z) == 0 {
         return false;
     }
-    let ys = table::child_types(ws, z);
-    if ys.n == UNTOLD {
+    let n = table::own_children(ws, z);
+    if n == UNTOLD {
         return false;
     }
     let p = place_of(places, a);
     let head = words::offset(sheet, p, layout::NODE_CHILDREN);
-    same_cells(sheet, labels, words::wide(head), ys)
+    same_cells(sheet, ws, labels, words::wide(head), z, n)
 }
 
 // Whether the children of two refs, whichever they are, are labelled alike.
@@ -268,10 +296,10 @@ fn node_closed(
     requires { ⌜ r < 2048 ⌝ }
     ensures { λ b. ⌜ NodeCloses (now (sheet .entry)) (now (places .entry)) (now (ws .entry)) (now (labels .entry)) l r (now (labels .exit)) b ⌝ }
 {
-    if table::kind_of(ws, r) == 0 {
+    if is_own(labels, l, r) {
         return true;
     }
-    if is_own(labels, l, r) {
+    if table::kind_of(ws, r) == 0 {
         return true;
     }
     is_closed(sheet, places, ws, labels, l, r)

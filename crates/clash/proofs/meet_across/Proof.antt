@@ -1,5 +1,6 @@
 -- `meet_across`: the cells of the one and the children of the other.
-use Rattle.clash.specs.Across.{own-few, across-meets}
+use Rattle.loose.specs.LooseAcross.{own-few}
+use Rattle.clash.specs.Across.{across-meets}
 use borrow.Author.Needs.{needs}
 use Rattle.clash.proofs.meet_across.Statement.{statement}
 use Rattle.clash.proofs.meet_across.Tie as tie

@@ -19,17 +19,17 @@ add-r c = search needs
 add-k : tie.Need-add-k Inv-loop μ-loop
 add-k c = search needs
 
-mul-find : tie.Need-mul-find Inv-loop μ-loop
-mul-find c = search needs
+wide-requires : tie.Need-wide-requires Inv-loop μ-loop
+wide-requires c κs = search needs
 
-find-requires : tie.Need-find-requires Inv-loop μ-loop
-find-requires c κs = search needs
+mul-if1 : tie.Need-mul-if1 Inv-loop μ-loop
+mul-if1 c = search needs
+
+element-copy-out-if1 : tie.Need-element-copy-out-if1 Inv-loop μ-loop
+element-copy-out-if1 c = search needs
 
 add-labels : tie.Need-add-labels Inv-loop μ-loop
 add-labels c = search needs
-
-wide-requires : tie.Need-wide-requires Inv-loop μ-loop
-wide-requires c κs = search needs
 
 mul-labels : tie.Need-mul-labels Inv-loop μ-loop
 mul-labels c = search needs
@@ -43,6 +43,27 @@ loop-less c = search needs
 loop-again : tie.Need-loop-again Inv-loop μ-loop
 loop-again c = tt
 
+mul-find : tie.Need-mul-find Inv-loop μ-loop
+mul-find c = search needs
+
+find-requires : tie.Need-find-requires Inv-loop μ-loop
+find-requires c κs = search needs
+
+add-labels-2 : tie.Need-add-labels-2 Inv-loop μ-loop
+add-labels-2 c = search needs
+
+mul-labels-2 : tie.Need-mul-labels-2 Inv-loop μ-loop
+mul-labels-2 c = search needs
+
+element-write-labels-2 : tie.Need-element-write-labels-2 Inv-loop μ-loop
+element-write-labels-2 c = search needs
+
+loop-less-2 : tie.Need-loop-less-2 Inv-loop μ-loop
+loop-less-2 c = search needs
+
+loop-again-2 : tie.Need-loop-again-2 Inv-loop μ-loop
+loop-again-2 c = tt
+
 returns : tie.Need-returns Inv-loop μ-loop
 returns c = search needs
 
@@ -55,12 +76,19 @@ label-from-spec =
     loop-holds
     add-r
     add-k
-    mul-find
-    find-requires
-    add-labels
     wide-requires
+    mul-if1
+    element-copy-out-if1
+    add-labels
     mul-labels
     element-write-labels
     loop-less
     loop-again
+    mul-find
+    find-requires
+    add-labels-2
+    mul-labels-2
+    element-write-labels-2
+    loop-less-2
+    loop-again-2
     returns)

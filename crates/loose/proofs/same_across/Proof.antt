@@ -1,6 +1,6 @@
--- `same_across`: the cells of the record, the row of the node.
+-- `same_across`: the cells of the record, the children of the node.
 use Rattle.loose.specs.Loose.{kids-not}
-use Rattle.loose.specs.LooseAcross.{row-few, row-long, across-same}
+use Rattle.loose.specs.LooseAcross.{own-few, across-same}
 use borrow.Author.Needs.{needs}
 use Rattle.loose.proofs.same_across.Statement.{statement}
 use Rattle.loose.proofs.same_across.Tie as tie
@@ -14,8 +14,8 @@ kind-of-requires c κs = search needs
 returns-2 : tie.Need-returns-2
 returns-2 c = search (needs, kids-not)
 
-child-types-requires : tie.Need-child-types-requires
-child-types-requires c κs = search needs
+own-children-requires : tie.Need-own-children-requires
+own-children-requires c κs = search needs
 
 returns-3 : tie.Need-returns-3
 returns-3 c = search (needs, kids-not)
@@ -30,7 +30,7 @@ wide-requires : tie.Need-wide-requires
 wide-requires c κs = search needs
 
 same-cells-requires : tie.Need-same-cells-requires
-same-cells-requires c κs = (search needs, (search (needs, row-few), search (needs, row-long)))
+same-cells-requires c κs = (search needs, (search needs, (search needs, search (needs, own-few))))
 
 returns-4 : tie.Need-returns-4
 returns-4 c = search (needs, across-same)
@@ -42,7 +42,7 @@ same-across-spec =
     returns
     kind-of-requires
     returns-2
-    child-types-requires
+    own-children-requires
     returns-3
     place-of-requires
     offset-requires
