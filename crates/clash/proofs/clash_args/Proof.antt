@@ -10,9 +10,6 @@ meet-args-requires c κs = search needs
 returns : tie.Need-returns
 returns c = search (needs, clashing-args)
 
-element-write-notes : tie.Need-element-write-notes
-element-write-notes c = search needs
-
 run-requires : tie.Need-run-requires
 run-requires c κs = search needs
 
@@ -37,7 +34,6 @@ clash-args-spec =
     (tie.spec
     meet-args-requires
     returns
-    element-write-notes
     run-requires
     returns-2
     noted-opposed-requires
