@@ -59,7 +59,7 @@ fn walk_key(places: &[u32], x: u32) -> u32 {
 }
 
 // Whether a walk below a type is noted as done.
-fn is_walked(places: &[u32], notes: &[u32; 512], x: u32) -> bool {
+fn is_walked(places: &[u32], notes: &mut [u32; 512], x: u32) -> bool {
     noted(notes, walk_key(places, x)) == 0
 }
 

@@ -6,7 +6,8 @@
 // which children of the pair in hand were met, and which are to be, and last 1 and an unknown that met its own inverse (`loose`).
 // `notes` has pairs that were met for an earlier candidate of the same question, each with the children that are to be met for a later one, as bits: none where the pair was worked off with no unknown linked meanwhile, so that it is passed over,
 // and otherwise those that were not linked to each other already. Walks are noted too: a type below which `cycles` found nothing is passed over by later walks.
-// Whatever the notes hold, a clash that is found is one, as what is passed over says nothing; but a clash may be missed by them.
+// Whatever the notes hold, a clash that is found is one, as what is passed over says nothing;
+// but a clash may be missed by them. So once a candidate for which one was used did not unify, the next are tested without notes, as long as that finds a clash.
 ghost use mathlib.Core.Path.{_≡_};
 ghost use Prim.Native.Nat.{_+_, _-_, _*_, _/_, _%_, _<_, _≤_};
 ghost use mathlib.Core.Logic.{_≢_};
@@ -76,6 +77,14 @@ const VISITED: u32 = 16777216;
 
 // The key of a pair or walk noted stands at its place, itself modulo 251; the children that are to be met stand so many words behind it.
 const MASKS: usize = 251;
+
+// These words of the notes say whether one was used for the last candidate tested, and whether none is to be used.
+const USED: usize = 510;
+
+const OFF: usize = 511;
+
+// What the last word is where notes are used whatever comes.
+const BLAMELESS: u32 = 2;
 
 // The word of the queue that notes an unknown that met its own inverse.
 const NOTED: usize = 516;
@@ -811,12 +820,16 @@ fn note_place(key: u32) -> usize
     words::wide(key % 251)
 }
 
-// Which children of the pair of a key are to be met: all where it is not noted.
-fn noted(notes: &[u32; 512], key: u32) -> u32 {
+// Which children of the pair of a key are to be met: all where it is not noted, or notes may not be used. That one was used is kept.
+fn noted(notes: &mut [u32; 512], key: u32) -> u32 {
+    if notes[OFF] == 1 {
+        return ALL;
+    }
     let at = note_place(key);
     if notes[at] != key {
         return ALL;
     }
+    notes[USED] = 1;
     notes[at + MASKS]
 }
 
@@ -988,6 +1001,7 @@ fn clash_args(
     if n == CLASH {
         return true;
     }
+    notes[USED] = 0;
     if run(sheet, places, ws, &mut links, &mut queue, notes, n) {
         return true;
     }
@@ -1116,6 +1130,17 @@ fn impl_place(sheet: &[u32], i: usize) -> usize
 {
     let head = words::next(sheet, layout::IMPLS);
     words::place(sheet, head, i)
+}
+
+// A candidate that was tested did not unify all the same: if a note was used, none is for the next; if none was to be used, notes are not to blame, and are used from now on.
+pub fn missed(notes: &mut [u32; 512]) {
+    if notes[OFF] != 0 {
+        notes[OFF] = BLAMELESS;
+        return;
+    }
+    if notes[USED] != 0 {
+        notes[OFF] = 1;
+    }
 }
 
 // Whether candidate i, whose signature takes n nodes, and question q clash. The places of the nodes of its signature's table are written to `places`.

@@ -451,7 +451,7 @@ fn open_copy(
     open_part(sheet, &mut ws[SUB..], places, map, q, i)
 }
 
-// Opens a candidate behind slot 4: the table there is that of its sub-questions. One that clashes with the question is found unfit before that.
+// Opens a candidate behind slot 4: the table there is that of its sub-questions. One that clashes with the question is found unfit before that. One that is found unfit only by the copy is told to the notes.
 pub fn open_candidate(
     sheet: &[u32],
     sets: &[u32],
@@ -475,7 +475,11 @@ pub fn open_candidate(
     if clash::clashes(sheet, ws, places, notes, q, i, takes) {
         return no_questions(UNFIT);
     }
-    open_copy(sheet, ws, places, map, f, q, i)
+    let qs = open_copy(sheet, ws, places, map, f, q, i);
+    if qs.n == UNFIT {
+        clash::missed(notes);
+    }
+    qs
 }
 
 // `find_impl_candidates` for a question.

@@ -10,6 +10,9 @@ meet-args-requires c κs = search needs
 returns : tie.Need-returns
 returns c = search (needs, clashing-args)
 
+element-write-notes : tie.Need-element-write-notes
+element-write-notes c = search needs
+
 run-requires : tie.Need-run-requires
 run-requires c κs = search needs
 
@@ -34,6 +37,7 @@ clash-args-spec =
     (tie.spec
     meet-args-requires
     returns
+    element-write-notes
     run-requires
     returns-2
     noted-opposed-requires

@@ -1,4 +1,4 @@
--- `open_candidate`: a clash, or a copy is opened.
+-- `open_candidate`: a clash, or a copy is opened, and a miss is told.
 use Rattle.steps.specs.Asking.{scratch-kept}
 use Rattle.steps.specs.Behind.{sound-sheet}
 use Rattle.steps.specs.Candidate.{signature-read, opens-clash}
@@ -27,6 +27,9 @@ returns c = search (needs, opens-clash)
 open-copy-requires : tie.Need-open-copy-requires
 open-copy-requires c κs = (search needs, (search (needs, scratch-kept), (search needs, (search needs, search needs))))
 
+missed-requires : tie.Need-missed-requires
+missed-requires c κs = search needs
+
 same-length-3 : tie.Need-same-length-3
 same-length-3 c = search needs
 
@@ -39,6 +42,18 @@ same-length-5 c = search needs
 returns-2 : tie.Need-returns-2
 returns-2 c = search needs
 
+same-length-6 : tie.Need-same-length-6
+same-length-6 c = search needs
+
+same-length-7 : tie.Need-same-length-7
+same-length-7 c = search needs
+
+same-length-8 : tie.Need-same-length-8
+same-length-8 c = search needs
+
+returns-3 : tie.Need-returns-3
+returns-3 c = search needs
+
 pub open-candidate-spec : {M : Type 1} → statement M
 open-candidate-spec =
     tie.close
@@ -50,7 +65,12 @@ open-candidate-spec =
     same-length-2
     returns
     open-copy-requires
+    missed-requires
     same-length-3
     same-length-4
     same-length-5
-    returns-2)
+    returns-2
+    same-length-6
+    same-length-7
+    same-length-8
+    returns-3)
