@@ -303,6 +303,16 @@ fn meetings() -> Vec<(&'static str, Search)> {
   ]
 }
 
+/// The searches of impl calls that spend all steps, every question another, and whether the test before a candidate is opened
+/// finds what fails in them.
+pub fn impl_searches() -> Vec<(Worst, bool)> {
+  let worst = |(name, search): (&str, Search)| {
+    let call = Search { tagged: true, ..search }.call();
+    (Worst { part: "search, impl", name: name.into(), call }, search.meeting.is_found())
+  };
+  meetings().into_iter().map(worst).collect()
+}
+
 /// Results, and searches that spend all steps, by part.
 pub fn searches() -> Vec<Worst> {
   let name = "four to each of three sub-questions".into();

@@ -180,21 +180,30 @@ pub fn table(levels: usize) -> bool {
   slow + wrong == 0
 }
 
-/// Whether the searches of impl calls that spend all steps end, each within five times the time that an input may take. Without
-/// the test before a candidate is opened most of them take longer.
+/// Whether the searches of impl calls that spend all steps end, each within five times the time that an input may take; and whether
+/// the test before a candidate is opened does what it is for: those in which it finds what fails take at most half of what those
+/// take in which every candidate is opened.
 pub fn searches_end() -> bool {
-  let all = adversary::searches();
-  let searches: Vec<_> = all.iter().filter(|worst| worst.part == "search, impl").collect();
+  let timed: Vec<_> = adversary::impl_searches()
+    .into_iter()
+    .map(|(worst, found)| (timed(&worst.call, Side::Port, 5 * IN_TIME), worst.name, found))
+    .collect();
+  let opened = timed.iter().filter(|(_, _, found)| !found);
+  let opened = opened.filter_map(|(took, ..)| took.map(|took| took.time)).min();
+  let most =
+    |found| if found { opened.map_or(Duration::ZERO, |time| time / 2) } else { 5 * IN_TIME };
   let mut ended = 0;
-  for worst in &searches {
-    match timed(&worst.call, Side::Port, 5 * IN_TIME) {
-      Some(took) if took.count > rust::STEPS_LIMIT => ended += 1,
-      Some(took) => println!("{}: number {}, {} steps", worst.name, took.number, took.count),
-      None => println!("{}: not in {:?}", worst.name, 5 * IN_TIME),
+  for (took, name, found) in &timed {
+    match took {
+      Some(took) if took.count > rust::STEPS_LIMIT && took.time <= most(*found) => ended += 1,
+      Some(took) => {
+        println!("{name}: number {}, {} steps, {:?}", took.number, took.count, took.time)
+      }
+      None => println!("{name}: not in {:?}", 5 * IN_TIME),
     }
   }
-  println!("{ended} of {} searches that spend all steps have ended in time", searches.len());
-  ended == searches.len()
+  println!("{ended} of {} searches that spend all steps have ended in time", timed.len());
+  ended == timed.len()
 }
 
 fn print_row(worst: &Worst, port: Option<Took>) {

@@ -62,6 +62,13 @@ pub enum Meeting {
   Hidden,
 }
 
+impl Meeting {
+  /// Whether the test before a candidate is opened finds that it fails.
+  pub fn is_found(self) -> bool {
+    !matches!(self, Meeting::Later | Meeting::Defaults | Meeting::Twice)
+  }
+}
+
 /// A search in which `branch` candidates of a question ask a sub-question, to so many levels, and all others fail in the last
 /// argument, after the first two have met with success.
 #[derive(Debug, Clone, Copy)]
