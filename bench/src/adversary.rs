@@ -303,7 +303,13 @@ fn meetings() -> Vec<(&'static str, Search)> {
   ]
 }
 
-/// The searches of impl calls that spend all steps, every question another, and whether the test before a candidate is opened
+/// The slowest search known: what the test before a candidate is opened does not find, and what is slow to open.
+fn slowest() -> (&'static str, Search) {
+  let name = "84 unknowns meet a type of 100 nodes, and Defaults inverted";
+  (name, Search { meeting: Meeting::Bindings, dense: 100, links: 12, ..Search::default() })
+}
+
+/// The searches of impl calls that spend all steps, every question another, but for the slowest, and whether the test before a candidate is opened
 /// finds what fails in them.
 pub fn impl_searches() -> Vec<(Worst, bool)> {
   let worst = |(name, search): (&str, Search)| {
@@ -324,7 +330,7 @@ pub fn searches() -> Vec<Worst> {
     ("search, flex", true, steps, true),
     ("search, the same", false, steps, false),
   ] {
-    for (name, search) in meetings() {
+    for (name, search) in meetings().into_iter().chain([slowest()]) {
       // The enum round the arguments takes nodes too: eight fewer have room.
       let dense = if flex { search.dense.saturating_sub(8).max(1) } else { search.dense };
       let call = Search { flex, levels, tagged, dense, ..search }.call();

@@ -58,6 +58,8 @@ pub enum Meeting {
   Defaults,
   /// Two types of one shape, and two Defaults that have to be the same and meet inverted before.
   Twice,
+  /// As `Unknowns`, and two Defaults that meet inverted.
+  Bindings,
   /// Two types of one shape that differ in what a parameter at the bottom is bound to; for a first candidate they do not.
   Hidden,
 }
@@ -65,7 +67,7 @@ pub enum Meeting {
 impl Meeting {
   /// Whether the test before a candidate is opened finds that it fails.
   pub fn is_found(self) -> bool {
-    !matches!(self, Meeting::Later | Meeting::Defaults | Meeting::Twice)
+    !matches!(self, Meeting::Later | Meeting::Defaults | Meeting::Twice | Meeting::Bindings)
   }
 }
 
@@ -260,6 +262,7 @@ impl Search {
       | Meeting::Defaults
       | Meeting::Twice
       | Meeting::Hidden
+      | Meeting::Bindings
       | Meeting::Within => {
         return self.failing_before(impl_, key as usize == self.branch + self.found);
       }
@@ -306,6 +309,12 @@ impl Search {
         [self.dense(table), table.add(kind::TUPLE, 0, &[opposed, opposed + 1])]
       }
       Meeting::Defaults => [self.dense(table), table.add(kind::DEFAULT, 0, &[]) + 1],
+      Meeting::Bindings => {
+        let dense = table.add(0, 0, &[]);
+        let links = links(table, self.links, |table| [(); 7].map(|()| table.add(0, 0, &[])));
+        let own = table.add(kind::DEFAULT, 0, &[]);
+        [dense, table.add(kind::TUPLE, 0, &[links, own + 1])]
+      }
       Meeting::Twice => {
         let own = table.add(kind::DEFAULT, 0, &[]);
         [self.dense(table), table.add(kind::TUPLE, 0, &[own + 1, own])]
@@ -385,6 +394,11 @@ impl Search {
     };
     let met = match self.meeting {
       Meeting::Unknowns | Meeting::Inverse => links(table, self.links, |_| [dense; 7]),
+      Meeting::Bindings => {
+        let links = links(table, self.links, |_| [dense; 7]);
+        let own = table.add(kind::DEFAULT, 0, &[]);
+        table.add(kind::TUPLE, 0, &[links, own])
+      }
       Meeting::Unlike => dense,
       Meeting::Bound => table.add(kind::NEVER, 0, &[]),
       Meeting::Mirrored => table.add(kind::ENUM, 0, &[]),
@@ -491,7 +505,7 @@ pub fn random(rng: &mut Rng) -> Search {
   let meeting = rng.pick(&[
     Nothing, Import, Alike, Bottom, Errors, Bound, Mirrored, Within, Turned, Brought, Unknowns,
     Inverse, Unlike, Opposed, Chain, Over, Copies, Brothers, Deep, Late, Later, Defaults, Twice,
-    Hidden,
+    Hidden, Bindings,
   ]);
   let of_structs = rng.chance(50);
   let filler = rng.range(0, 400);
@@ -508,7 +522,7 @@ pub fn random(rng: &mut Rng) -> Search {
       _ => rng.range(1, 120),
     },
     links: match meeting {
-      Unknowns => rng.range(1, 14),
+      Unknowns | Bindings => rng.range(1, 14),
       Copies | Brothers => 1,
       _ => rng.range(1, 60),
     },
