@@ -1,3 +1,4 @@
 pub mod Stage
 pub mod Mirror
 pub mod Following
+pub mod Meeting

@@ -84,9 +84,10 @@ module _ (s ps ws : Words) (st : Stage s ps ws) where
     unfolding stands
     link-find x u v l e z ev =
         let o = k .link (x / 2) l (λ q. z (e ∙ q)) in
-        let w : (u - 1) / 2 ≡ v / 2 = ap (λ j. j / 2) refl ∙ (let y : (u - 1) / 2 ≡ turn x (u - 1) / 2 = omega arith in y) ∙ ap (λ j. j / 2) (sym ev) in
-        (subst (Sound s ps ws st) (ap (λ j. (j - 1) / 2) (sym e) ∙ w) (o .0),
-        find-invert ts (odd x) (st .to (x / 2)) ∙ ap (invert-if (odd x)) (o .1 ∙ ap (λ j. find ts (stands (st .to) (j - 1))) (sym e)) ∙ sym (find-invert ts (odd x) (stands (st .to) (u - 1))) ∙ ap (find ts) (sym (stands-turn (st .to) x (u - 1)) ∙ ap (stands (st .to)) (sym ev)))
+        let w : (u - 1) / 2 ≡ v / 2 = ap (λ j. j / 2) refl ∙ (let y : (u - 1) / 2 ≡ turn x (u - 1) / 2 = omega arith in y) ∙ ap (λ j. j / 2) (sym ev) in (
+          subst (Sound s ps ws st) (ap (λ j. (j - 1) / 2) (sym e) ∙ w) (o .0),
+          find-invert ts (odd x) (st .to (x / 2)) ∙ ap (invert-if (odd x)) (o .1 ∙ ap (λ j. find ts (stands (st .to) (j - 1))) (sym e)) ∙ sym (find-invert ts (odd x) (stands (st .to) (u - 1))) ∙ ap (find ts) (sym (stands-turn (st .to) x (u - 1)) ∙ ap (stands (st .to)) (sym ev)),
+        )
 
 -- What a type that is found to be t is found to be, once root lo is hung under root hi.
 unfoldable shifted : Ty → Ty → Ty → Ty
@@ -137,7 +138,7 @@ module _ (ts : Types) (lo hi : Ty) (hlo : lo .1 < length ts) (hhi : hi .1 < leng
   unfolding size-at
   hang-sizes n h d = ap (λ (nd : TypeNode). nd .size) (hung-off ts lo hi n h d) ∙ moved-size (node-at ts n)
 
-odd-turn : (b t : ℕ) → odd (turn b t) ≡ xor (odd b) (odd t)
+pub odd-turn : (b t : ℕ) → odd (turn b t) ≡ xor (odd b) (odd t)
 unfolding odd
 odd-turn b t = ap (λ k. eqb k 1) (let z : turn b t % 2 ≡ (b + t) % 2 = omega arith in z) ∙ sym (odd-sum b t)
 
@@ -165,6 +166,11 @@ pub record Hung (m : Words) (lo hi n : ℕ) (bare : Bool) (m′ : Words) : Type 
   pub from : bare ≡ true → at m′ (4096 + hi / 2) ≡ turn hi (turn lo (source m (lo / 2))) % 4096 + 1
   pub kept : bare ≡ false → at m′ (4096 + hi / 2) ≡ at m (4096 + hi / 2)
   pub froms : (r : ℕ) → r < 2048 → r ≢ hi / 2 → at m′ (4096 + r) ≡ at m (4096 + r)
+
+-- A root's state is unknown where bare says so, and known elsewhere.
+pub record Bare (s ps ws : Words) (st : Stage s ps ws) (ts : Types) (x : ℕ) (bare : Bool) : Type 0 where
+  pub yes : bare ≡ true → state-at ts ((st .to (x / 2)) .1) ≡ unknown
+  pub no : bare ≡ false → state-at ts ((st .to (x / 2)) .1) ≢ unknown
 
 -- Two roots by the notes.
 pub record TwoRoots (s ps ws : Words) (st : Stage s ps ws) (m : Words) (x y : ℕ) : Type 0 where
@@ -347,15 +353,16 @@ module _ (s ps ws : Words) (st : Stage s ps ws) (m : Words) (ts : Types) (k : Mi
         let ref : f / 2 ≡ sl / 2 = turned-ref hi (turn lo sl) ∙ turned-ref lo sl in
         let low : f % 4096 ≡ f = low-word f (subst (λ j. j < 2048) (sym ref) (st .low (sl / 2) (v .0 .live))) in
         let w : at m′ (4096 + hi / 2) ≡ f + 1 = g .from e ∙ ap (λ j. j + 1) low in
-        let q : source m′ (hi / 2) ≡ f = source-other m′ (hi / 2) (λ y. let z : f + 1 ≡ 0 = sym w ∙ y in omega (arith, z)) ∙ (let z : at m′ (4096 + hi / 2) - 1 ≡ f = omega (arith, w) in z) in
-        (subst (Sound s ps ws st) (sym (ap (λ j. j / 2) q ∙ ref)) (v .0),
-        top-state
-        ∙ or-unknown (state-at ts h₁) _ (is-bare e)
-        ∙ ap (invert-state (xor (odd hi) (odd lo))) (v .1)
-        ∙ invert-state-twice (xor (odd hi) (odd lo)) (odd sl) _
-        ∙ ap (λ j. invert-state j (state-at (st .table) ((st .to (sl / 2)) .1))) (sym (odd-turn hi (turn lo sl) ∙ ap (xor (odd hi)) (odd-turn lo sl) ∙ xor-assoc (odd hi) (odd lo) (odd sl)))
-        ∙ ap (λ j. invert-state (odd f) (state-at (st .table) ((st .to j) .1))) (sym ref)
-        ∙ ap (λ j. invert-state (odd j) (state-at (st .table) ((st .to (j / 2)) .1))) (sym q))
+        let q : source m′ (hi / 2) ≡ f = source-other m′ (hi / 2) (λ y. let z : f + 1 ≡ 0 = sym w ∙ y in omega (arith, z)) ∙ (let z : at m′ (4096 + hi / 2) - 1 ≡ f = omega (arith, w) in z) in (
+          subst (Sound s ps ws st) (sym (ap (λ j. j / 2) q ∙ ref)) (v .0),
+          top-state
+              ∙ or-unknown (state-at ts h₁) _ (is-bare e)
+              ∙ ap (invert-state (xor (odd hi) (odd lo))) (v .1)
+              ∙ invert-state-twice (xor (odd hi) (odd lo)) (odd sl) _
+              ∙ ap (λ j. invert-state j (state-at (st .table) ((st .to (sl / 2)) .1))) (sym (odd-turn hi (turn lo sl) ∙ ap (xor (odd hi)) (odd-turn lo sl) ∙ xor-assoc (odd hi) (odd lo) (odd sl)))
+              ∙ ap (λ j. invert-state (odd f) (state-at (st .table) ((st .to j) .1))) (sym ref)
+              ∙ ap (λ j. invert-state (odd j) (state-at (st .table) ((st .to (j / 2)) .1))) (sym q),
+        )
 
     hung-state : (r : ℕ) → Sound s ps ws st r → at m′ r ≡ 0 → Stated m′ us r
     unfolding Stated
@@ -377,11 +384,6 @@ module _ (s ps ws : Words) (st : Stage s ps ws) (m : Words) (ts : Types) (k : Mi
     unfolding Stated
     mirror-hang = record { long = g .long; len = hung-length ts (odd lo, l₁) (odd hi, h₁) ∙ k .len; follow = hung-follow; link = hung-link; root = hung-root; size = hung-size; state = hung-state }
 
-  -- A root's state is unknown where bare says so, and known elsewhere.
-  pub record Bare (x : ℕ) (bare : Bool) : Type 0 where
-    pub yes : bare ≡ true → state-at ts ((st .to (x / 2)) .1) ≡ unknown
-    pub no : bare ≡ false → state-at ts ((st .to (x / 2)) .1) ≢ unknown
-
   module _ (x y a b : ℕ) (o : TwoRoots s ps ws st m x y) (ea : a ≡ size-at ts ((st .to (x / 2)) .1)) (eb : b ≡ size-at ts ((st .to (y / 2)) .1)) (bare : Bool) (m′ : Words) where
     other : TwoRoots s ps ws st m y x
     other = record { left = o .right; right = o .left; left-root = o .right-root; right-root = o .left-root; apart = λ e. o .apart (sym e) }
@@ -397,11 +399,11 @@ module _ (s ps ws : Words) (st : Stage s ps ws) (m : Words) (ts : Types) (k : Mi
     sizes = ap₂ (λ (t u : Ty). ltb (size-at ts (u .1)) (size-at ts (t .1))) at-x at-y ∙ ap₂ ltb (sym eb) (sym ea)
 
     -- The larger class is x's: y is hung under it.
-    pub mirror-left : b < a → Bare x bare → Hung m y x b bare m′ → Mirror s ps ws st m′ (join ts (stands (st .to) x) (stands (st .to) y))
+    pub mirror-left : b < a → Bare s ps ws st ts x bare → Hung m y x b bare m′ → Mirror s ps ws st m′ (join ts (stands (st .to) x) (stands (st .to) y))
     unfolding join
     mirror-left l v g = rw (sizes ∙ lt-ltb b a l, join) (subst (Mirror s ps ws st m′) (ap₂ (hang ts) (sym at-y) (sym at-x)) (mirror-hang y x b bare m′ other g eb (v .yes) (v .no)))
 
     -- It is not.
-    pub mirror-right : a ≤ b → Bare y bare → Hung m x y a bare m′ → Mirror s ps ws st m′ (join ts (stands (st .to) x) (stands (st .to) y))
+    pub mirror-right : a ≤ b → Bare s ps ws st ts y bare → Hung m x y a bare m′ → Mirror s ps ws st m′ (join ts (stands (st .to) x) (stands (st .to) y))
     unfolding join
     mirror-right l v g = rw (sizes ∙ le-ltb b a l, join) (subst (Mirror s ps ws st m′) (ap₂ (hang ts) (sym at-x) (sym at-y)) (mirror-hang x y a bare m′ o g ea (v .yes) (v .no)))
