@@ -2,3 +2,4 @@ pub mod Stage
 pub mod Mirror
 pub mod Following
 pub mod Meeting
+pub mod Words

@@ -1,5 +1,5 @@
 -- A table by what is noted of its classes at refs: links to roots, what was added to a class's size, and where a root has its state from. What a join does to the table is done to the notes.
--- Three times 2,048 words. Of ref r: at r 0, or one more than the type that the ref is; 2,048 behind it what was added to the size of its class; another 2,048 behind that 0, or one more than the type of which it has its state.
+-- Four times 2,048 words. Of ref r: at r 0, or one more than the type that the ref is; 2,048 behind it what was added to the size of its class; another 2,048 behind that 0, or one more than the type of which it has its state; and behind those a mark, which says nothing of the table.
 use Prim.Native.Nat.{ℕ, suc, _+_, _-_, _*_, _/_, _%_, _≤_, _<_}
 use mathlib.Core.Path.{_≡_, refl, sym, _∙_, ap, ap₂, subst}
 use mathlib.Core.Bool.{Bool, true, false}
@@ -41,7 +41,7 @@ pub record Sound (s ps ws : Words) (st : Stage s ps ws) (r : ℕ) : Type 0 where
 
 -- The notes m are those of table ts.
 pub record Mirror (s ps ws : Words) (st : Stage s ps ws) (m : Words) (ts : Types) : Type 0 where
-  pub long : length m ≡ 6144
+  pub long : length m ≡ 8192
   pub len : length ts ≡ length (st .table)
   pub follow : (n : ℕ) → n < length (st .table) → (node-at ts n) .up ≡ invert-if ((node-at (st .table) n) .up .0) ((node-at ts (rep (st .table) n)) .up)
   pub link : (r : ℕ) → st .live r ≡ true → at m r ≢ 0 → Sound s ps ws st ((at m r - 1) / 2) × (find ts (st .to r) ≡ find ts (stands (st .to) (at m r - 1)))
@@ -158,7 +158,7 @@ or-unknown u v e = ap (λ x. or-else x v) e
 
 -- The notes m′ are m with root lo, whose class has n nodes, hung under root hi; bare: the state of hi is lo's.
 pub record Hung (m : Words) (lo hi n : ℕ) (bare : Bool) (m′ : Words) : Type 0 where
-  pub long : length m′ ≡ 6144
+  pub long : length m′ ≡ 8192
   pub link : at m′ (lo / 2) ≡ turn lo hi % 4096 + 1
   pub links : (r : ℕ) → r < 2048 → r ≢ lo / 2 → at m′ r ≡ at m r
   pub gain : at m′ (2048 + hi / 2) ≡ at m (2048 + hi / 2) + n

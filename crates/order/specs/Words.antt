@@ -1,0 +1,108 @@
+-- What the test reads, by its words: roots along links, what refs are, and their children.
+use Prim.Native.Nat.{ℕ, zero, suc, _+_, _-_, _*_, _/_, _%_, _≤_, _<_}
+use mathlib.Core.Path.{_≡_, refl, sym, _∙_, ap, ap₂, subst}
+use mathlib.Core.Bool.{Bool, true, false}
+use mathlib.Core.List.{List, [], _∷_, map}
+use mathlib.Core.Logic.{_≢_, ⊎-elim}
+use native.Mathlib.Omega.{arith}
+use lib.Dec.{eqb, ltb}
+use lib.ListN.{length, take}
+use borrow.Author.Tests.{lt-ltb, le-ltb}
+use Rattle.rules.specs.Lists.{Words}
+use Rattle.rules.specs.Sheet.{at}
+use Rattle.rules.specs.Types.{Ty, Types, xor, invert-if, find, size-at}
+use Rattle.rules.specs.Pigeonholes.{lt-or}
+use Rattle.table.specs.declared.Row.{Row}
+use Rattle.table.specs.Packing.{types-of, kind-at, id-at}
+use Rattle.table.specs.ChildTypes.{ChildTypes}
+use Rattle.refs.specs.Meaning.{odd, turn, record-side, node-types, record-types}
+use Rattle.refs.specs.Refs.{place, Bit, IdOf}
+use Rattle.refs.specs.Children.{Cells}
+use Rattle.order.specs.Stage.{stands, Plain, Stage, kind-word, id-word, kids, base, stands-turn, invert-twice}
+use Rattle.order.specs.Mirror.{source, Sound, Mirror, link-find, root-find}
+
+-- x is found along links from t.
+pub record Leads (m : Words) (t x : ℕ) : Type 0 where
+  pub at : (s ps ws : Words) (st : Stage s ps ws) (ts : Types) → Mirror s ps ws st m ts → Sound s ps ws st (t / 2) → Sound s ps ws st (x / 2) × (find ts (stands (st .to) t) ≡ find ts (stands (st .to) x))
+
+-- It is a root.
+pub record Found (m : Words) (t x : ℕ) : Type 0 where
+  pub at : (s ps ws : Words) (st : Stage s ps ws) (ts : Types) → Mirror s ps ws st m ts → Sound s ps ws st (t / 2) → Sound s ps ws st (x / 2) × (at m (x / 2) ≡ 0) × (find ts (stands (st .to) t) ≡ stands (st .to) x)
+
+-- The root of any type that came.
+pub record Roots (s ps m : Words) (t x : ℕ) : Type 0 where
+  pub at : (ws : Words) (st : Stage s ps ws) (ts : Types) → Mirror s ps ws st m ts → st .live (t / 2) ≡ true → Sound s ps ws st (x / 2) × (at m (x / 2) ≡ 0) × (find ts (stands (st .to) t) ≡ stands (st .to) x)
+
+pub leads-same : (m : Words) (t : ℕ) → Leads m t t
+leads-same m t = record { at = λ s ps ws st ts k o. (o, refl) }
+
+low-ref : (r : ℕ) → r < 2048 → r % 2048 ≡ r
+low-ref r h = omega arith
+
+pub leads-up : (m : Words) (t x w u v : ℕ) → Leads m t x → w ≡ x / 2 % 2048 → u ≡ at m w → u ≢ 0 → v ≡ turn (x % 2) (u - 1) → Leads m t v
+leads-up m t x w u v f e q z ev = record {
+  at = λ s ps ws st ts k o.
+      let a = f .at s ps ws st ts k o in
+      let b = link-find s ps ws st m ts k x u v (a .0 .live) (q ∙ ap (at m) (e ∙ low-ref (x / 2) (st .low (x / 2) (a .0 .live)))) z (ev ∙ (let y : turn (x % 2) (u - 1) ≡ turn x (u - 1) = omega arith in y)) in
+      (b .0, a .1 ∙ b .1);
+}
+
+pub found-root : (m : Words) (t x w u : ℕ) → Leads m t x → w ≡ x / 2 % 2048 → u ≡ at m w → u ≡ 0 → x < 4096 → Found m t x
+found-root m t x w u f e q z h = record {
+  at = λ s ps ws st ts k o.
+      let a = f .at s ps ws st ts k o in
+      let r : at m (x / 2) ≡ 0 = sym (q ∙ ap (at m) (e ∙ low-ref (x / 2) (st .low (x / 2) (a .0 .live)))) ∙ z in
+      (a .0, r, a .1 ∙ root-find s ps ws st m ts k x (a .0) r);
+}
+
+pub found-lost : (m : Words) (t : ℕ) → 8192 < 4096 → Found m t 8192
+found-lost m t h = absurd (omega (arith, h))
+
+-- A ref that has a link is plain by it;
+pub roots-up : (s ps m : Words) (t w u v x : ℕ) → w ≡ t / 2 % 2048 → u ≡ at m w → u ≢ 0 → v ≡ turn (t % 2) (u - 1) → (x < 4096 → Found m v x) → x < 4096 → Roots s ps m t x
+roots-up s ps m t w u v x e q z ev f h = record {
+  at = λ ws st ts k l.
+      let b = link-find s ps ws st m ts k t u v l (q ∙ ap (at m) (e ∙ low-ref (t / 2) (st .low (t / 2) l))) z (ev ∙ (let y : turn (t % 2) (u - 1) ≡ turn t (u - 1) = omega arith in y)) in
+      let a = f h .at s ps ws st ts k (b .0) in
+      (a .0, a .1, b .1 ∙ a .2);
+}
+
+-- one that has none is a root, if it is no Param,
+roots-plain : (s ps m : Words) (t : ℕ) → at m (t / 2 % 2048) ≡ 0 → Plain s ps (t / 2) → Roots s ps m t t
+roots-plain s ps m t e p = record {
+  at = λ ws st ts k l.
+      let o : Sound s ps ws st (t / 2) = record { live = l; plain = p } in
+      let r : at m (t / 2) ≡ 0 = ap (at m) (sym (low-ref (t / 2) (st .low (t / 2) l))) ∙ e in
+      (o, r, root-find s ps ws st m ts k t o r);
+}
+
+pub plain-low : (s ps : Words) (r : ℕ) → r < 1024 → Plain s ps r
+plain-low s ps r h = record { not-param = λ l. absurd (omega (arith, h, l)) }
+
+pub roots-low : (s ps m : Words) (t : ℕ) → at m (t / 2 % 2048) ≡ 0 → t / 2 < 1024 → Roots s ps m t t
+roots-low s ps m t e h = roots-plain s ps m t e (plain-low s ps (t / 2) h)
+
+pub roots-known : (s ps m : Words) (t p k : ℕ) → at m (t / 2 % 2048) ≡ 0 → p ≡ place ps (t / 2) → k ≡ at s (p + 1) → k ≢ 1 → Roots s ps m t t
+roots-known s ps m t p k e ep ek z = roots-plain s ps m t e (record { not-param = λ l y. z (ek ∙ ap (λ j. at s (j + 1)) ep ∙ y) })
+
+-- and else its parameter's.
+pub roots-param : (s ps m : Words) (t p k d b v x : ℕ) → 1024 ≤ t / 2 → p ≡ place ps (t / 2) → k ≡ at s (p + 1) → k ≡ 1 → d ≡ at s (p + 3) → d < 8 → Bit (record-side s p) b → v ≡ turn t (2 * (256 + d) + b) → (x < 4096 → Found m v x) → x < 4096 → Roots s ps m t x
+unfolding stands odd
+roots-param s ps m t p k d b v x l ep ek y ed hd bit ev f h = record {
+  at = λ ws st ts w live.
+      let o = st .param (t / 2) live l (sym (ek ∙ ap (λ j. at s (j + 1)) ep) ∙ y) in
+      let ref : v / 2 ≡ 256 + at s (place ps (t / 2) + 3) = ap (λ j. j / 2) ev ∙ (let z : turn t (2 * (256 + d) + b) / 2 ≡ 256 + d = omega (arith, bit .small) in z) ∙ ap (λ j. 256 + j) (ed ∙ ap (λ j. at s (j + 3)) ep) in
+      let sound : Sound s ps ws st (v / 2) = record { live = subst (λ j. st .live j ≡ true) (sym ref) (o .0); plain = plain-low s ps (v / 2) (omega (arith, ref, hd, ed ∙ ap (λ j. at s (j + 3)) ep)) } in
+      let a = f h .at s ps ws st ts w sound in
+      let same : stands (st .to) v ≡ stands (st .to) t =
+          ap (stands (st .to)) ev
+          ∙ stands-turn (st .to) t (2 * (256 + d) + b)
+          ∙ ap (invert-if (odd t)) (param-stands st d b (bit .small) ∙ ap₂ (λ (i : Bool) (j : ℕ). invert-if i (st .to j)) (bit .is ∙ ap (record-side s) ep) (ap (λ j. 256 + j) (ed ∙ ap (λ j. at s (j + 3)) ep)) ∙ sym (o .1)) in
+      (a .0, a .1, ap (find ts) (sym same) ∙ a .2);
+}
+  where
+    param-stands : {ws : Words} (st : Stage s ps ws) (d b : ℕ) → b < 2 → stands (st .to) (2 * (256 + d) + b) ≡ invert-if (odd b) (st .to (256 + d))
+    param-stands st d b h = ap₂ (λ (i : Bool) (j : ℕ). invert-if i (st .to j)) (odd-low d b) (let z : (2 * (256 + d) + b) / 2 ≡ 256 + d = omega (arith, h) in z)
+      where
+        odd-low : (d b : ℕ) → odd (2 * (256 + d) + b) ≡ odd b
+        odd-low d b = ap (λ j. eqb j 1) (let z : (2 * (256 + d) + b) % 2 ≡ b % 2 = omega arith in z)
