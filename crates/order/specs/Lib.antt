@@ -3,3 +3,4 @@ pub mod Mirror
 pub mod Following
 pub mod Meeting
 pub mod Words
+pub mod Joined

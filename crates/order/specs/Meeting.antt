@@ -25,9 +25,9 @@ use Rattle.order.specs.Mirror.{source, Sound, Mirror, TwoRoots, Bare, st
 use Rattle.order.specs.Following.{FollowsAll, Meets}
 
 -- The notes m′ are of the table in which two roots are joined, of which bx and by say whether they are unknown.
-pub record Joins (s ps ws m : Words) (x y : ℕ) (bx by : Bool) (m′ : Words) (r : ℕ) : Type 0 where
+pub record Joins (ws m : Words) (x y : ℕ) (bx by : Bool) (m′ : Words) (r : ℕ) : Type 0 where
   pub went : r ≢ 0
-  pub at : r ≡ 1 → (st : Stage s ps ws) (ts : Types) → Run ts → Mirror s ps ws st m ts → TwoRoots s ps ws st m x y → Bare s ps ws st ts x bx → Bare s ps ws st ts y by → Mirror s ps ws st m′ (join ts (stands (st .to) x) (stands (st .to) y))
+  pub at : r ≡ 1 → (s ps : Words) (st : Stage s ps ws) (ts : Types) → Run ts → Mirror s ps ws st m ts → TwoRoots s ps ws st m x y → Bare s ps ws st ts x bx → Bare s ps ws st ts y by → Mirror s ps ws st m′ (join ts (stands (st .to) x) (stands (st .to) y))
 
 -- b says whether root x is unknown.
 pub record Tells (s ps ws m : Words) (x : ℕ) (b : Bool) : Type 0 where
@@ -98,7 +98,7 @@ bind-won ts x y w = go (occurs-in (suc (length ts)) ts (x .1) y || occurs-in (su
     go true e v = absurd (rw (e, bind-unknown) at v)
     go false e v = rw (e, bind-unknown)
 
-pub meets-bind : (s ps ws m : Words) (x y : ℕ) (bx by : Bool) (m′ : Words) (r : ℕ) → Tells s ps ws m x bx → Tells s ps ws m y by → (bx ≡ true) ⊎ (by ≡ true) → Joins s ps ws m x y bx by m′ r → Meets s ps ws m x y m′ r
+pub meets-bind : (s ps ws m : Words) (x y : ℕ) (bx by : Bool) (m′ : Words) (r : ℕ) → Tells s ps ws m x bx → Tells s ps ws m y by → (bx ≡ true) ⊎ (by ≡ true) → Joins ws m x y bx by m′ r → Meets s ps ws m x y m′ r
 meets-bind s ps ws m x y bx by m′ r tx ty c j = record { at = λ st n ts run k o w. (j .went, λ e. go st n ts run k o w e) }
   where
     go : (st : Stage s ps ws) (n : ℕ) (ts : Types) → Run ts → Mirror s ps ws st m ts → TwoRoots s ps ws st m x y → Won ((unify-states (unify-in n s) s ts (stands (st .to) x) (stands (st .to) y) (state-at ts ((stands (st .to) x) .1)) (state-at ts ((stands (st .to) y) .1))) .0) → r ≡ 1 →
@@ -109,7 +109,7 @@ meets-bind s ps ws m x y bx by m′ r tx ty c j = record { at = λ st n ts run k
         let nx = ap (λ (t : Ty). state-at ts (t .1)) (stands-at s ps ws st x (o .left)) in
         let ny = ap (λ (t : Ty). state-at ts (t .1)) (stands-at s ps ws st y (o .right)) in
         let same = states-bind (unify-in n s) s ts (stands (st .to) x) (stands (st .to) y) (state-at ts ((stands (st .to) x) .1)) (state-at ts ((stands (st .to) y) .1)) (bare (bx ≡ true) (by ≡ true) _ _ (λ z. nx ∙ vx .yes z) (λ z. ny ∙ vy .yes z) c) in
-        subst (Mirror s ps ws st m′) (sym (ap (λ (u : Unified). u .1) same ∙ bind-won ts (stands (st .to) x) (stands (st .to) y) (subst (λ (u : Unified). Won (u .0)) same w))) (j .at e st ts run k o vx vy)
+        subst (Mirror s ps ws st m′) (sym (ap (λ (u : Unified). u .1) same ∙ bind-won ts (stands (st .to) x) (stands (st .to) y) (subst (λ (u : Unified). Won (u .0)) same w))) (j .at e s ps st ts run k o vx vy)
       where
         bare : (A B C D : Type 0) → (A → C) → (B → D) → A ⊎ B → C ⊎ D
         bare A B C D f g (inl a) = inl (f a)
@@ -266,10 +266,10 @@ module _ (s ps ws m : Words) (x y p q : ℕ) (ep : p ≡ turn x (source m (x / 2
   meets-kids b m₁ r bit f z = record { at = λ st n ts run k o w. (follow-kids st n ts run k o w b m₁ r bit f .0, λ e. absurd (z e)) }
 
   -- or the roots are joined then.
-  pub meets-join : (b : ℕ) (m₁ : Words) (r₁ : ℕ) (m₂ : Words) (r : ℕ) → Bit (apart s ps ws p q) b → FollowsAll s ps ws m (kids s ps ws (p / 2)) (map (turn b) (kids s ps ws (q / 2))) m₁ r₁ → r₁ ≡ 1 → at m₁ (x / 2) ≡ 0 → at m₁ (y / 2) ≡ 0 → Joins s ps ws m₁ x y false false m₂ r → Meets s ps ws m x y m₂ r
+  pub meets-join : (b : ℕ) (m₁ : Words) (r₁ : ℕ) (m₂ : Words) (r : ℕ) → Bit (apart s ps ws p q) b → FollowsAll s ps ws m (kids s ps ws (p / 2)) (map (turn b) (kids s ps ws (q / 2))) m₁ r₁ → r₁ ≡ 1 → at m₁ (x / 2) ≡ 0 → at m₁ (y / 2) ≡ 0 → Joins ws m₁ x y false false m₂ r → Meets s ps ws m x y m₂ r
   meets-join b m₁ r₁ m₂ r bit f e ex ey j = record {
     at = λ st n ts run k o w.
         let v : Mirror s ps ws st m₁ (met st n ts run k o .1) = follow-kids st n ts run k o w b m₁ r₁ bit f .1 e in
         let o₁ : TwoRoots s ps ws st m₁ x y = record { left = o .left; right = o .right; left-root = ex; right-root = ey; apart = o .apart } in
-        (j .went, λ z. subst (λ (us : Types). Mirror s ps ws st m₂ us) (sym (ap (λ (u : Unified). u .1) (both-known st n ts run k o) ∙ joined st n ts run k o w .1)) (j .at z st (met st n ts run k o .1) (run-met st n ts run k o w) v o₁ (still-x st n ts run k o w) (still-y st n ts run k o w)));
+        (j .went, λ z. subst (λ (us : Types). Mirror s ps ws st m₂ us) (sym (ap (λ (u : Unified). u .1) (both-known st n ts run k o) ∙ joined st n ts run k o w .1)) (j .at z s ps st (met st n ts run k o .1) (run-met st n ts run k o w) v o₁ (still-x st n ts run k o w) (still-y st n ts run k o w)));
   }

@@ -79,11 +79,17 @@ roots-plain s ps m t e p = record {
 pub plain-low : (s ps : Words) (r : ℕ) → r < 1024 → Plain s ps r
 plain-low s ps r h = record { not-param = λ l. absurd (omega (arith, h, l)) }
 
-pub roots-low : (s ps m : Words) (t : ℕ) → at m (t / 2 % 2048) ≡ 0 → t / 2 < 1024 → Roots s ps m t t
-roots-low s ps m t e h = roots-plain s ps m t e (plain-low s ps (t / 2) h)
+pub roots-low : (s ps m : Words) (t : ℕ) → at m (t / 2 % 2048) ≡ 0 → t / 2 < 1024 → t < 4096 → Roots s ps m t t
+roots-low s ps m t e h l = roots-plain s ps m t e (plain-low s ps (t / 2) h)
 
-pub roots-known : (s ps m : Words) (t p k : ℕ) → at m (t / 2 % 2048) ≡ 0 → p ≡ place ps (t / 2) → k ≡ at s (p + 1) → k ≢ 1 → Roots s ps m t t
-roots-known s ps m t p k e ep ek z = roots-plain s ps m t e (record { not-param = λ l y. z (ek ∙ ap (λ j. at s (j + 1)) ep ∙ y) })
+pub roots-known : (s ps m : Words) (t p k : ℕ) → at m (t / 2 % 2048) ≡ 0 → p ≡ place ps (t / 2) → k ≡ at s (p + 1) → k ≢ 1 → t < 4096 → Roots s ps m t t
+roots-known s ps m t p k e ep ek z h = roots-plain s ps m t e (record { not-param = λ l y. z (ek ∙ ap (λ j. at s (j + 1)) ep ∙ y) })
+
+pub roots-lost : (s ps m : Words) (t : ℕ) → 8192 < 4096 → Roots s ps m t 8192
+roots-lost s ps m t h = absurd (omega (arith, h))
+
+pub roots-none : (m : Words) (t w u : ℕ) → w ≡ t / 2 % 2048 → u ≡ at m w → u ≡ 0 → at m (t / 2 % 2048) ≡ 0
+roots-none m t w u e q z = ap (at m) (sym e) ∙ sym q ∙ z
 
 -- and else its parameter's.
 pub roots-param : (s ps m : Words) (t p k d b v x : ℕ) → 1024 ≤ t / 2 → p ≡ place ps (t / 2) → k ≡ at s (p + 1) → k ≡ 1 → d ≡ at s (p + 3) → d < 8 → Bit (record-side s p) b → v ≡ turn t (2 * (256 + d) + b) → (x < 4096 → Found m v x) → x < 4096 → Roots s ps m t x
