@@ -54,9 +54,9 @@ pub hangs-not : (m : Words) (lo hi n : ℕ) (bare : Bool) (m′ : Words) → Han
 hangs-not m lo hi n bare m′ = record { went = λ e. omega (arith, e); at = λ e. absurd (omega (arith, e)) }
 
 -- The words of size and link are written.
-module _ (m : Words) (lo hi n g w v u z : ℕ) (hl : lo < 4096) (hh : hi < 4096) (ew : w ≡ hi / 2 % 2048) (ez : z ≡ lo / 2 % 2048) (eg : g ≡ at m (2048 + w)) (eu : u ≡ g + n) (ev : v ≡ turn (lo % 2) hi) where
+module _ (m : Words) (lo hi n g w v z : ℕ) (hl : lo < 4096) (hh : hi < 4096) (ew : w ≡ hi / 2 % 2048) (ez : z ≡ lo / 2 % 2048) (eg : g ≡ at m (2048 + w)) (ev : v ≡ turn (lo % 2) hi) where
   abbrev m₁ : Words
-  m₁ = set m (2048 + w) u
+  m₁ = set m (2048 + w) (g + n)
 
   abbrev m₂ : Words
   m₂ = set m₁ z (v % 4096 + 1)
@@ -68,16 +68,16 @@ module _ (m : Words) (lo hi n g w v u z : ℕ) (hl : lo < 4096) (hh : hi < 4096)
   rz₁ = ez ∙ (let y : lo / 2 % 2048 ≡ lo / 2 = omega (arith, hl) in y)
 
   far : (j : ℕ) → j ≢ z → j ≢ 2048 + w → at m₂ j ≡ at m j
-  far j a b = getD-set-other m₁ z j (v % 4096 + 1) 0 a ∙ getD-set-other m (2048 + w) j u 0 b
+  far j a b = getD-set-other m₁ z j (v % 4096 + 1) 0 a ∙ getD-set-other m (2048 + w) j (g + n) 0 b
 
   pub hangs-put : Hangs m lo hi n false m₂ 1
   hangs-put = record {
     went = λ e. omega (arith, e);
     at = λ e l. record {
-      long = length-set m₁ z (v % 4096 + 1) ∙ length-set m (2048 + w) u ∙ l;
-      link = ap (at m₂) (sym rz₁) ∙ getD-set-same m₁ z (v % 4096 + 1) 0 (omega (arith, l, length-set m (2048 + w) u, rz₁, hl)) ∙ ap (λ j. j % 4096 + 1) (ev ∙ (let y : turn (lo % 2) hi ≡ turn lo hi = omega arith in y));
+      long = length-set m₁ z (v % 4096 + 1) ∙ length-set m (2048 + w) (g + n) ∙ l;
+      link = ap (at m₂) (sym rz₁) ∙ getD-set-same m₁ z (v % 4096 + 1) 0 (omega (arith, l, length-set m (2048 + w) (g + n), rz₁, hl)) ∙ ap (λ j. j % 4096 + 1) (ev ∙ (let y : turn (lo % 2) hi ≡ turn lo hi = omega arith in y));
       links = λ r h d. far r (λ q. d (q ∙ rz₁)) (λ q. omega (arith, q, h));
-      gain = ap (λ j. at m₂ (2048 + j)) (sym rw₁) ∙ getD-set-other m₁ z (2048 + w) (v % 4096 + 1) 0 (λ q. omega (arith, q, rz₁, hl)) ∙ getD-set-same m (2048 + w) u 0 (omega (arith, l, rw₁, hh)) ∙ eu ∙ ap (λ j. j + n) (eg ∙ ap (λ j. at m (2048 + j)) rw₁);
+      gain = ap (λ j. at m₂ (2048 + j)) (sym rw₁) ∙ getD-set-other m₁ z (2048 + w) (v % 4096 + 1) 0 (λ q. omega (arith, q, rz₁, hl)) ∙ getD-set-same m (2048 + w) (g + n) 0 (omega (arith, l, rw₁, hh)) ∙ ap (λ j. j + n) (eg ∙ ap (λ j. at m (2048 + j)) rw₁);
       gains = λ r h d. far (2048 + r) (λ q. omega (arith, q, rz₁, hl)) (λ q. d (omega (arith, q, rw₁)));
       from = λ b. absurd (true≢false (sym b));
       kept = λ b. far (4096 + hi / 2) (λ q. omega (arith, q, rz₁, hl)) (λ q. omega (arith, q, rw₁, hh));
@@ -113,20 +113,19 @@ class-size s ps ws st m ts k x y a o e = e ∙ ap (λ j. j + at m (2048 + x / 2)
 class-other : (s ps ws : Words) (st : Stage s ps ws) (m : Words) (ts : Types) → Mirror s ps ws st m ts → (x y b : ℕ) → TwoRoots s ps ws st m x y → b ≡ base ws (y / 2) + at m (2048 + y / 2) → b ≡ size-at ts ((st .to (y / 2)) .1)
 class-other s ps ws st m ts k x y b o e = e ∙ ap (λ j. j + at m (2048 + y / 2)) (sym (st .size (y / 2) (o .right .live) (o .right .plain))) ∙ sym (k .size (y / 2) (o .right) (o .right-root))
 
-pub joins-left : (ws m : Words) (x y u v a b : ℕ) (bx by : Bool) (m′ : Words) (r : ℕ) → u ≡ x / 2 → v ≡ y / 2 → a ≡ base ws u + at m (2048 + u) → b ≡ base ws v + at m (2048 + v) → b < a → Hangs m y x b bx m′ r → Joins ws m x y bx by m′ r
-joins-left ws m x y u v a b bx by m′ r eu ev ea eb h g = record {
+pub joins-not : (ws m : Words) (x y : ℕ) (bx by : Bool) (m′ : Words) → Joins ws m x y bx by m′ 2
+joins-not ws m x y bx by m′ = record { went = λ e. omega (arith, e); at = λ e. absurd (omega (arith, e)) }
+
+pub joins-left : (ws m : Words) (x y a b : ℕ) (bx by : Bool) (m′ : Words) (r : ℕ) → (a < 65536 → a ≡ base ws (x / 2) + at m (2048 + x / 2)) → (b < 65536 → b ≡ base ws (y / 2) + at m (2048 + y / 2)) → a < 65536 → b < 65536 → b < a → Hangs m y x b bx m′ r → Joins ws m x y bx by m′ r
+joins-left ws m x y a b bx by m′ r ea eb sa sb h g = record {
   went = g .went;
   at = λ e s ps st ts run k o px py.
-      let p = ea ∙ ap (λ j. base ws j + at m (2048 + j)) eu in
-      let q = eb ∙ ap (λ j. base ws j + at m (2048 + j)) ev in
-      mirror-left s ps ws st m ts k run x y a b o (class-size s ps ws st m ts k x y a o p) (class-other s ps ws st m ts k x y b o q) bx m′ h px (g .at e (k .long));
+      mirror-left s ps ws st m ts k run x y a b o (class-size s ps ws st m ts k x y a o (ea sa)) (class-other s ps ws st m ts k x y b o (eb sb)) bx m′ h px (g .at e (k .long));
 }
 
-pub joins-right : (ws m : Words) (x y u v a b : ℕ) (bx by : Bool) (m′ : Words) (r : ℕ) → u ≡ x / 2 → v ≡ y / 2 → a ≡ base ws u + at m (2048 + u) → b ≡ base ws v + at m (2048 + v) → a ≤ b → Hangs m x y a by m′ r → Joins ws m x y bx by m′ r
-joins-right ws m x y u v a b bx by m′ r eu ev ea eb h g = record {
+pub joins-right : (ws m : Words) (x y a b : ℕ) (bx by : Bool) (m′ : Words) (r : ℕ) → (a < 65536 → a ≡ base ws (x / 2) + at m (2048 + x / 2)) → (b < 65536 → b ≡ base ws (y / 2) + at m (2048 + y / 2)) → a < 65536 → b < 65536 → a ≤ b → Hangs m x y a by m′ r → Joins ws m x y bx by m′ r
+joins-right ws m x y a b bx by m′ r ea eb sa sb h g = record {
   went = g .went;
   at = λ e s ps st ts run k o px py.
-      let p = ea ∙ ap (λ j. base ws j + at m (2048 + j)) eu in
-      let q = eb ∙ ap (λ j. base ws j + at m (2048 + j)) ev in
-      mirror-right s ps ws st m ts k run x y a b o (class-size s ps ws st m ts k x y a o p) (class-other s ps ws st m ts k x y b o q) by m′ h py (g .at e (k .long));
+      mirror-right s ps ws st m ts k run x y a b o (class-size s ps ws st m ts k x y a o (ea sa)) (class-other s ps ws st m ts k x y b o (eb sb)) by m′ h py (g .at e (k .long));
 }

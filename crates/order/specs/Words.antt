@@ -112,3 +112,33 @@ roots-param s ps m t p k d b v x l ep ek y ed hd bit ev f h = record {
       where
         odd-low : (d b : ℕ) → odd (2 * (256 + d) + b) ≡ odd b
         odd-low d b = ap (λ j. eqb j 1) (let z : (2 * (256 + d) + b) % 2 ≡ b % 2 = omega arith in z)
+
+-- The kind of a ref by what it is,
+pub kind-node : (s ps ws : Words) (r k : ℕ) → r < 256 → k ≡ kind-at (types-of ws) r → k ≡ kind-word s ps ws r
+unfolding kind-word
+kind-node s ps ws r k h e = e ∙ rw (lt-ltb r 256 h, kind-word)
+
+pub kind-param : (s ps ws : Words) (r : ℕ) → 256 ≤ r → r < 1024 → 0 ≡ kind-word s ps ws r
+unfolding kind-word
+kind-param s ps ws r l h = rw (le-ltb r 256 l, lt-ltb r 1024 h, kind-word)
+
+pub kind-record : (s ps ws : Words) (r p k : ℕ) → 256 ≤ r → 1024 ≤ r → p ≡ place ps r → k ≡ at s (p + 1) → k ≡ kind-word s ps ws r
+unfolding kind-word
+kind-record s ps ws r p k l h ep ek = ek ∙ ap (λ j. at s (j + 1)) ep ∙ rw (le-ltb r 256 l, le-ltb r 1024 h, kind-word)
+
+-- its id,
+pub id-is : (s ps ws : Words) (r d : ℕ) → IdOf s ps ws r d → d ≡ id-word s ps ws r
+unfolding id-word
+id-is s ps ws r d o = ⊎-elim (λ h. o .node h ∙ rw (lt-ltb r 256 h, id-word)) (λ h. o .is h ∙ rw (le-ltb r 256 h, id-word)) (lt-or r 256)
+
+-- and the size of its class.
+pub size-node : (ws m : Words) (r w a g : ℕ) → r < 256 → w ≡ r → a ≡ size-at (types-of ws) r → g ≡ at m (2048 + w) → a + g < 65536 → a + g ≡ base ws r + at m (2048 + r)
+unfolding base
+size-node ws m r w a g h ew ea eg l = ap₂ (λ (i j : ℕ). i + j) (ea ∙ rw (lt-ltb r 256 h, base)) (eg ∙ ap (λ j. at m (2048 + j)) ew)
+
+pub size-other : (ws m : Words) (r w g : ℕ) → 256 ≤ r → w ≡ r → g ≡ at m (2048 + w) → 1 + g < 65536 → 1 + g ≡ base ws r + at m (2048 + r)
+unfolding base
+size-other ws m r w g h ew eg l = ap₂ (λ (i j : ℕ). i + j) (let z : 1 ≡ base ws r = rw (le-ltb r 256 h, base) in z) (eg ∙ ap (λ j. at m (2048 + j)) ew)
+
+pub size-many : (ws m : Words) (r : ℕ) → 65536 < 65536 → 65536 ≡ base ws r + at m (2048 + r)
+size-many ws m r l = absurd (omega (arith, l))

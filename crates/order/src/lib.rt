@@ -4,6 +4,7 @@
 // What a step comes to: 0, the rule fails; 1, it goes on, and `m` is of the table that is left; 2, nothing is said.
 ghost use mathlib.Core.Path.{_≡_};
 ghost use mathlib.Core.Logic.{_≢_};
+ghost use mathlib.Core.Bool.{true, false};
 ghost use mathlib.Core.List.{map};
 ghost use Prim.Native.Nat.{_+_, _/_, _%_, _<_, _≤_};
 ghost use lib.Dec.{eqb};
@@ -17,6 +18,7 @@ ghost use Rattle.order.specs.Mirror.{source};
 ghost use Rattle.order.specs.Following.{Follows, FollowsAll, Meets, Rooted};
 ghost use Rattle.order.specs.Meeting.{Joins};
 ghost use Rattle.order.specs.Words.{Found, Roots};
+ghost use Rattle.order.specs.Joined.{Inherits, Hangs};
 use chart::kinds;
 use chart::layout;
 use queries::Query;
@@ -50,6 +52,9 @@ const SIZES: usize = 2048;
 const STATES: usize = 4096;
 
 const MARKS: usize = 6144;
+
+// More nodes than a class is followed with.
+const MANY: u32 = 65536;
 
 const ERROR: u32 = 13;
 
@@ -106,4 +111,108 @@ fn root(sheet: &[u32], places: &[u32], m: &[u32; 8192], t: u32) -> u32
         return find_own(sheet, places, m, t);
     }
     find(m, turn(t % 2, up - 1))
+}
+
+// The type whose state the type of a root has.
+fn state(m: &[u32; 8192], x: u32) -> u32
+    requires { ⌜ x < 4096 ⌝ }
+    ensures { λ p. ⌜ p ≡ turn-of x (source (now (m .entry)) (x / 2)) ⌝ }
+{
+    let from = m[STATES + ref_of(x)];
+    if from == 0 {
+        return x;
+    }
+    turn(x % 2, from - 1)
+}
+
+// The kind of a ref that is no Param; 0 where it is unknown.
+fn kind(sheet: &[u32], places: &[u32], ws: &[u32], r: u32) -> u32
+    ensures { λ k. ⌜ k ≡ kind-word (now (sheet .entry)) (now (places .entry)) (now (ws .entry)) r ⌝ }
+{
+    if r < NODES {
+        return table::kind_of(ws, r);
+    }
+    if r < RECORDS {
+        return 0;
+    }
+    let p = place_of(places, r);
+    words::offset(sheet, p, layout::NODE_KIND)
+}
+
+// The size of the class of a root; MANY where more was added than is followed.
+fn size(ws: &[u32], m: &[u32; 8192], r: u32) -> u32
+    requires { ⌜ r < 2048 ⌝ }
+    ensures { λ n. ⌜ (n < 65536 → n ≡ base (now (ws .entry)) r + at (now (m .entry)) (2048 + r)) ⌝ }
+{
+    let more = m[SIZES + words::wide(r)];
+    if more >= 32768 {
+        return MANY;
+    }
+    if r < NODES {
+        return table::size_of(ws, r) + more;
+    }
+    1 + more
+}
+
+// Root hi has its state from lo's.
+fn inherit(m: &mut [u32; 8192], lo: u32, hi: u32)
+    requires { ⌜ lo < 4096 ⌝ }
+    requires { ⌜ hi < 4096 ⌝ }
+    ensures { λ _. ⌜ Inherits (now (m .entry)) lo hi (now (m .exit)) ⌝ }
+{
+    let p = state(m, lo);
+    let v = turn(hi % 2, p);
+    m[STATES + ref_of(hi)] = v % 4096 + 1;
+}
+
+// Root lo, whose class has n nodes, is hung under root hi, which is known.
+fn put(m: &mut [u32; 8192], lo: u32, hi: u32, n: u32) -> u32
+    requires { ⌜ lo < 4096 ⌝ }
+    requires { ⌜ hi < 4096 ⌝ }
+    requires { ⌜ n < 65536 ⌝ }
+    ensures { λ r. ⌜ Hangs (now (m .entry)) lo hi n false (now (m .exit)) r ⌝ }
+{
+    let i = ref_of(hi);
+    let more = m[SIZES + i];
+    if more >= 32768 {
+        return STOP;
+    }
+    m[SIZES + i] = more + n;
+    let v = turn(lo % 2, hi);
+    m[ref_of(lo)] = v % 4096 + 1;
+    OK
+}
+
+// The same; bare: hi is unknown.
+fn hang(m: &mut [u32; 8192], lo: u32, hi: u32, n: u32, bare: bool) -> u32
+    requires { ⌜ lo < 4096 ⌝ }
+    requires { ⌜ hi < 4096 ⌝ }
+    requires { ⌜ n < 65536 ⌝ }
+    ensures { λ r. ⌜ Hangs (now (m .entry)) lo hi n bare (now (m .exit)) r ⌝ }
+{
+    if bare {
+        inherit(m, lo, hi);
+        return put(m, lo, hi, n);
+    }
+    put(m, lo, hi, n)
+}
+
+// The rule's `join` of two roots, of which bx and by say whether they are unknown.
+fn join(ws: &[u32], m: &mut [u32; 8192], x: u32, y: u32, bx: bool, by: bool) -> u32
+    requires { ⌜ x < 4096 ⌝ }
+    requires { ⌜ y < 4096 ⌝ }
+    ensures { λ r. ⌜ Joins (now (ws .entry)) (now (m .entry)) x y bx by (now (m .exit)) r ⌝ }
+{
+    let a = size(ws, m, x / 2);
+    if a >= MANY {
+        return STOP;
+    }
+    let b = size(ws, m, y / 2);
+    if b >= MANY {
+        return STOP;
+    }
+    if b < a {
+        return hang(m, y, x, b, bx);
+    }
+    hang(m, x, y, a, by)
 }
