@@ -22,7 +22,7 @@ use Rattle.table.specs.ChildTypes.{odd-sum}
 use Rattle.refs.specs.Meaning.{odd, turn}
 use Rattle.refs.specs.Refs.{side-of, type-side, apart}
 use Rattle.order.specs.Stage.{stands, Plain, Kin, Shown, Run, Stage, kind-word, id-word, kids, run-on, find-invert, stands-turn}
-use Rattle.order.specs.Mirror.{source, Sound, Mirror, TwoRoots, Bare, follow-find, link-find, root-find, stands-at, left-in, right-in, left-top, right-top, tops-apart}
+use Rattle.order.specs.Mirror.{source, Sound, Mirror, Marks, mirror-marks, TwoRoots, Bare, follow-find, link-find, root-find, stands-at, left-in, right-in, left-top, right-top, tops-apart}
 
 -- Two types of refs are met.
 pub record Follows (s ps ws m : Words) (a b : ℕ) (m′ : Words) (r : ℕ) : Type 0 where
@@ -43,8 +43,9 @@ pub record Rooted (s ps ws m : Words) (t x : ℕ) : Type 0 where
   pub at : (st : Stage s ps ws) (ts : Types) → Mirror s ps ws st m ts → st .live (t / 2) ≡ true → Sound s ps ws st (x / 2) × (at m (x / 2) ≡ 0) × (find ts (stands (st .to) t) ≡ stands (st .to) x)
 
 -- false: type t is not its own inverse.
-pub record Owns (s ps ws m : Words) (t : ℕ) (r : Bool) : Type 0 where
-  pub at : r ≡ false → (st : Stage s ps ws) (ts : Types) → Mirror s ps ws st m ts → st .live (t / 2) ≡ true → (k : ℕ) → self-inverse-in k s ts (stands (st .to) t) ≡ false
+pub record Owns (s ps ws m : Words) (t : ℕ) (m′ : Words) (r : Bool) : Type 0 where
+  pub marks : Marks m m′
+  pub at : r ≡ false → (st : Stage s ps ws) (ts : Types) → Run ts → Mirror s ps ws st m ts → st .live (t / 2) ≡ true → (k : ℕ) → self-inverse-in k s ts (stands (st .to) t) ≡ false
 
 -- `unify` by what the types are found to be.
 unify-found : (n : ℕ) (s : Words) (ts : Types) (a b c d : Ty) → find ts a ≡ find ts c → find ts b ≡ find ts d → unify-in n s ts a b ≡ unify-in n s ts c d
@@ -53,7 +54,7 @@ unify-found zero s ts a b c d p q = refl
 unify-found (suc n) s ts a b c d p q = ap₂ (unify-roots (λ us t u. unify-in n s us t u) s ts) p q
 
 -- What is live stands at a node.
-lives : {s ps ws : Words} (st : Stage s ps ws) (t : ℕ) → st .live (t / 2) ≡ true → (stands (st .to) t) .1 < length (st .table)
+pub lives : {s ps ws : Words} (st : Stage s ps ws) (t : ℕ) → st .live (t / 2) ≡ true → (stands (st .to) t) .1 < length (st .table)
 unfolding stands invert-if
 lives st t l = st .inside (t / 2) l
 
@@ -167,25 +168,25 @@ follows-same s ps ws m a b x y p q e = record { at = λ st n ts run k la lb w. (
     go st (suc n) ts k la lb w = subst (Mirror s ps ws st m) (sym (one-class n s ts (find ts (stands (st .to) a)) (find ts (stands (st .to) b)) (ap (λ (t : Ty). t .1) (p .at st ts k la .2 ∙ ap (stands (st .to)) e ∙ sym (q .at st ts k lb .2))))) k
 
 -- of which one is the other inverted: it is its own inverse,
-pub follows-own : (s ps ws m : Words) (a b x y : ℕ) (o : Bool) → Rooted s ps ws m a x → Rooted s ps ws m b y → x ≢ y → x / 2 ≡ y / 2 → Owns s ps ws m x o → o ≡ true → Follows s ps ws m a b m 1
+pub follows-own : (s ps ws m : Words) (a b x y : ℕ) (m′ : Words) (o : Bool) → Rooted s ps ws m a x → Rooted s ps ws m b y → x ≢ y → x / 2 ≡ y / 2 → Owns s ps ws m x m′ o → o ≡ true → Follows s ps ws m a b m′ 1
 unfolding unify-in stands invert-if
-follows-own s ps ws m a b x y o p q ne e own eo = record { at = λ st n ts run k la lb w. (λ z. absurd (omega (arith, z)), λ z. go st n ts k la lb w) }
+follows-own s ps ws m a b x y m′ o p q ne e own eo = record { at = λ st n ts run k la lb w. (λ z. absurd (omega (arith, z)), λ z. mirror-marks s ps ws st m m′ _ (own .marks) (go st n ts k la lb w)) }
   where
     go : (st : Stage s ps ws) (n : ℕ) (ts : Types) → Mirror s ps ws st m ts → st .live (a / 2) ≡ true → st .live (b / 2) ≡ true → Won ((unify-in n s ts (stands (st .to) a) (stands (st .to) b)) .0) → Mirror s ps ws st m ((unify-in n s ts (stands (st .to) a) (stands (st .to) b)) .1)
     go st zero ts k la lb w = absurd w
     go st (suc n) ts k la lb w = subst (Mirror s ps ws st m) (sym (one-class n s ts (find ts (stands (st .to) a)) (find ts (stands (st .to) b)) (ap (λ (t : Ty). t .1) (p .at st ts k la .2) ∙ ap (λ j. (st .to j) .1) e ∙ sym (ap (λ (t : Ty). t .1) (q .at st ts k lb .2))))) k
 
 -- or it is not, and they clash;
-pub follows-not-own : (s ps ws m : Words) (a b x y : ℕ) (o : Bool) → Rooted s ps ws m a x → Rooted s ps ws m b y → x ≢ y → x / 2 ≡ y / 2 → Owns s ps ws m x o → o ≡ false → Follows s ps ws m a b m 0
+pub follows-not-own : (s ps ws m : Words) (a b x y : ℕ) (m′ : Words) (o : Bool) → Rooted s ps ws m a x → Rooted s ps ws m b y → x ≢ y → x / 2 ≡ y / 2 → Owns s ps ws m x m′ o → o ≡ false → Follows s ps ws m a b m′ 0
 unfolding unify-in stands invert-if self-inverse
-follows-not-own s ps ws m a b x y o p q ne e own eo = record { at = λ st n ts run k la lb w. absurd (go st n ts k la lb w) }
+follows-not-own s ps ws m a b x y m′ o p q ne e own eo = record { at = λ st n ts run k la lb w. absurd (go st n ts run k la lb w) }
   where
     sides : xor (odd x) (odd y) ≡ true
     sides = odd-apart x y e ne
 
-    go : (st : Stage s ps ws) (n : ℕ) (ts : Types) → Mirror s ps ws st m ts → st .live (a / 2) ≡ true → st .live (b / 2) ≡ true → Won ((unify-in n s ts (stands (st .to) a) (stands (st .to) b)) .0) → ⊥
-    go st zero ts k la lb w = absurd w
-    go st (suc n) ts k la lb w =
+    go : (st : Stage s ps ws) (n : ℕ) (ts : Types) → Run ts → Mirror s ps ws st m ts → st .live (a / 2) ≡ true → st .live (b / 2) ≡ true → Won ((unify-in n s ts (stands (st .to) a) (stands (st .to) b)) .0) → ⊥
+    go st zero ts run k la lb w = absurd w
+    go st (suc n) ts run k la lb w =
         let fa = p .at st ts k la in
         let fb = q .at st ts k lb in
         let sx = stands-at s ps ws st x (fa .0) in
@@ -193,7 +194,7 @@ follows-not-own s ps ws m a b x y o p q ne e own eo = record { at = λ st n ts r
         not-own n s ts (find ts (stands (st .to) a)) (find ts (stands (st .to) b))
         (ap (λ (t : Ty). t .1) (fa .2 ∙ sx) ∙ ap (λ j. (st .to j) .1) e ∙ sym (ap (λ (t : Ty). t .1) (fb .2 ∙ sy)))
         (ap₂ (λ (t u : Ty). xor (t .0) (u .0)) (fa .2 ∙ sx) (fb .2 ∙ sy) ∙ sides)
-        (ap (λ (t : Ty). self-inverse s ts t) (fa .2) ∙ own .at eo st ts k (fa .0 .live) (suc (length ts)))
+        (ap (λ (t : Ty). self-inverse s ts t) (fa .2) ∙ own .at eo st ts run k (fa .0 .live) (suc (length ts)))
         w
 
 -- or of two.

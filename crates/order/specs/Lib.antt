@@ -4,3 +4,4 @@ pub mod Following
 pub mod Meeting
 pub mod Words
 pub mod Joined
+pub mod Owning

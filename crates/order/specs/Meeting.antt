@@ -56,13 +56,13 @@ module _ (s ps ws m : Words) (x p : ℕ) (ep : p ≡ turn x (source m (x / 2))) 
     state-there : state-at ts ((st .to (x / 2)) .1) ≡ invert-state (odd (source m (x / 2))) (state-at (st .table) ((st .to (p / 2)) .1))
     state-there = k .state (x / 2) o e .1 ∙ ap (λ j. invert-state (odd (source m (x / 2))) (state-at (st .table) ((st .to j) .1))) (sym half)
 
-    shown : kind-word s ps ws (p / 2) ≢ 0 → Shown (st .to) (st .live) (st .table) ((st .to (p / 2)) .1) (side-of s ps ws (p / 2)) (kind-word s ps ws (p / 2)) (id-word s ps ws (p / 2)) (kids s ps ws (p / 2))
+    pub shown : kind-word s ps ws (p / 2) ≢ 0 → Shown (st .to) (st .live) (st .table) ((st .to (p / 2)) .1) (side-of s ps ws (p / 2)) (kind-word s ps ws (p / 2)) (id-word s ps ws (p / 2)) (kids s ps ws (p / 2))
     shown z = st .some (p / 2) (of .live) (of .plain) z
 
-    state-known : (z : kind-word s ps ws (p / 2) ≢ 0) → state-at ts ((st .to (x / 2)) .1) ≡ known (xor (odd (source m (x / 2))) (side-of s ps ws (p / 2))) (kind-word s ps ws (p / 2)) (id-word s ps ws (p / 2)) (shown z .types)
+    pub state-known : (z : kind-word s ps ws (p / 2) ≢ 0) → state-at ts ((st .to (x / 2)) .1) ≡ known (xor (odd (source m (x / 2))) (side-of s ps ws (p / 2))) (kind-word s ps ws (p / 2)) (id-word s ps ws (p / 2)) (shown z .types)
     state-known z = state-there ∙ invert-known (odd (source m (x / 2))) _ (side-of s ps ws (p / 2)) (kind-word s ps ws (p / 2)) (id-word s ps ws (p / 2)) (shown z .types) (shown z .is)
 
-    state-unknown : kind-word s ps ws (p / 2) ≡ 0 → state-at ts ((st .to (x / 2)) .1) ≡ unknown
+    pub state-unknown : kind-word s ps ws (p / 2) ≡ 0 → state-at ts ((st .to (x / 2)) .1) ≡ unknown
     state-unknown z = state-there ∙ invert-unknown (odd (source m (x / 2))) _ (st .none (p / 2) (of .live) (of .plain) z)
 
   pub tells-kind : (k : ℕ) → k ≡ kind-word s ps ws (p / 2) → Tells s ps ws m x (eqb k 0)

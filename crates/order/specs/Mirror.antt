@@ -407,3 +407,32 @@ module _ (s ps ws : Words) (st : Stage s ps ws) (m : Words) (ts : Types) (k : Mi
     pub mirror-right : a ≤ b → Bare s ps ws st ts y bare → Hung m x y a bare m′ → Mirror s ps ws st m′ (join ts (stands (st .to) x) (stands (st .to) y))
     unfolding join
     mirror-right l v g = rw (sizes ∙ le-ltb b a l, join) (subst (Mirror s ps ws st m′) (ap₂ (hang ts) (sym at-x) (sym at-y)) (mirror-hang x y a bare m′ o g ea (v .yes) (v .no)))
+
+-- Notes that differ in marks alone are of the same table.
+pub record Marks (m m′ : Words) : Type 0 where
+  pub len : length m′ ≡ length m
+  pub same : (j : ℕ) → j < 6144 → at m′ j ≡ at m j
+
+pub marks-same : (m : Words) → Marks m m
+marks-same m = record { len = refl; same = λ j h. refl }
+
+pub marks-on : (m m₁ m₂ : Words) → Marks m m₁ → Marks m₁ m₂ → Marks m m₂
+marks-on m m₁ m₂ p q = record { len = q .len ∙ p .len; same = λ j h. q .same j h ∙ p .same j h }
+
+pub mirror-marks : (s ps ws : Words) (st : Stage s ps ws) (m m′ : Words) (ts : Types) → Marks m m′ → Mirror s ps ws st m ts → Mirror s ps ws st m′ ts
+unfolding source
+mirror-marks s ps ws st m m′ ts q k = record {
+  long = q .len ∙ k .long;
+  len = k .len;
+  follow = k .follow;
+  link = λ r l z. let e = sym (here r l) in subst (λ j. Sound s ps ws st ((j - 1) / 2) × (find ts (st .to r) ≡ find ts (stands (st .to) (j - 1)))) e (k .link r l (λ y. z (sym e ∙ y)));
+  root = λ r o e. k .root r o (sym (here r (o .live)) ∙ e);
+  size = λ r o e. k .size r o (sym (here r (o .live)) ∙ e) ∙ ap (λ j. size-at (st .table) ((st .to r) .1) + j) (sym (q .same (2048 + r) (omega (arith, st .low r (o .live)))));
+  state = λ r o e. subst (λ j. Sound s ps ws st (j / 2) × (state-at ts ((st .to r) .1) ≡ invert-state (odd j) (state-at (st .table) ((st .to (j / 2)) .1)))) (from r o) (k .state r o (sym (here r (o .live)) ∙ e));
+}
+  where
+    here : (r : ℕ) → st .live r ≡ true → at m′ r ≡ at m r
+    here r l = q .same r (omega (arith, st .low r l))
+
+    from : (r : ℕ) → Sound s ps ws st r → source m r ≡ source m′ r
+    from r o = ap {B = ℕ} (λ j. elim (eqb j 0) [ true ↦ 2 * r | false ↦ j - 1 ]) (sym (q .same (4096 + r) (omega (arith, st .low r (o .live)))))

@@ -101,9 +101,9 @@ roots-param s ps m t p k d b v x l ep ek y ed hd bit ev f h = record {
       let sound : Sound s ps ws st (v / 2) = record { live = subst (λ j. st .live j ≡ true) (sym ref) (o .0); plain = plain-low s ps (v / 2) (omega (arith, ref, hd, ed ∙ ap (λ j. at s (j + 3)) ep)) } in
       let a = f h .at s ps ws st ts w sound in
       let same : stands (st .to) v ≡ stands (st .to) t =
-          ap (stands (st .to)) ev
-          ∙ stands-turn (st .to) t (2 * (256 + d) + b)
-          ∙ ap (invert-if (odd t)) (param-stands st d b (bit .small) ∙ ap₂ (λ (i : Bool) (j : ℕ). invert-if i (st .to j)) (bit .is ∙ ap (record-side s) ep) (ap (λ j. 256 + j) (ed ∙ ap (λ j. at s (j + 3)) ep)) ∙ sym (o .1)) in
+      ap (stands (st .to)) ev
+      ∙ stands-turn (st .to) t (2 * (256 + d) + b)
+      ∙ ap (invert-if (odd t)) (param-stands st d b (bit .small) ∙ ap₂ (λ (i : Bool) (j : ℕ). invert-if i (st .to j)) (bit .is ∙ ap (record-side s) ep) (ap (λ j. 256 + j) (ed ∙ ap (λ j. at s (j + 3)) ep)) ∙ sym (o .1)) in
       (a .0, a .1, ap (find ts) (sym same) ∙ a .2);
 }
   where
@@ -142,3 +142,23 @@ size-other ws m r w g h ew eg l = ap₂ (λ (i j : ℕ). i + j) (let z : 1 ≡ b
 
 pub size-many : (ws m : Words) (r : ℕ) → 65536 < 65536 → 65536 ≡ base ws r + at m (2048 + r)
 size-many ws m r l = absurd (omega (arith, l))
+
+-- The children of a ref, where they are told.
+pub record Kids (s ps ws : Words) (r : ℕ) (o : Row) : Type 0 where
+  pub few : o .n ≢ 9 → o .n ≤ 8
+  pub long : o .n ≢ 9 → o .n ≤ length (o .types)
+  pub are : o .n ≢ 9 → take (o .n) (o .types) ≡ kids s ps ws r
+
+pub kids-untold : (s ps ws : Words) (r : ℕ) (o : Row) → o .n ≡ 9 → Kids s ps ws r o
+kids-untold s ps ws r o e = record { few = λ z. absurd (z e); long = λ z. absurd (z e); are = λ z. absurd (z e) }
+
+pub kids-node : (s ps ws : Words) (r : ℕ) (o : Row) → r < 256 → ChildTypes ws r o → Kids s ps ws r o
+unfolding kids
+kids-node s ps ws r o h c = record { few = c .few; long = c .long; are = λ z. c .are z ∙ rw (lt-ltb r 256 h, kids) }
+
+pub kids-record : (s ps ws : Words) (r p h j : ℕ) (o : Row) → 256 ≤ r → p ≡ place ps r → h ≡ at s (p + 4) → j ≡ h → Cells s j o → Kids s ps ws r o
+unfolding kids
+kids-record s ps ws r p h j o l ep eh ej c = record { few = c .few; long = c .long; are = λ z. c .are z ∙ ap (record-types s) (ej ∙ eh ∙ ap (λ k. at s (k + 4)) ep) ∙ rw (le-ltb r 256 l, kids) }
+
+pub kids-known : (ws : Words) (r k : ℕ) → k ≡ kind-at (types-of ws) r → k ≢ 0 → kind-at (types-of ws) r ≢ 0
+kids-known ws r k e z q = z (e ∙ q)

@@ -14,10 +14,11 @@ ghost use Rattle.table.specs.Packing.{Packed};
 ghost use Rattle.refs.specs.Meaning.{turn as turn-of, record-types};
 ghost use Rattle.refs.specs.Refs.{place, Bit, apart as apart-of};
 ghost use Rattle.order.specs.Stage.{kind-word, id-word, kids, base};
-ghost use Rattle.order.specs.Mirror.{source};
-ghost use Rattle.order.specs.Following.{Follows, FollowsAll, Meets, Rooted};
+ghost use Rattle.order.specs.Mirror.{source, Marks};
+ghost use Rattle.order.specs.Following.{Follows, FollowsAll, Meets, Owns};
 ghost use Rattle.order.specs.Meeting.{Joins};
-ghost use Rattle.order.specs.Words.{Found, Roots};
+ghost use Rattle.order.specs.Words.{Found, Roots, Kids};
+ghost use Rattle.order.specs.Owning.{OwnsAll, Flagged};
 ghost use Rattle.order.specs.Joined.{Inherits, Hangs};
 use chart::kinds;
 use chart::layout;
@@ -28,6 +29,7 @@ use refs::PARAMS;
 use refs::RECORDS;
 use refs::UNTOLD;
 use refs::cells;
+use refs::id;
 use refs::own_type;
 use refs::place_of;
 use refs::record_inverted;
@@ -215,4 +217,96 @@ fn join(ws: &[u32], m: &mut [u32; 8192], x: u32, y: u32, bx: bool, by: bool) -> 
         return hang(m, y, x, b, bx);
     }
     hang(m, x, y, a, by)
+}
+
+// The children of a ref.
+fn children(sheet: &[u32], places: &[u32], ws: &[u32], r: u32) -> Row
+    requires { ⌜ Packed (now ws) ⌝ }
+    ensures { λ o. ⌜ Kids (now (sheet .entry)) (now (places .entry)) (now (ws .entry)) r o ⌝ }
+{
+    if r < NODES {
+        if table::kind_of(ws, r) == 0 {
+            return untold();
+        }
+        return table::child_types(ws, r);
+    }
+    let p = place_of(places, r);
+    let head = words::offset(sheet, p, layout::NODE_CHILDREN);
+    cells(sheet, words::wide(head))
+}
+
+// Whether a ref is known and its kind, its children aside, its own inverse.
+fn may_own(sheet: &[u32], places: &[u32], ws: &[u32], r: u32) -> bool
+    ensures { λ b. ⌜ Flagged (now (sheet .entry)) (now (places .entry)) (now (ws .entry)) r b ⌝ }
+{
+    let k = kind(sheet, places, ws, r);
+    if k == 0 {
+        return false;
+    }
+    let d = id(sheet, places, ws, r);
+    kinds::kind_flag(
+        sheet,
+        layout::ROW_OWN_INVERSE,
+        words::wide(k),
+        words::wide(d),
+    )
+}
+
+// Marks the ref of a type.
+fn mark(m: &mut [u32; 8192], x: u32)
+    ensures { λ _. ⌜ Marks (now (m .entry)) (now (m .exit)) ⌝ }
+{
+    m[MARKS + ref_of(x)] = 1;
+}
+
+// Whether a type is its own inverse, or may be.
+fn own(sheet: &[u32], places: &[u32], ws: &[u32], m: &mut [u32; 8192], t: u32, left: usize) -> bool
+    requires { ⌜ Packed (now ws) ⌝ }
+    ensures { λ r. ⌜ Owns (now (sheet .entry)) (now (places .entry)) (now (ws .entry)) (now (m .entry)) t (now (m .exit)) r ⌝ }
+{
+    let x = root(sheet, places, m, t);
+    if x >= TYPES {
+        return true;
+    }
+    if m[MARKS + ref_of(x)] != 0 {
+        return true;
+    }
+    let p = state(m, x);
+    if !may_own(sheet, places, ws, p / 2) {
+        return false;
+    }
+    if left == 0 {
+        return true;
+    }
+    if !own_all(sheet, places, ws, m, p / 2, left - 1) {
+        return false;
+    }
+    mark(m, x);
+    true
+}
+
+// Whether the children of a ref are.
+fn own_all(
+    sheet: &[u32],
+    places: &[u32],
+    ws: &[u32],
+    m: &mut [u32; 8192],
+    r: u32,
+    left: usize,
+) -> bool
+    requires { ⌜ Packed (now ws) ⌝ }
+    ensures { λ b. ⌜ OwnsAll (now (sheet .entry)) (now (places .entry)) (now (ws .entry)) (now (m .entry)) (kids (now (sheet .entry)) (now (places .entry)) (now (ws .entry)) r) (now (m .exit)) b ⌝ }
+{
+    let row = children(sheet, places, ws, r);
+    if row.n == UNTOLD {
+        return true;
+    }
+    let mut j: usize = 0;
+    while j < row.n {
+        if !own(sheet, places, ws, m, row.types[j], left) {
+            return false;
+        }
+        j += 1;
+    }
+    true
 }
