@@ -5,3 +5,5 @@ pub mod Meeting
 pub mod Words
 pub mod Joined
 pub mod Owning
+pub mod Going
+pub mod Kids

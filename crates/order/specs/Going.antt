@@ -1,0 +1,129 @@
+-- The steps of the test, as the code takes them.
+use Prim.Native.Nat.{ℕ, zero, suc, _+_, _-_, _*_, _/_, _%_, _≤_, _<_}
+use mathlib.Core.Path.{_≡_, refl, sym, _∙_, ap, ap₂, subst}
+use mathlib.Core.Bool.{Bool, true, false, true≢false, not}
+use mathlib.Core.List.{List, [], _∷_, map}
+use mathlib.Core.Logic.{_≢_, _⊎_, inl, inr}
+use native.Mathlib.Numerals.{add-one}
+use native.Mathlib.Omega.{arith}
+use lib.Dec.{eqb}
+use lib.ListN.{length, take, drop, drop-of-length-le}
+use lib.Seq.{drop-cons, getD-take, length-take-le}
+use borrow.Author.Tests.{eqb-true, eq-eqb as eq-yes, ne-eqb as eq-no}
+use Rattle.rules.specs.Lists.{Words}
+use Rattle.rules.specs.Layout.{kind·error}
+use Rattle.rules.specs.Sheet.{at, kind-flag, chain, chain-of}
+use Rattle.rules.specs.Transfer.{cell-types}
+use Rattle.table.specs.declared.Row.{Row}
+use Rattle.table.specs.ChildTypes.{ChildTypes, row-at, types-at, types-at-length}
+use Rattle.refs.specs.Meaning.{odd, turn, record-types}
+use Rattle.refs.specs.Refs.{place, apart, Bit}
+use Rattle.refs.specs.Children.{cell-type, cell-types-are, cells-none, cells-more}
+use Rattle.order.specs.Stage.{kind-word, id-word, kids}
+use Rattle.order.specs.Mirror.{source}
+use Rattle.order.specs.Following.{Follows, FollowsAll, Meets, Rooted, Owns, follows-none, follows-more, follows-last, follows-uneven, all-nothing, follows-nothing, meets-nothing, follows-linked, follows-same, follows-own, follows-not-own, follows-meets}
+use Rattle.order.specs.Meeting.{Joins, Tells, tells-kind, meets-bind, meets-kinds, meets-error, meets-ids, meets-flag, meets-kids, meets-join}
+use Rattle.order.specs.Words.{Roots, Kids}
+
+rooted : (s ps ws m : Words) (t x : ℕ) → Roots s ps m t x → Rooted s ps ws m t x
+rooted s ps ws m t x r = record { at = λ st ts k l. r .at ws st ts k l }
+
+-- Two types by their roots.
+module _ (s ps ws m : Words) (a b x y : ℕ) (p : x < 4096 → Roots s ps m a x) (q : y < 4096 → Roots s ps m b y) (hx : x < 4096) (hy : y < 4096) where
+  px : Rooted s ps ws m a x
+  px = rooted s ps ws m a x (p hx)
+
+  py : Rooted s ps ws m b y
+  py = rooted s ps ws m b y (q hy)
+
+  pub go-same : x ≡ y → Follows s ps ws m a b m 1
+  go-same e = follows-same s ps ws m a b x y px py e
+
+  pub go-own : (m′ : Words) (o : Bool) → x ≢ y → x / 2 ≡ y / 2 → Owns s ps ws m x m′ o → o ≡ true → Follows s ps ws m a b m′ 1
+  go-own m′ o n e w z = follows-own s ps ws m a b x y m′ o px py n e w z
+
+  pub go-not-own : (m′ : Words) (o : Bool) → x ≢ y → x / 2 ≡ y / 2 → Owns s ps ws m x m′ o → o ≡ false → Follows s ps ws m a b m′ 0
+  go-not-own m′ o n e w z = follows-not-own s ps ws m a b x y m′ o px py n e w z
+
+  pub go-meets : (m′ : Words) (r : ℕ) → x / 2 ≢ y / 2 → Meets s ps ws m x y m′ r → Follows s ps ws m a b m′ r
+  go-meets m′ r n w = follows-meets s ps ws m a b x y m′ r px py n w
+
+pub go-stop : (s ps ws m : Words) (a b : ℕ) (m′ : Words) → Follows s ps ws m a b m′ 2
+go-stop s ps ws m a b m′ = follows-nothing s ps ws m a b m′ 2 (λ e. omega (arith, e)) (λ e. omega (arith, e))
+
+pub all-stop : (s ps ws m us vs m′ : Words) → FollowsAll s ps ws m us vs m′ 2
+all-stop s ps ws m us vs m′ = all-nothing s ps ws m us vs m′ 2 (λ e. omega (arith, e)) (λ e. omega (arith, e))
+
+pub meet-stop : (s ps ws m : Words) (x y : ℕ) (m′ : Words) → Meets s ps ws m x y m′ 2
+meet-stop s ps ws m x y m′ = meets-nothing s ps ws m x y m′ 2 (λ e. omega (arith, e)) (λ e. omega (arith, e))
+
+-- A pair that is linked.
+pub pair-linked : (s ps ws m : Words) (a b w u v : ℕ) → a < 4096 → w ≡ a / 2 % 2048 → u ≡ at m w → v ≡ turn (a % 2) b → u ≡ v + 1 → Follows s ps ws m a b m 1
+pair-linked s ps ws m a b w u v h ew eu ev e = follows-linked s ps ws m a b (ap (at m) (sym (ew ∙ (let z : a / 2 % 2048 ≡ a / 2 = omega (arith, h) in z))) ∙ sym eu ∙ e ∙ ap (λ j. j + 1) (ev ∙ (let z : turn (a % 2) b ≡ turn a b = omega arith in z)))
+
+-- Two roots of which one is unknown.
+module _ (s ps ws m : Words) (x y p q k l : ℕ) (ep : p ≡ turn x (source m (x / 2))) (eq : q ≡ turn y (source m (y / 2))) (ek : k ≡ kind-word s ps ws (p / 2)) (el : l ≡ kind-word s ps ws (q / 2)) where
+  tells-x : (b : Bool) → eqb k 0 ≡ b → Tells s ps ws m x b
+  tells-x b e = subst (Tells s ps ws m x) e (tells-kind s ps ws m x p ep k ek)
+
+  tells-y : (b : Bool) → eqb l 0 ≡ b → Tells s ps ws m y b
+  tells-y b e = subst (Tells s ps ws m y) e (tells-kind s ps ws m y q eq l el)
+
+  pub meet-left : (m′ : Words) (r : ℕ) → k ≡ 0 → Joins ws m x y true (eqb l 0) m′ r → Meets s ps ws m x y m′ r
+  meet-left m′ r e j = meets-bind s ps ws m x y true (eqb l 0) m′ r (tells-x true (eq-yes k 0 e)) (tells-y (eqb l 0) refl) (inl refl) j
+
+  pub meet-right : (m′ : Words) (r : ℕ) → k ≢ 0 → l ≡ 0 → Joins ws m x y false true m′ r → Meets s ps ws m x y m′ r
+  meet-right m′ r n e j = meets-bind s ps ws m x y false true m′ r (tells-x false (eq-no k 0 n)) (tells-y true (eq-yes l 0 e)) (inr refl) j
+
+-- Types p and q of which known roots have their states: 2, they clash; else whether they meet inverted.
+pub record Compared (s ps ws : Words) (p q c : ℕ) : Type 0 where
+  pub clash : c ≡ 2 → (m : Words) (x y : ℕ) (m′ : Words) → p ≡ turn x (source m (x / 2)) → q ≡ turn y (source m (y / 2)) → kind-word s ps ws (p / 2) ≢ 0 → kind-word s ps ws (q / 2) ≢ 0 → Meets s ps ws m x y m′ 0
+  pub bit : c ≢ 2 → Bit (apart s ps ws p q) c
+
+module _ (s ps ws : Words) (p q k l : ℕ) (ek : k ≡ kind-word s ps ws (p / 2)) (el : l ≡ kind-word s ps ws (q / 2)) where
+  pub compared-kinds : k ≢ l → Compared s ps ws p q 2
+  compared-kinds n = record { clash = λ e m x y m′ ep eq kp kq. meets-kinds s ps ws m x y p q ep eq kp kq m′ (λ z. n (ek ∙ z ∙ sym el)); bit = λ z. absurd (z refl) }
+
+  pub compared-error : k ≡ 13 → Compared s ps ws p q 2
+  compared-error z = record { clash = λ e m x y m′ ep eq kp kq. meets-error s ps ws m x y p q ep eq kp kq m′ (sym ek ∙ z); bit = λ z. absurd (z refl) }
+
+  module _ (d c : ℕ) (ed : d ≡ id-word s ps ws (p / 2)) (ec : c ≡ id-word s ps ws (q / 2)) where
+    pub compared-ids : d ≢ c → Compared s ps ws p q 2
+    compared-ids n = record { clash = λ e m x y m′ ep eq kp kq. meets-ids s ps ws m x y p q ep eq kp kq m′ (λ z. n (ed ∙ z ∙ sym ec)); bit = λ z. absurd (z refl) }
+
+    pub compared-flag : (b i j : ℕ) (f : Bool) → Bit (apart s ps ws p q) b → b ≡ 1 → i ≡ k → j ≡ d → f ≡ kind-flag s 3 i j → f ≡ false → Compared s ps ws p q 2
+    compared-flag b i j f bit e ei ej ef z = record { clash = λ e′ m x y m′ ep eq kp kq. meets-flag s ps ws m x y p q ep eq kp kq m′ b bit e (sym (ap₂ (kind-flag s 3) (ei ∙ ek) (ej ∙ ed)) ∙ sym ef ∙ z); bit = λ z. absurd (z refl) }
+
+pub compared-bit : (s ps ws : Words) (p q b : ℕ) → Bit (apart s ps ws p q) b → Compared s ps ws p q b
+compared-bit s ps ws p q b o = record { clash = λ e. absurd (omega (arith, o .small, e)); bit = λ z. o }
+
+-- The roots are joined, if they are roots still.
+pub record Rejoins (ws m : Words) (x y : ℕ) (m′ : Words) (r : ℕ) : Type 0 where
+  pub went : r ≢ 0
+  pub left : r ≡ 1 → at m (x / 2) ≡ 0
+  pub right : r ≡ 1 → at m (y / 2) ≡ 0
+  pub joins : r ≡ 1 → Joins ws m x y false false m′ r
+
+pub rejoins-not : (ws m : Words) (x y : ℕ) (m′ : Words) → Rejoins ws m x y m′ 2
+rejoins-not ws m x y m′ = record { went = λ e. omega (arith, e); left = λ e. absurd (omega (arith, e)); right = λ e. absurd (omega (arith, e)); joins = λ e. absurd (omega (arith, e)) }
+
+pub rejoins-both : (ws m : Words) (x y i j u v : ℕ) (m′ : Words) (r : ℕ) → x < 4096 → y < 4096 → i ≡ x / 2 % 2048 → j ≡ y / 2 % 2048 → u ≡ at m i → v ≡ at m j → u ≡ 0 → v ≡ 0 → Joins ws m x y false false m′ r → Rejoins ws m x y m′ r
+rejoins-both ws m x y i j u v m′ r hx hy ei ej eu ev zu zv g = record {
+  went = g .went;
+  left = λ e. ap (at m) (sym (ei ∙ (let z : x / 2 % 2048 ≡ x / 2 = omega (arith, hx) in z))) ∙ sym eu ∙ zu;
+  right = λ e. ap (at m) (sym (ej ∙ (let z : y / 2 % 2048 ≡ y / 2 = omega (arith, hy) in z))) ∙ sym ev ∙ zv;
+  joins = λ e. g;
+}
+
+-- Two known roots.
+module _ (s ps ws m : Words) (x y p q c : ℕ) (ep : p ≡ turn x (source m (x / 2))) (eq : q ≡ turn y (source m (y / 2))) (kp : kind-word s ps ws (p / 2) ≢ 0) (kq : kind-word s ps ws (q / 2) ≢ 0) (o : Compared s ps ws p q c) where
+  pub known-clash : (m′ : Words) → c ≡ 2 → Meets s ps ws m x y m′ 0
+  known-clash m′ e = o .clash e m x y m′ ep eq kp kq
+
+  pub known-kids : (m₁ : Words) (r : ℕ) → c ≢ 2 → FollowsAll s ps ws m (kids s ps ws (p / 2)) (map (turn c) (kids s ps ws (q / 2))) m₁ r → r ≢ 1 → Meets s ps ws m x y m₁ r
+  known-kids m₁ r n f z = meets-kids s ps ws m x y p q ep eq kp kq c m₁ r (o .bit n) f z
+
+  pub known-joined : (m₁ : Words) (r₁ : ℕ) (m₂ : Words) (r : ℕ) → c ≢ 2 → FollowsAll s ps ws m (kids s ps ws (p / 2)) (map (turn c) (kids s ps ws (q / 2))) m₁ r₁ → r₁ ≡ 1 → Rejoins ws m₁ x y m₂ r → Meets s ps ws m x y m₂ r
+  known-joined m₁ r₁ m₂ r n f e g = record {
+    at = λ st j ts run k w v. (g .went, λ z. (meets-join s ps ws m x y p q ep eq kp kq c m₁ r₁ m₂ r (o .bit n) f e (g .left z) (g .right z) (g .joins z)) .at st j ts run k w v .1 z);
+  }
