@@ -144,19 +144,22 @@ pub meets-nothing : (s ps ws m : Words) (x y : ℕ) (m′ : Words) (r : ℕ) →
 meets-nothing s ps ws m x y m′ r z o = record { at = λ st n ts run k p w. (z, λ e. absurd (o e)) }
 
 -- A type that is linked to another directly is that.
-pub follows-linked : (s ps ws m : Words) (a b : ℕ) → at m (a / 2) ≡ turn a b + 1 → Follows s ps ws m a b m 1
+pub follows-linked : (s ps ws m : Words) (a b : ℕ) → at m (a / 2) ≡ turn a b % 4096 + 1 → Follows s ps ws m a b m 1
 unfolding unify-in
-follows-linked s ps ws m a b e = record { at = λ st n ts run k p q w. (λ z. absurd (omega (arith, z)), λ z. go st n ts k p w) }
+follows-linked s ps ws m a b e = record { at = λ st n ts run k p q w. (λ z. absurd (omega (arith, z)), λ z. go st n ts k p q w) }
   where
-    back : turn a (at m (a / 2) - 1) ≡ b
-    back = ap (λ j. turn a (j - 1)) e ∙ ap (turn a) (let z : turn a b + 1 - 1 ≡ turn a b = omega arith in z) ∙ turn-back a b
+    low : b / 2 < 2048 → turn a b % 4096 ≡ turn a b
+    low h = let z : turn a b < 4096 = omega (arith, h) in omega (arith, z)
 
-    same : (st : Stage s ps ws) (ts : Types) → Mirror s ps ws st m ts → st .live (a / 2) ≡ true → find ts (stands (st .to) a) ≡ find ts (stands (st .to) b)
-    same st ts k p = link-find s ps ws st m ts k a (at m (a / 2)) b p refl (λ z. absurd (omega (arith, e, z))) (sym back) .1
+    back : b / 2 < 2048 → turn a (at m (a / 2) - 1) ≡ b
+    back h = ap (λ j. turn a (j - 1)) e ∙ ap (turn a) (let z : turn a b % 4096 + 1 - 1 ≡ turn a b = omega (arith, low h) in z) ∙ turn-back a b
 
-    go : (st : Stage s ps ws) (n : ℕ) (ts : Types) → Mirror s ps ws st m ts → st .live (a / 2) ≡ true → Won ((unify-in n s ts (stands (st .to) a) (stands (st .to) b)) .0) → Mirror s ps ws st m ((unify-in n s ts (stands (st .to) a) (stands (st .to) b)) .1)
-    go st zero ts k p w = absurd w
-    go st (suc n) ts k p w = subst (Mirror s ps ws st m) (sym (one-class n s ts (find ts (stands (st .to) a)) (find ts (stands (st .to) b)) (ap (λ (t : Ty). t .1) (same st ts k p)))) k
+    same : (st : Stage s ps ws) (ts : Types) → Mirror s ps ws st m ts → st .live (a / 2) ≡ true → st .live (b / 2) ≡ true → find ts (stands (st .to) a) ≡ find ts (stands (st .to) b)
+    same st ts k p q = link-find s ps ws st m ts k a (at m (a / 2)) b p refl (λ z. absurd (omega (arith, e, z))) (sym (back (st .low (b / 2) q))) .1
+
+    go : (st : Stage s ps ws) (n : ℕ) (ts : Types) → Mirror s ps ws st m ts → st .live (a / 2) ≡ true → st .live (b / 2) ≡ true → Won ((unify-in n s ts (stands (st .to) a) (stands (st .to) b)) .0) → Mirror s ps ws st m ((unify-in n s ts (stands (st .to) a) (stands (st .to) b)) .1)
+    go st zero ts k p q w = absurd w
+    go st (suc n) ts k p q w = subst (Mirror s ps ws st m) (sym (one-class n s ts (find ts (stands (st .to) a)) (find ts (stands (st .to) b)) (ap (λ (t : Ty). t .1) (same st ts k p q)))) k
 
 -- By their roots: two types of one class,
 pub follows-same : (s ps ws m : Words) (a b x y : ℕ) → Rooted s ps ws m a x → Rooted s ps ws m b y → x ≡ y → Follows s ps ws m a b m 1

@@ -24,6 +24,7 @@ use Rattle.order.specs.Mirror.{source}
 use Rattle.order.specs.Following.{Follows, FollowsAll, Meets, Rooted, Owns, follows-none, follows-more, follows-last, follows-uneven, all-nothing, follows-nothing, meets-nothing, follows-linked, follows-same, follows-own, follows-not-own, follows-meets}
 use Rattle.order.specs.Meeting.{Joins, Tells, tells-kind, meets-bind, meets-kinds, meets-error, meets-ids, meets-flag, meets-kids, meets-join}
 use Rattle.order.specs.Words.{Roots, Kids}
+use Rattle.order.specs.Owning.{no}
 
 rooted : (s ps ws m : Words) (t x : ℕ) → Roots s ps m t x → Rooted s ps ws m t x
 rooted s ps ws m t x r = record { at = λ st ts k l. r .at ws st ts k l }
@@ -58,8 +59,8 @@ pub meet-stop : (s ps ws m : Words) (x y : ℕ) (m′ : Words) → Meets s ps ws
 meet-stop s ps ws m x y m′ = meets-nothing s ps ws m x y m′ 2 (λ e. omega (arith, e)) (λ e. omega (arith, e))
 
 -- A pair that is linked.
-pub pair-linked : (s ps ws m : Words) (a b w u v : ℕ) → a < 4096 → w ≡ a / 2 % 2048 → u ≡ at m w → v ≡ turn (a % 2) b → u ≡ v + 1 → Follows s ps ws m a b m 1
-pair-linked s ps ws m a b w u v h ew eu ev e = follows-linked s ps ws m a b (ap (at m) (sym (ew ∙ (let z : a / 2 % 2048 ≡ a / 2 = omega (arith, h) in z))) ∙ sym eu ∙ e ∙ ap (λ j. j + 1) (ev ∙ (let z : turn (a % 2) b ≡ turn a b = omega arith in z)))
+pub pair-linked : (s ps ws m : Words) (a b w u v : ℕ) → a < 4096 → w ≡ a / 2 % 2048 → u ≡ at m w → v ≡ turn (a % 2) b → u ≡ v % 4096 + 1 → Follows s ps ws m a b m 1
+pair-linked s ps ws m a b w u v h ew eu ev e = follows-linked s ps ws m a b (ap (at m) (sym (ew ∙ (let z : a / 2 % 2048 ≡ a / 2 = omega (arith, h) in z))) ∙ sym eu ∙ e ∙ ap (λ j. j % 4096 + 1) (ev ∙ (let z : turn (a % 2) b ≡ turn a b = omega arith in z)))
 
 -- Two roots of which one is unknown.
 module _ (s ps ws m : Words) (x y p q k l : ℕ) (ep : p ≡ turn x (source m (x / 2))) (eq : q ≡ turn y (source m (y / 2))) (ek : k ≡ kind-word s ps ws (p / 2)) (el : l ≡ kind-word s ps ws (q / 2)) where
@@ -87,12 +88,11 @@ module _ (s ps ws : Words) (p q k l : ℕ) (ek : k ≡ kind-word s ps ws (p / 2)
   pub compared-error : k ≡ 13 → Compared s ps ws p q 2
   compared-error z = record { clash = λ e m x y m′ ep eq kp kq. meets-error s ps ws m x y p q ep eq kp kq m′ (sym ek ∙ z); bit = λ z. absurd (z refl) }
 
-  module _ (d c : ℕ) (ed : d ≡ id-word s ps ws (p / 2)) (ec : c ≡ id-word s ps ws (q / 2)) where
-    pub compared-ids : d ≢ c → Compared s ps ws p q 2
-    compared-ids n = record { clash = λ e m x y m′ ep eq kp kq. meets-ids s ps ws m x y p q ep eq kp kq m′ (λ z. n (ed ∙ z ∙ sym ec)); bit = λ z. absurd (z refl) }
+  pub compared-ids : (d c : ℕ) → d ≡ id-word s ps ws (p / 2) → c ≡ id-word s ps ws (q / 2) → d ≢ c → Compared s ps ws p q 2
+  compared-ids d c ed ec n = record { clash = λ e m x y m′ ep eq kp kq. meets-ids s ps ws m x y p q ep eq kp kq m′ (λ z. n (ed ∙ z ∙ sym ec)); bit = λ z. absurd (z refl) }
 
-    pub compared-flag : (b i j : ℕ) (f : Bool) → Bit (apart s ps ws p q) b → b ≡ 1 → i ≡ k → j ≡ d → f ≡ kind-flag s 3 i j → f ≡ false → Compared s ps ws p q 2
-    compared-flag b i j f bit e ei ej ef z = record { clash = λ e′ m x y m′ ep eq kp kq. meets-flag s ps ws m x y p q ep eq kp kq m′ b bit e (sym (ap₂ (kind-flag s 3) (ei ∙ ek) (ej ∙ ed)) ∙ sym ef ∙ z); bit = λ z. absurd (z refl) }
+pub compared-flag : (s ps ws : Words) (p q k d b i j : ℕ) (f : Bool) → k ≡ kind-word s ps ws (p / 2) → d ≡ id-word s ps ws (p / 2) → Bit (apart s ps ws p q) b → b ≡ 1 → i ≡ k → j ≡ d → f ≡ kind-flag s 3 i j → not f ≡ true → Compared s ps ws p q 2
+compared-flag s ps ws p q k d b i j f ek ed bit e ei ej ef n = record { clash = λ e′ m x y m′ ep eq kp kq. meets-flag s ps ws m x y p q ep eq kp kq m′ b bit e (sym (ap₂ (kind-flag s 3) (ei ∙ ek) (ej ∙ ed)) ∙ sym ef ∙ no f n); bit = λ z. absurd (z refl) }
 
 pub compared-bit : (s ps ws : Words) (p q b : ℕ) → Bit (apart s ps ws p q) b → Compared s ps ws p q b
 compared-bit s ps ws p q b o = record { clash = λ e. absurd (omega (arith, o .small, e)); bit = λ z. o }
@@ -127,3 +127,13 @@ module _ (s ps ws m : Words) (x y p q c : ℕ) (ep : p ≡ turn x (source m (x /
   known-joined m₁ r₁ m₂ r n f e g = record {
     at = λ st j ts run k w v. (g .went, λ z. (meets-join s ps ws m x y p q ep eq kp kq c m₁ r₁ m₂ r (o .bit n) f e (g .left z) (g .right z) (g .joins z)) .at st j ts run k w v .1 z);
   }
+
+-- A type of the signature is below 4,096, a known node has at most eight children where they are told, and a kind that is read is there.
+pub cell-small : (w u : ℕ) → u ≡ 2048 + w % 2048 → u < 4096
+cell-small w u e = omega (arith, e)
+
+pub arity-few : (ws : Words) (z n : ℕ) → ChildTypes ws z (row-at ws z n) → n ≢ 9 → n ≤ 8
+arity-few ws z n c e = c .few e
+
+pub kind-there : (s ps ws : Words) (r k : ℕ) → k ≡ kind-word s ps ws r → k ≢ 0 → kind-word s ps ws r ≢ 0
+kind-there s ps ws r k e z q = z (e ∙ q)

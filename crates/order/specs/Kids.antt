@@ -28,6 +28,10 @@ left-of o j l h = drop-cons (take (o .n) (o .types)) j 0 (omega (arith, length-t
 none-left : (o : Row) (j : ℕ) → o .n ≤ length (o .types) → o .n ≤ j → drop j (take (o .n) (o .types)) ≡ []
 none-left o j l h = drop-of-length-le (take (o .n) (o .types)) {i = j} (omega (arith, length-take-le (o .n) (o .types) l))
 
+-- The cells from h are met with the types of a row, turned by b.
+pub record Cells (s ps ws m : Words) (h : ℕ) (o : Row) (b : ℕ) (m′ : Words) (r : ℕ) : Type 0 where
+  pub all : FollowsAll s ps ws m (record-types s h) (map (turn b) (take (o .n) (o .types))) m′ r
+
 -- j cells have met the types of a row, turned by b, and the chain goes on at c: what is found of the others is found of all.
 pub record Beside (s ps ws m : Words) (h : ℕ) (o : Row) (b : ℕ) (m₁ : Words) (c j : ℕ) : Type 0 where
   pub few : j ≤ o .n
@@ -47,9 +51,6 @@ beside-start s ps ws m h z n b f l = record {
 }
 
 module _ (s ps ws m : Words) (h : ℕ) (o : Row) (b : ℕ) (m₁ : Words) (c j : ℕ) (k : Beside s ps ws m h o b m₁ c j) where
-  abbrev Whole : Words → ℕ → Type 0
-  Whole m′ r = FollowsAll s ps ws m (record-types s h) (map (turn b) (take (o .n) (o .types))) m′ r
-
   more-cells : c ≢ 0 → map (cell-type s) (chain-of (length s - j) s c) ≡ cell-type s c ∷ map (cell-type s) (chain-of (length s - (j + 1)) s (at s c))
   more-cells z = ap (map (cell-type s)) (cells-more s j c (omega (arith, k .few, k .fuel)) z)
 
@@ -63,26 +64,26 @@ module _ (s ps ws m : Words) (h : ℕ) (o : Row) (b : ℕ) (m₁ : Words) (c j :
   no-types l = ap (map (turn b)) (none-left o j (k .long) l)
 
   -- The cells end before the types do,
-  pub beside-short : c ≡ 0 → j < o .n → Whole m₁ 0
-  beside-short z l = k .rest m₁ 0 (follows-uneven s ps ws m₁ _ _ m₁ (λ e. omega (arith, sym (ap length (no-cells z)) ∙ e ∙ ap length (more-types l))))
+  pub beside-short : c ≡ 0 → j < o .n → Cells s ps ws m h o b m₁ 0
+  beside-short z l = record { all = k .rest m₁ 0 (follows-uneven s ps ws m₁ _ _ m₁ (λ e. omega (arith, sym (ap length (no-cells z)) ∙ e ∙ ap length (more-types l)))) }
 
   -- the types before the cells do,
-  pub beside-over : c ≢ 0 → o .n ≤ j → Whole m₁ 0
-  beside-over z l = k .rest m₁ 0 (follows-uneven s ps ws m₁ _ _ m₁ (λ e. omega (arith, sym (ap length (more-cells z)) ∙ e ∙ ap length (no-types l))))
+  pub beside-over : c ≢ 0 → o .n ≤ j → Cells s ps ws m h o b m₁ 0
+  beside-over z l = record { all = k .rest m₁ 0 (follows-uneven s ps ws m₁ _ _ m₁ (λ e. omega (arith, sym (ap length (more-cells z)) ∙ e ∙ ap length (no-types l)))) }
 
   -- or both.
-  pub beside-end : c ≡ 0 → o .n ≤ j → Whole m₁ 1
-  beside-end z l = k .rest m₁ 1 (subst (λ (us : Words). FollowsAll s ps ws m₁ us (map (turn b) (drop j (take (o .n) (o .types)))) m₁ 1) (sym (no-cells z)) (subst (λ (vs : Words). FollowsAll s ps ws m₁ [] vs m₁ 1) (sym (no-types l)) (follows-none s ps ws m₁)))
+  pub beside-end : c ≡ 0 → o .n ≤ j → Cells s ps ws m h o b m₁ 1
+  beside-end z l = record { all = k .rest m₁ 1 (subst (λ (us : Words). FollowsAll s ps ws m₁ us (map (turn b) (drop j (take (o .n) (o .types)))) m₁ 1) (sym (no-cells z)) (subst (λ (vs : Words). FollowsAll s ps ws m₁ [] vs m₁ 1) (sym (no-types l)) (follows-none s ps ws m₁))) }
 
   module _ (w u x v n : ℕ) (z : c ≢ 0) (l : j < o .n) (ew : w ≡ at s (c + 1)) (eu : u ≡ 2048 + w % 2048) (ex : x ≡ at (o .types) j) (ev : v ≡ turn b x) where
-    here : (m′ : Words) (r : ℕ) → FollowsAll s ps ws m₁ (u ∷ map (cell-type s) (chain-of (length s - (j + 1)) s (at s c))) (v ∷ map (turn b) (drop (j + 1) (take (o .n) (o .types)))) m′ r → Whole m′ r
+    here : (m′ : Words) (r : ℕ) → FollowsAll s ps ws m₁ (u ∷ map (cell-type s) (chain-of (length s - (j + 1)) s (at s c))) (v ∷ map (turn b) (drop (j + 1) (take (o .n) (o .types)))) m′ r → FollowsAll s ps ws m (record-types s h) (map (turn b) (take (o .n) (o .types))) m′ r
     here m′ r f = k .rest m′ r
         (subst (λ (us : Words). FollowsAll s ps ws m₁ us (map (turn b) (drop j (take (o .n) (o .types)))) m′ r) (sym (more-cells z ∙ ap (λ i. i ∷ map (cell-type s) (chain-of (length s - (j + 1)) s (at s c))) (sym (eu ∙ ap (λ i. 2048 + i % 2048) ew))))
         (subst (λ (vs : Words). FollowsAll s ps ws m₁ (u ∷ map (cell-type s) (chain-of (length s - (j + 1)) s (at s c))) vs m′ r) (sym (more-types l ∙ ap (λ i. i ∷ map (turn b) (drop (j + 1) (take (o .n) (o .types)))) (sym (ev ∙ ap (turn b) ex)))) f))
 
     -- A pair is the last,
-    pub beside-last : (m₂ : Words) (r : ℕ) → Follows s ps ws m₁ u v m₂ r → r ≢ 1 → Whole m₂ r
-    beside-last m₂ r f y = here m₂ r (follows-last s ps ws m₁ u v m₂ r _ _ f y)
+    pub beside-last : (m₂ : Words) (r : ℕ) → Follows s ps ws m₁ u v m₂ r → r ≢ 1 → Cells s ps ws m h o b m₂ r
+    beside-last m₂ r f y = record { all = here m₂ r (follows-last s ps ws m₁ u v m₂ r _ _ f y) }
 
     -- or the next is met.
     pub beside-on : (m₂ : Words) (r : ℕ) → Follows s ps ws m₁ u v m₂ r → r ≡ 1 → n ≡ at s c → Beside s ps ws m h o b m₂ n (j + 1)
@@ -95,11 +96,11 @@ module _ (s ps ws m : Words) (h : ℕ) (o : Row) (b : ℕ) (m₁ : Words) (c j :
     }
 
 -- The children of a ref that has a record and of a known node.
-pub kids-across : (s ps ws m : Words) (a z b p h i n : ℕ) (m′ : Words) (r : ℕ) → 1024 ≤ a → z < 256 → ChildTypes ws z (row-at ws z n) → n ≢ 9 → p ≡ place ps a → h ≡ at s (p + 4) → i ≡ h → FollowsAll s ps ws m (record-types s i) (map (turn b) (take n (types-at ws z))) m′ r → FollowsAll s ps ws m (kids s ps ws a) (map (turn b) (kids s ps ws z)) m′ r
+pub kids-across : (s ps ws m : Words) (a z b p h i n : ℕ) (m′ : Words) (r : ℕ) → 1024 ≤ a → z < 256 → ChildTypes ws z (row-at ws z n) → n ≢ 9 → p ≡ place ps a → h ≡ at s (p + 4) → i ≡ h → Cells s ps ws m i (row-at ws z n) b m′ r → FollowsAll s ps ws m (kids s ps ws a) (map (turn b) (kids s ps ws z)) m′ r
 unfolding kids
 kids-across s ps ws m a z b p h i n m′ r ha hz c e ep eh ei f =
     subst (λ (us : Words). FollowsAll s ps ws m us (map (turn b) (kids s ps ws z)) m′ r) (sym (high ∙ ap (record-types s) (sym (ei ∙ eh ∙ ap (λ v. at s (v + 4)) ep))))
-    (subst (λ (vs : Words). FollowsAll s ps ws m (record-types s i) (map (turn b) vs) m′ r) (c .are e ∙ sym low) f)
+    (subst (λ (vs : Words). FollowsAll s ps ws m (record-types s i) (map (turn b) vs) m′ r) (c .are e ∙ sym low) (f .all))
   where
     high : kids s ps ws a ≡ record-types s (at s (place ps a + 4))
     high = rw (le-ltb a 256 (omega arith), kids)
@@ -107,43 +108,57 @@ kids-across s ps ws m a z b p h i n m′ r ha hz c e ep eh ei f =
     low : kids s ps ws z ≡ node-types ws z
     low = rw (lt-ltb z 256 hz, kids)
 
--- j pairs of two rows have met: what is found of the others is found of all.
-pub record Rows (s ps ws m : Words) (x y : Row) (b : ℕ) (m₁ : Words) (j : ℕ) : Type 0 where
-  pub even : x .n ≡ y .n
+-- Two rows are met, the types of the second turned by b.
+pub record Paired (s ps ws m : Words) (x y : Row) (b : ℕ) (m′ : Words) (r : ℕ) : Type 0 where
+  pub all : FollowsAll s ps ws m (take (x .n) (x .types)) (map (turn b) (take (y .n) (y .types))) m′ r
+
+-- Rows of the same length, whose types are there.
+pub record Even (x y : Row) : Type 0 where
+  pub same : x .n ≡ y .n
   pub most : x .n ≤ 8
   pub left : x .n ≤ length (x .types)
   pub right : y .n ≤ length (y .types)
+
+-- j pairs have met: what is found of the others is found of all.
+pub record Rows (s ps ws m : Words) (x y : Row) (b : ℕ) (m₁ : Words) (j : ℕ) : Type 0 where
+  pub even : Even x y
   pub rest : (m′ : Words) (r : ℕ) → FollowsAll s ps ws m₁ (drop j (take (x .n) (x .types))) (map (turn b) (drop j (take (y .n) (y .types)))) m′ r → FollowsAll s ps ws m (take (x .n) (x .types)) (map (turn b) (take (y .n) (y .types))) m′ r
 
-pub rows-start : (s ps ws m : Words) (a z b : ℕ) (x y : Row) → Kids s ps ws a x → Kids s ps ws z y → x .n ≢ 9 → y .n ≢ 9 → x .n ≡ y .n → Rows s ps ws m x y b m 0
-rows-start s ps ws m a z b x y p q nx ny e = record { even = e; most = p .few nx; left = p .long nx; right = q .long ny; rest = λ m′ r f. f }
+pub rows-start : (s ps ws m : Words) (x y : Row) (b : ℕ) → Even x y → Rows s ps ws m x y b m 0
+rows-start s ps ws m x y b e = record { even = e; rest = λ m′ r f. f }
 
--- They are not as many.
-pub rows-uneven : (s ps ws m : Words) (a z b : ℕ) (x y : Row) (m′ : Words) → Kids s ps ws a x → Kids s ps ws z y → x .n ≢ 9 → y .n ≢ 9 → x .n ≢ y .n → FollowsAll s ps ws m (kids s ps ws a) (map (turn b) (kids s ps ws z)) m′ 0
-rows-uneven s ps ws m a z b x y m′ p q nx ny d = follows-uneven s ps ws m _ _ m′ (λ e. d (sym (count x (p .long nx)) ∙ ap length (p .are nx) ∙ e ∙ turned (kids s ps ws z) ∙ sym (ap length (q .are ny)) ∙ count y (q .long ny)))
-  where
-    count : (o : Row) → o .n ≤ length (o .types) → length (take (o .n) (o .types)) ≡ o .n
-    count o l = length-take-le (o .n) (o .types) l
-
-    turned : (us : Words) → length (map (turn b) us) ≡ length us
-    turned [] = refl
-    turned (u ∷ us) = ap suc (turned us)
-
-module _ (s ps ws m : Words) (x y : Row) (b : ℕ) (m₁ : Words) (j : ℕ) (k : Rows s ps ws m x y b m₁ j) (a z : ℕ) (p : Kids s ps ws a x) (q : Kids s ps ws z y) (nx : x .n ≢ 9) (ny : y .n ≢ 9) where
-  told : (m′ : Words) (r : ℕ) → FollowsAll s ps ws m (take (x .n) (x .types)) (map (turn b) (take (y .n) (y .types))) m′ r → FollowsAll s ps ws m (kids s ps ws a) (map (turn b) (kids s ps ws z)) m′ r
-  told m′ r f = subst (λ (us : Words). FollowsAll s ps ws m us (map (turn b) (kids s ps ws z)) m′ r) (p .are nx) (subst (λ (vs : Words). FollowsAll s ps ws m (take (x .n) (x .types)) (map (turn b) vs) m′ r) (q .are ny) f)
-
-  pub rows-end : x .n ≤ j → FollowsAll s ps ws m (kids s ps ws a) (map (turn b) (kids s ps ws z)) m₁ 1
-  rows-end l = told m₁ 1 (k .rest m₁ 1 (subst (λ (us : Words). FollowsAll s ps ws m₁ us (map (turn b) (drop j (take (y .n) (y .types)))) m₁ 1) (sym (none-left x j (k .left) l)) (subst (λ (vs : Words). FollowsAll s ps ws m₁ [] (map (turn b) vs) m₁ 1) (sym (none-left y j (k .right) (omega (arith, k .even)))) (follows-none s ps ws m₁))))
+module _ (s ps ws m : Words) (x y : Row) (b : ℕ) (m₁ : Words) (j : ℕ) (k : Rows s ps ws m x y b m₁ j) where
+  pub rows-end : x .n ≤ j → Paired s ps ws m x y b m₁ 1
+  rows-end l = record { all = k .rest m₁ 1 (subst (λ (us : Words). FollowsAll s ps ws m₁ us (map (turn b) (drop j (take (y .n) (y .types)))) m₁ 1) (sym (none-left x j (k .even .left) l)) (subst (λ (vs : Words). FollowsAll s ps ws m₁ [] (map (turn b) vs) m₁ 1) (sym (none-left y j (k .even .right) (omega (arith, k .even .same)))) (follows-none s ps ws m₁))) }
 
   module _ (u w v : ℕ) (l : j < x .n) (eu : u ≡ at (x .types) j) (ew : w ≡ at (y .types) j) (ev : v ≡ turn b w) where
     here-rows : (m′ : Words) (r : ℕ) → FollowsAll s ps ws m₁ (u ∷ drop (j + 1) (take (x .n) (x .types))) (v ∷ map (turn b) (drop (j + 1) (take (y .n) (y .types)))) m′ r → FollowsAll s ps ws m (take (x .n) (x .types)) (map (turn b) (take (y .n) (y .types))) m′ r
     here-rows m′ r f = k .rest m′ r
-        (subst (λ (us : Words). FollowsAll s ps ws m₁ us (map (turn b) (drop j (take (y .n) (y .types)))) m′ r) (sym (left-of x j (k .left) l ∙ ap (λ i. i ∷ drop (j + 1) (take (x .n) (x .types))) (sym eu)))
-        (subst (λ (vs : Words). FollowsAll s ps ws m₁ (u ∷ drop (j + 1) (take (x .n) (x .types))) vs m′ r) (sym (ap (map (turn b)) (left-of y j (k .right) (omega (arith, k .even))) ∙ ap (λ i. i ∷ map (turn b) (drop (j + 1) (take (y .n) (y .types)))) (sym (ev ∙ ap (turn b) ew)))) f))
+        (subst (λ (us : Words). FollowsAll s ps ws m₁ us (map (turn b) (drop j (take (y .n) (y .types)))) m′ r) (sym (left-of x j (k .even .left) l ∙ ap (λ i. i ∷ drop (j + 1) (take (x .n) (x .types))) (sym eu)))
+        (subst (λ (vs : Words). FollowsAll s ps ws m₁ (u ∷ drop (j + 1) (take (x .n) (x .types))) vs m′ r) (sym (ap (map (turn b)) (left-of y j (k .even .right) (omega (arith, k .even .same))) ∙ ap (λ i. i ∷ map (turn b) (drop (j + 1) (take (y .n) (y .types)))) (sym (ev ∙ ap (turn b) ew)))) f))
 
-    pub rows-last : (m₂ : Words) (r : ℕ) → Follows s ps ws m₁ u v m₂ r → r ≢ 1 → FollowsAll s ps ws m (kids s ps ws a) (map (turn b) (kids s ps ws z)) m₂ r
-    rows-last m₂ r f n = told m₂ r (here-rows m₂ r (follows-last s ps ws m₁ u v m₂ r _ _ f n))
+    pub rows-last : (m₂ : Words) (r : ℕ) → Follows s ps ws m₁ u v m₂ r → r ≢ 1 → Paired s ps ws m x y b m₂ r
+    rows-last m₂ r f n = record { all = here-rows m₂ r (follows-last s ps ws m₁ u v m₂ r _ _ f n) }
 
     pub rows-on : (m₂ : Words) (r : ℕ) → Follows s ps ws m₁ u v m₂ r → r ≡ 1 → Rows s ps ws m x y b m₂ (j + 1)
-    rows-on m₂ r f e = record { even = k .even; most = k .most; left = k .left; right = k .right; rest = λ m′ t g. here-rows m′ t (follows-more s ps ws m₁ u v m₂ r _ _ m′ t f e g) }
+    rows-on m₂ r f e = record { even = k .even; rest = λ m′ t g. here-rows m′ t (follows-more s ps ws m₁ u v m₂ r _ _ m′ t f e g) }
+
+-- The rows are those of the children of two refs.
+module _ (s ps ws : Words) (a z : ℕ) (x y : Row) (p : Kids s ps ws a x) (q : Kids s ps ws z y) (nx : x .n ≢ 9) (ny : y .n ≢ 9) where
+  pub rows-even : x .n ≡ y .n → Even x y
+  rows-even e = record { same = e; most = p .few nx; left = p .long nx; right = q .long ny }
+
+  -- They are not as many,
+  pub rows-uneven : (m : Words) (b : ℕ) (m′ : Words) → x .n ≢ y .n → FollowsAll s ps ws m (kids s ps ws a) (map (turn b) (kids s ps ws z)) m′ 0
+  rows-uneven m b m′ d = follows-uneven s ps ws m _ _ m′ (λ e. d (sym (count x (p .long nx)) ∙ ap length (p .are nx) ∙ e ∙ turned (kids s ps ws z) ∙ sym (ap length (q .are ny)) ∙ count y (q .long ny)))
+    where
+      count : (o : Row) → o .n ≤ length (o .types) → length (take (o .n) (o .types)) ≡ o .n
+      count o l = length-take-le (o .n) (o .types) l
+
+      turned : (us : Words) → length (map (turn b) us) ≡ length us
+      turned [] = refl
+      turned (u ∷ us) = ap suc (turned us)
+
+  -- or they are met.
+  pub rows-kids : (m : Words) (b : ℕ) (m′ : Words) (r : ℕ) → Paired s ps ws m x y b m′ r → FollowsAll s ps ws m (kids s ps ws a) (map (turn b) (kids s ps ws z)) m′ r
+  rows-kids m b m′ r f = subst (λ (us : Words). FollowsAll s ps ws m us (map (turn b) (kids s ps ws z)) m′ r) (p .are nx) (subst (λ (vs : Words). FollowsAll s ps ws m (take (x .n) (x .types)) (map (turn b) vs) m′ r) (q .are ny) (f .all))

@@ -57,7 +57,7 @@ own-opened (suc k) s ts t x i kd d cs e q true f (inl z) = absurd (true≢false 
 own-opened (suc k) s ts t x i kd d cs e q true f (inr z) = rw (e, q, f, self-inverse-in, kind) (z k)
 own-opened (suc k) s ts t x i kd d cs e q false f c = rw (e, q, f, self-inverse-in, kind)
 
-no : (c : Bool) → not c ≡ true → c ≡ false
+pub no : (c : Bool) → not c ≡ true → c ≡ false
 no true z = absurd (true≢false (sym z))
 no false z = refl
 

@@ -8,10 +8,11 @@ ghost use mathlib.Core.Bool.{true, false};
 ghost use mathlib.Core.List.{map};
 ghost use Prim.Native.Nat.{_+_, _/_, _%_, _<_, _≤_};
 ghost use lib.Dec.{eqb};
-ghost use lib.ListN.{length};
+ghost use lib.ListN.{length, take};
 ghost use Rattle.rules.specs.Sheet.{at};
 ghost use Rattle.table.specs.Packing.{Packed};
-ghost use Rattle.refs.specs.Meaning.{turn as turn-of, record-types};
+ghost use Rattle.table.specs.ChildTypes.{row-at};
+ghost use Rattle.refs.specs.Meaning.{turn as turn-of};
 ghost use Rattle.refs.specs.Refs.{place, Bit, apart as apart-of};
 ghost use Rattle.order.specs.Stage.{kind-word, id-word, kids, base};
 ghost use Rattle.order.specs.Mirror.{source, Marks};
@@ -19,6 +20,8 @@ ghost use Rattle.order.specs.Following.{Follows, FollowsAll, Meets, Owns
 ghost use Rattle.order.specs.Meeting.{Joins};
 ghost use Rattle.order.specs.Words.{Found, Roots, Kids};
 ghost use Rattle.order.specs.Owning.{OwnsAll, Flagged};
+ghost use Rattle.order.specs.Going.{Compared, Rejoins};
+ghost use Rattle.order.specs.Kids.{Cells, Even, Paired};
 ghost use Rattle.order.specs.Joined.{Inherits, Hangs};
 use chart::kinds;
 use chart::layout;
@@ -28,6 +31,7 @@ use refs::PARAM;
 use refs::PARAMS;
 use refs::RECORDS;
 use refs::UNTOLD;
+use refs::apart;
 use refs::cells;
 use refs::id;
 use refs::own_type;
@@ -59,6 +63,12 @@ const MARKS: usize = 6144;
 const MANY: u32 = 65536;
 
 const ERROR: u32 = 13;
+
+// Types clash.
+const DIFFER: u32 = 2;
+
+// How deep types are followed.
+const DEPTH: usize = 256;
 
 // The ref of a type, as an index.
 fn ref_of(t: u32) -> usize
@@ -309,4 +319,322 @@ fn own_all(
         j += 1;
     }
     true
+}
+
+// Whether two types of kind k and id d are met inverted: 1 or 0; DIFFER where they may not.
+fn sides(sheet: &[u32], places: &[u32], ws: &[u32], p: u32, q: u32, k: u32, d: u32) -> u32
+    requires { ⌜ k ≡ kind-word (now sheet) (now places) (now ws) (p / 2) ⌝ }
+    requires { ⌜ d ≡ id-word (now sheet) (now places) (now ws) (p / 2) ⌝ }
+    ensures { λ c. ⌜ Compared (now (sheet .entry)) (now (places .entry)) (now (ws .entry)) p q c ⌝ }
+{
+    let b = apart(sheet, places, ws, p, q);
+    if b == 1 {
+        if !kinds::kind_flag(sheet, layout::ROW_MAY_MEET, words::wide(k), words::wide(d)) {
+            return DIFFER;
+        }
+    }
+    b
+}
+
+// Whether two known types, of kinds k and l, are met inverted: 1 or 0; DIFFER where they clash.
+fn compare(sheet: &[u32], places: &[u32], ws: &[u32], p: u32, q: u32, k: u32, l: u32) -> u32
+    requires { ⌜ k ≡ kind-word (now sheet) (now places) (now ws) (p / 2) ⌝ }
+    requires { ⌜ l ≡ kind-word (now sheet) (now places) (now ws) (q / 2) ⌝ }
+    ensures { λ c. ⌜ Compared (now (sheet .entry)) (now (places .entry)) (now (ws .entry)) p q c ⌝ }
+{
+    if k != l {
+        return DIFFER;
+    }
+    if k == ERROR {
+        return DIFFER;
+    }
+    let d = id(sheet, places, ws, p / 2);
+    if d != id(sheet, places, ws, q / 2) {
+        return DIFFER;
+    }
+    sides(sheet, places, ws, p, q, k, d)
+}
+
+// Joins two known roots, if they are roots still.
+fn rejoin(ws: &[u32], m: &mut [u32; 8192], x: u32, y: u32) -> u32
+    requires { ⌜ x < 4096 ⌝ }
+    requires { ⌜ y < 4096 ⌝ }
+    ensures { λ r. ⌜ Rejoins (now (ws .entry)) (now (m .entry)) x y (now (m .exit)) r ⌝ }
+{
+    if m[ref_of(x)] != 0 {
+        return STOP;
+    }
+    if m[ref_of(y)] != 0 {
+        return STOP;
+    }
+    join(ws, m, x, y, false, false)
+}
+
+// The rule's `unify` of two types.
+fn go(
+    sheet: &[u32],
+    places: &[u32],
+    ws: &[u32],
+    m: &mut [u32; 8192],
+    a: u32,
+    b: u32,
+    left: usize,
+) -> u32
+    requires { ⌜ Packed (now ws) ⌝ }
+    ensures { λ r. ⌜ Follows (now (sheet .entry)) (now (places .entry)) (now (ws .entry)) (now (m .entry)) a b (now (m .exit)) r ⌝ }
+{
+    let x = root(sheet, places, m, a);
+    if x >= TYPES {
+        return STOP;
+    }
+    let y = root(sheet, places, m, b);
+    if y >= TYPES {
+        return STOP;
+    }
+    if x / 2 != y / 2 {
+        return meet(sheet, places, ws, m, x, y, left);
+    }
+    if x == y {
+        return OK;
+    }
+    if own(sheet, places, ws, m, x, DEPTH) {
+        return OK;
+    }
+    CLASH
+}
+
+// Two different roots.
+fn meet(
+    sheet: &[u32],
+    places: &[u32],
+    ws: &[u32],
+    m: &mut [u32; 8192],
+    x: u32,
+    y: u32,
+    left: usize,
+) -> u32
+    requires { ⌜ Packed (now ws) ⌝ }
+    requires { ⌜ x < 4096 ⌝ }
+    requires { ⌜ y < 4096 ⌝ }
+    ensures { λ r. ⌜ Meets (now (sheet .entry)) (now (places .entry)) (now (ws .entry)) (now (m .entry)) x y (now (m .exit)) r ⌝ }
+{
+    let p = state(m, x);
+    let q = state(m, y);
+    let k = kind(sheet, places, ws, p / 2);
+    let l = kind(sheet, places, ws, q / 2);
+    if k == 0 {
+        return join(ws, m, x, y, true, l == 0);
+    }
+    if l == 0 {
+        return join(ws, m, x, y, false, true);
+    }
+    meet_known(sheet, places, ws, m, x, y, p, q, k, l, left)
+}
+
+// Two different roots that have known states p and q, of kinds k and l.
+fn meet_known(
+    sheet: &[u32],
+    places: &[u32],
+    ws: &[u32],
+    m: &mut [u32; 8192],
+    x: u32,
+    y: u32,
+    p: u32,
+    q: u32,
+    k: u32,
+    l: u32,
+    left: usize,
+) -> u32
+    requires { ⌜ Packed (now ws) ⌝ }
+    requires { ⌜ x < 4096 ⌝ }
+    requires { ⌜ y < 4096 ⌝ }
+    requires { ⌜ p ≡ turn-of x (source (now m) (x / 2)) ⌝ }
+    requires { ⌜ q ≡ turn-of y (source (now m) (y / 2)) ⌝ }
+    requires { ⌜ k ≡ kind-word (now sheet) (now places) (now ws) (p / 2) ⌝ }
+    requires { ⌜ l ≡ kind-word (now sheet) (now places) (now ws) (q / 2) ⌝ }
+    requires { ⌜ k ≢ 0 ⌝ }
+    requires { ⌜ l ≢ 0 ⌝ }
+    ensures { λ r. ⌜ Meets (now (sheet .entry)) (now (places .entry)) (now (ws .entry)) (now (m .entry)) x y (now (m .exit)) r ⌝ }
+{
+    let c = compare(sheet, places, ws, p, q, k, l);
+    if c == DIFFER {
+        return CLASH;
+    }
+    if left == 0 {
+        return STOP;
+    }
+    let r = below(sheet, places, ws, m, p / 2, q / 2, c, left - 1);
+    if r != OK {
+        return r;
+    }
+    rejoin(ws, m, x, y)
+}
+
+// The children of two refs, those of the second turned by b.
+fn below(
+    sheet: &[u32],
+    places: &[u32],
+    ws: &[u32],
+    m: &mut [u32; 8192],
+    a: u32,
+    z: u32,
+    b: u32,
+    left: usize,
+) -> u32
+    requires { ⌜ Packed (now ws) ⌝ }
+    ensures { λ r. ⌜ FollowsAll (now (sheet .entry)) (now (places .entry)) (now (ws .entry)) (now (m .entry)) (kids (now (sheet .entry)) (now (places .entry)) (now (ws .entry)) a) (map (turn-of b) (kids (now (sheet .entry)) (now (places .entry)) (now (ws .entry)) z)) (now (m .exit)) r ⌝ }
+{
+    if RECORDS <= a {
+        if z < NODES {
+            return across(sheet, places, ws, m, a, z, b, left);
+        }
+    }
+    rows(sheet, places, ws, m, a, z, b, left)
+}
+
+// The same of a ref that has a record and of a node.
+fn across(
+    sheet: &[u32],
+    places: &[u32],
+    ws: &[u32],
+    m: &mut [u32; 8192],
+    a: u32,
+    z: u32,
+    b: u32,
+    left: usize,
+) -> u32
+    requires { ⌜ Packed (now ws) ⌝ }
+    requires { ⌜ 1024 ≤ a ⌝ }
+    requires { ⌜ z < 256 ⌝ }
+    ensures { λ r. ⌜ FollowsAll (now (sheet .entry)) (now (places .entry)) (now (ws .entry)) (now (m .entry)) (kids (now (sheet .entry)) (now (places .entry)) (now (ws .entry)) a) (map (turn-of b) (kids (now (sheet .entry)) (now (places .entry)) (now (ws .entry)) z)) (now (m .exit)) r ⌝ }
+{
+    if sheet.len() <= 8 {
+        return STOP;
+    }
+    if table::kind_of(ws, z) == 0 {
+        return STOP;
+    }
+    let n = table::own_children(ws, z);
+    if n == UNTOLD {
+        return STOP;
+    }
+    let p = place_of(places, a);
+    let head = words::offset(sheet, p, layout::NODE_CHILDREN);
+    beside(sheet, places, ws, m, words::wide(head), z, n, b, left)
+}
+
+// The types in the cells from a head and the n children of node z, turned by b.
+fn beside(
+    sheet: &[u32],
+    places: &[u32],
+    ws: &[u32],
+    m: &mut [u32; 8192],
+    head: usize,
+    z: u32,
+    n: usize,
+    b: u32,
+    left: usize,
+) -> u32
+    requires { ⌜ Packed (now ws) ⌝ }
+    requires { ⌜ 8 < length (now sheet) ⌝ }
+    requires { ⌜ z < 256 ⌝ }
+    requires { ⌜ n ≤ 8 ⌝ }
+    ensures { λ r. ⌜ Cells (now (sheet .entry)) (now (places .entry)) (now (ws .entry)) (now (m .entry)) head (row-at (now (ws .entry)) z n) b (now (m .exit)) r ⌝ }
+{
+    let mut c = head;
+    let mut j: usize = 0;
+    while j < n {
+        if c == 0 {
+            return CLASH;
+        }
+        let u = own_type(words::offset(sheet, c, layout::CELL_TYPE));
+        let v = turn(b, table::child_type(ws, z, j));
+        let r = pair(sheet, places, ws, m, u, v, left);
+        if r != OK {
+            return r;
+        }
+        c = words::next(sheet, c);
+        j += 1;
+    }
+    if c != 0 {
+        return CLASH;
+    }
+    OK
+}
+
+// Two types, unless the one is linked to the other.
+fn pair(
+    sheet: &[u32],
+    places: &[u32],
+    ws: &[u32],
+    m: &mut [u32; 8192],
+    a: u32,
+    b: u32,
+    left: usize,
+) -> u32
+    requires { ⌜ Packed (now ws) ⌝ }
+    requires { ⌜ a < 4096 ⌝ }
+    ensures { λ r. ⌜ Follows (now (sheet .entry)) (now (places .entry)) (now (ws .entry)) (now (m .entry)) a b (now (m .exit)) r ⌝ }
+{
+    let v = turn(a % 2, b);
+    if m[ref_of(a)] == v % 4096 + 1 {
+        return OK;
+    }
+    go(sheet, places, ws, m, a, b, left)
+}
+
+// The children of two refs, whichever they are, those of the second turned by b.
+fn rows(
+    sheet: &[u32],
+    places: &[u32],
+    ws: &[u32],
+    m: &mut [u32; 8192],
+    a: u32,
+    z: u32,
+    b: u32,
+    left: usize,
+) -> u32
+    requires { ⌜ Packed (now ws) ⌝ }
+    ensures { λ r. ⌜ FollowsAll (now (sheet .entry)) (now (places .entry)) (now (ws .entry)) (now (m .entry)) (kids (now (sheet .entry)) (now (places .entry)) (now (ws .entry)) a) (map (turn-of b) (kids (now (sheet .entry)) (now (places .entry)) (now (ws .entry)) z)) (now (m .exit)) r ⌝ }
+{
+    let xs = children(sheet, places, ws, a);
+    if xs.n == UNTOLD {
+        return STOP;
+    }
+    let ys = children(sheet, places, ws, z);
+    if ys.n == UNTOLD {
+        return STOP;
+    }
+    if xs.n != ys.n {
+        return CLASH;
+    }
+    pairs(sheet, places, ws, m, xs, ys, b, left)
+}
+
+// The types of two rows, those of the second turned by b.
+fn pairs(
+    sheet: &[u32],
+    places: &[u32],
+    ws: &[u32],
+    m: &mut [u32; 8192],
+    xs: Row,
+    ys: Row,
+    b: u32,
+    left: usize,
+) -> u32
+    requires { ⌜ Packed (now ws) ⌝ }
+    requires { ⌜ Even xs ys ⌝ }
+    ensures { λ r. ⌜ Paired (now (sheet .entry)) (now (places .entry)) (now (ws .entry)) (now (m .entry)) xs ys b (now (m .exit)) r ⌝ }
+{
+    let mut j: usize = 0;
+    while j < xs.n {
+        let u = xs.types[j];
+        let v = turn(b, ys.types[j]);
+        let r = go(sheet, places, ws, m, u, v, left);
+        if r != OK {
+            return r;
+        }
+        j += 1;
+    }
+    OK
 }
