@@ -1,2 +1,2 @@
 pub mod Stage
-
+pub mod Brought
