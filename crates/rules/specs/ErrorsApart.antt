@@ -3,7 +3,7 @@ use Prim.Native.Nat.{ℕ, zero, suc, _≤_, _<_}
 use mathlib.Core.Path.{_≡_, refl, sym, _∙_, ap, subst}
 use mathlib.Core.Bool.{Bool, true, false, not, _&&_, _||_}
 use mathlib.Core.List.{List, [], _∷_, map}
-use mathlib.Core.Option.{Option, none, some, Option·none-ne-some, Option·some-injective}
+use mathlib.Core.Option.{Option, none, some, Option·none-ne-some}
 use mathlib.Core.Logic.{_≢_, _⊎_, inl, inr, ⊎-elim}
 use native.Mathlib.Nat.{le-trans, lt-irrefl}
 use native.Mathlib.Omega.{arith}
@@ -20,7 +20,7 @@ use Rattle.rules.specs.Joining.{hang-state, hang-top, same-terms}
 use Rattle.rules.specs.MostGeneral.{Won, Right, AfterAll, both-won, flip-in, known-right, join-won, unify-in-right}
 use Rattle.rules.specs.TransferKeeps.{set-off}
 use Rattle.rules.specs.Carried.{pushed, transfer-carries}
-use Rattle.rules.specs.TransferCount.{mapped-other, mapped-here}
+use Rattle.rules.specs.TransferCount.{push-cases}
 use Rattle.rules.specs.UprightRoots.{relabel-out, turn, hung-top, hung-off}
 use Rattle.rules.specs.CommonTerms.{Frame, frame-state, set-state, each-frame, past-push, in-frame}
 use Rattle.rules.specs.CommonSides.{up-turns}
@@ -296,14 +296,6 @@ module _ (src : Types) (ps : Option (List Ty)) where
   each-comes f fr comes [] m = λ r u e. inl e
   each-comes f fr comes (c ∷ cs) m = comes-trans m ((f c m) .1) _ (fr c m) (each-frame f fr cs ((f c m) .1)) (comes c m) (each-comes f fr comes cs ((f c m) .1))
 
-  -- What is mapped after a push was before, or is what was pushed.
-  push-cases : (m : Transfer) (r x : ℕ) (u : Ty) → mapped ((pushed m r) .0) x ≡ some u → (mapped (m .0) x ≡ some u) ⊎ ((r ≡ x) × (u .1 ≡ length (m .1)))
-  push-cases m r x u e = go (ℕ-discrete r x)
-    where
-      go : Dec (r ≡ x) → (mapped (m .0) x ≡ some u) ⊎ ((r ≡ x) × (u .1 ≡ length (m .1)))
-      go (yes q) = inr (q, ap (λ (t : Ty). t .1) (sym (Option·some-injective _ _ (sym (mapped-here (m .0) r (false, length (m .1))) ∙ ap (mapped ((r, (false, length (m .1))) ∷ m .0)) q ∙ e))))
-      go (no q) = inl (sym (mapped-other (m .0) r (false, length (m .1)) x q) ∙ e)
-
   in-comes : (k : ℕ) (t : Ty) (m : Transfer) → Comes m ((transfer-in k src ps t m) .1)
   unfolding transfer-in find invert-if rep
   in-comes zero t m = λ r u e. inl e
@@ -333,7 +325,7 @@ module _ (src : Types) (ps : Option (List Ty)) where
           inside : n < length (w .1 .1)
           inside = past-push m (w .1) r f
 
-          at-new : (r ≡ x) × (u .1 ≡ n) → Came m (w .1 .0, us) x u
+          at-new : (r ≡ x) × (u .1 ≡ n) × (u .0 ≡ false) → Came m (w .1 .0, us) x u
           at-new y = record {
             low = omega (arith, y .1);
             high = omega (arith, y .1, inside, len);
@@ -364,7 +356,7 @@ module _ (src : Types) (ps : Option (List Ty)) where
       longer : length ((pushed m r) .1) ≡ suc (length (m .1))
       longer = omega (arith, length-append (m .1) (new-node (length (m .1)) unknown ∷ []))
 
-      go : (a b : ℕ) (u v : Ty) → u .1 ≡ v .1 → (mapped (m .0) a ≡ some u) ⊎ ((r ≡ a) × (u .1 ≡ length (m .1))) → (mapped (m .0) b ≡ some v) ⊎ ((r ≡ b) × (v .1 ≡ length (m .1))) → a ≡ b
+      go : (a b : ℕ) (u v : Ty) → u .1 ≡ v .1 → (mapped (m .0) a ≡ some u) ⊎ ((r ≡ a) × (u .1 ≡ length (m .1)) × (u .0 ≡ false)) → (mapped (m .0) b ≡ some v) ⊎ ((r ≡ b) × (v .1 ≡ length (m .1)) × (v .0 ≡ false)) → a ≡ b
       go a b u v q (inl x) (inl y) = o .once a b u v x y q
       go a b u v q (inl x) (inr y) = absurd (lt-irrefl (u .1) (omega (arith, o .inside a u x, q, y .1)))
       go a b u v q (inr x) (inl y) = absurd (lt-irrefl (v .1) (omega (arith, o .inside b v y, q, x .1)))

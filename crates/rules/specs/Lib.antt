@@ -75,6 +75,7 @@ pub mod CommonSides
 pub mod ErrorsApart
 pub mod Labels
 pub mod LabelsCome
+pub mod Placed
 pub mod SignedTerms
 pub mod SignedJoins
 pub mod SignedImports

@@ -1,10 +1,10 @@
 -- How many nodes an export makes: at most one for each node of its source. And an import of a list of impl types is the import of all their arguments in one row.
 use Prim.Native.Nat.{ℕ, zero, suc, _+_, _≤_, _<_}
-use mathlib.Core.Path.{_≡_, refl, _∙_, ap, subst}
+use mathlib.Core.Path.{_≡_, refl, sym, _∙_, ap, subst}
 use mathlib.Core.Bool.{false}
 use mathlib.Core.List.{List, [], _∷_, _++_}
-use mathlib.Core.Option.{Option, none, some}
-use mathlib.Core.Logic.{_≢_}
+use mathlib.Core.Option.{Option, none, some, Option·some-injective}
+use mathlib.Core.Logic.{_≢_, _⊎_, inl, inr}
 use native.Mathlib.Nat.{le-refl, not-suc-le-zero}
 use native.Mathlib.Omega.{arith}
 use native.Mathlib.Decide.{ℕ-discrete}
@@ -13,7 +13,7 @@ use Rattle.rules.specs.Lists.{concat-map}
 use Rattle.rules.specs.Types.{Ty, unknown, known, Types, new-node, ImplType}
 use Rattle.rules.specs.Transfer.{Transfer, mapped, transfer-each, transfer-in, transfer-types, import-types, transfer-impl-types, export-types}
 use Rattle.rules.specs.Robinson.{AllIn, WellFormed, eqb-true, eqb-false}
-use Rattle.rules.specs.Carried.{transfer-carries}
+use Rattle.rules.specs.Carried.{pushed, transfer-carries}
 
 -- 1 for none.
 unfoldable absent : Option Ty → ℕ
@@ -37,6 +37,14 @@ mapped-other ps r u n h = rw (eqb-false r n h, mapped)
 pub mapped-here : (ps : List (ℕ × Ty)) (r : ℕ) (u : Ty) → mapped ((r, u) ∷ ps) r ≡ some u
 unfolding mapped
 mapped-here ps r u = rw (eqb-true r r refl, mapped)
+
+-- What is mapped after a push was before, or is what was pushed.
+pub push-cases : (m : Transfer) (r x : ℕ) (u : Ty) → mapped ((pushed m r) .0) x ≡ some u → (mapped (m .0) x ≡ some u) ⊎ ((r ≡ x) × (u .1 ≡ length (m .1)) × (u .0 ≡ false))
+push-cases m r x u e = go (ℕ-discrete r x)
+  where
+    go : Dec (r ≡ x) → (mapped (m .0) x ≡ some u) ⊎ ((r ≡ x) × (u .1 ≡ length (m .1)) × (u .0 ≡ false))
+    go (yes q) = let w = Option·some-injective _ _ (sym e ∙ ap (mapped ((pushed m r) .0)) (sym q) ∙ mapped-here (m .0) r (false, length (m .1))) in inr (q, ap (λ (t : Ty). t .1) w, ap (λ (t : Ty). t .0) w)
+    go (no q) = inl (sym (mapped-other (m .0) r (false, length (m .1)) x q) ∙ e)
 
 unmapped-past : (ps : List (ℕ × Ty)) (r : ℕ) (u : Ty) (n : ℕ) → n ≤ r → unmapped ((r, u) ∷ ps) n ≡ unmapped ps n
 unfolding unmapped
