@@ -8,3 +8,4 @@ pub mod LooseReadings
 pub mod Places
 pub mod Signatures
 pub mod Params
+pub mod Brought

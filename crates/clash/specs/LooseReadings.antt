@@ -7,7 +7,6 @@ use mathlib.Core.Logic.{_≢_}
 use native.Mathlib.Decide.{ℕ-discrete}
 use native.Mathlib.Omega.{arith}
 use lib.ListN.{length, getD}
-use borrow.Author.Tests.{eq-eqb}
 use Rattle.rules.specs.Lists.{Words}
 use Rattle.rules.specs.Layout.{kind·param}
 use Rattle.rules.specs.Sheet.{at, chain}
@@ -22,19 +21,14 @@ use Rattle.rules.specs.SignedTerms.{inverse}
 use Rattle.rules.specs.Labels.{labels, Labels}
 use Rattle.rules.specs.Loose.{Alike, Loose, SignedLoose}
 use Rattle.table.specs.Packing.{types-of, kind-in, id-in, kind-at}
-use Rattle.table.specs.Nodes.{types-few, type-word, word-type}
+use Rattle.table.specs.Nodes.{types-few, word-type}
 use Rattle.table.specs.Reads.{unknown-here}
 use Rattle.table.specs.ChildTypes.{type-in, type-there}
 use Rattle.queries.specs.declared.Query.{Query}
 use Rattle.queries.specs.Queries.{query-of}
 use Rattle.refs.specs.Refs.{place, place-at}
 use Rattle.loose.specs.Loose.{labelled, kids, kids-low, kids-high, Labelling, LooseMeaning}
-use Rattle.clash.specs.Readings.{names, node-term, reading, reading-node, reading-record, known-state, query-length, query-type, query-in, record-word, common-meaning}
-
--- The node of a type's word.
-word-node : (t : Ty) → word-of-type t / 2 ≡ t .1
-unfolding type-of-word
-word-node t = ap (λ (u : Ty). u .1) (type-word t)
+use Rattle.clash.specs.Readings.{names, node-term, reading, reading-node, reading-record, unknown-state, known-state, query-length, query-type, query-in, word-node, record-word, common-meaning}
 
 -- Labels that are alike one by one.
 labels-each : (g f : ℕ → ℕ) (xs ys : List Ty) → length xs ≡ length ys → ((k : ℕ) → k < length xs → g ((getD xs k (false, 0)) .1) ≡ f ((getD ys k (false, 0)) .1)) → labels g xs ≡ labels f ys
@@ -52,14 +46,11 @@ record Recorded (s : Words) (p : ℕ) (k d : ℕ) (cs : List Ty) : Type 0 where
   cells : cell-types s (at s (p + 4)) ≡ cs
 
 recorded : (s : Words) (p : ℕ) (i : Bool) (k d : ℕ) (cs : List Ty) → node-state s p ≡ known i k d cs → Recorded s p k d cs
-unfolding kind-in id-in children node-state
+unfolding kind-in id-in children
 recorded s p i k d cs e = go (ℕ-discrete (at s (p + 1)) 0)
   where
-    none : at s (p + 1) ≡ 0 → node-state s p ≡ unknown
-    none z = rw (eq-eqb (at s (p + 1)) 0 z, node-state)
-
     go : Dec (at s (p + 1) ≡ 0) → Recorded s p k d cs
-    go (yes z) = absurd (known≢ (sym e ∙ none z))
+    go (yes z) = absurd (known≢ (sym e ∙ unknown-state s p z))
     go (no z) =
         let q = sym (known-state s p z) ∙ e in
         record { kind = ap kind-in q; some-kind = z; id = ap id-in q; cells = ap children q }

@@ -129,7 +129,11 @@ unfolding kind-in
 error-state unknown e = absurd (omega arith)
 error-state (known i k d cs) e = e
 
--- A record with a kind is a known node.
+-- A record with a kind is a known node, and one without is unknown.
+pub unknown-state : (s : Words) (p : ℕ) → at s (p + 1) ≡ 0 → node-state s p ≡ unknown
+unfolding node-state
+unknown-state s p z = rw (eq-eqb (at s (p + 1)) 0 z, node-state)
+
 pub known-state : (s : Words) (p : ℕ) → at s (p + 1) ≢ 0 → node-state s p ≡ known (eqb (at s (p + 2)) 1) (at s (p + 1)) (at s (p + 3)) (cell-types s (at s (p + 4)))
 unfolding node-state
 known-state s p z = rw (ne-eqb (at s (p + 1)) 0 z, node-state)
@@ -168,6 +172,11 @@ values-at s τ σ [] ys e k h = absurd (not-suc-le-zero h)
 values-at s τ σ (x ∷ xs) [] e k h = let z : _≡_ {A = ℕ} 0 1 = cc in absurd (omega arith)
 values-at s τ σ (x ∷ xs) (y ∷ ys) e zero h = cc
 values-at s τ σ (x ∷ xs) (y ∷ ys) e (suc k) h = let z : values s τ xs ≡ values s σ ys = cc in values-at s τ σ xs ys z k (le-of-suc-le-suc h)
+
+-- The node of a type's word.
+pub word-node : (t : Ty) → word-of-type t / 2 ≡ t .1
+unfolding type-of-word
+word-node t = ap (λ (u : Ty). u .1) (type-word t)
 
 -- What the word of a type means.
 means-type : (s : Words) (m : SignedSol) (t : Ty) → t .1 < 2048 → means s m (word-of-type t) ≡ turned s (t .0) (m (t .1))

@@ -125,7 +125,7 @@ follows-last s ps ws m u v m₁ r us vs f e = record { at = λ st n ts run k cs 
         f .at st n ts run k (p .1) (q .1) (subst (λ (x : Unified). Won (x .0)) same (won .0)) .0
 
 -- Where there are more of one than of the other it is a clash; a test may break off, or say nothing.
-kin-length : (φ : ℕ → Ty) (live : ℕ → Bool) (ts : Types) (cs : List Ty) (us : Words) → Kin φ live ts cs us → length cs ≡ length us
+pub kin-length : (φ : ℕ → Ty) (live : ℕ → Bool) (ts : Types) (cs : List Ty) (us : Words) → Kin φ live ts cs us → length cs ≡ length us
 kin-length φ live ts [] [] p = refl
 kin-length φ live ts [] (u ∷ us) p = absurd p
 kin-length φ live ts (c ∷ cs) [] p = absurd p

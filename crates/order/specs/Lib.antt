@@ -7,3 +7,5 @@ pub mod Joined
 pub mod Owning
 pub mod Going
 pub mod Kids
+pub mod Brought
+pub mod Arguments

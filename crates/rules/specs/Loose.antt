@@ -60,11 +60,11 @@ range-type i (suc n) (suc d) h = range-type (suc i) n d (omega arith) ∙ ap upr
 
 -- Fresh unknowns behind a table, and the types that stand for parameters.
 module _ (ts : Types) (n : ℕ) where
-  fresh-param : (d : ℕ) → d < n → getD (fresh-params ts n) d (upright 0) ≡ upright (length ts + d)
+  pub fresh-param : (d : ℕ) → d < n → getD (fresh-params ts n) d (upright 0) ≡ upright (length ts + d)
   unfolding fresh-params
   fresh-param d h = range-type (length ts) n d h
 
-  fresh-node : (d : ℕ) → d < n → node-at (with-fresh ts n) (length ts + d) ≡ new-node (length ts + d) unknown
+  pub fresh-node : (d : ℕ) → d < n → node-at (with-fresh ts n) (length ts + d) ≡ new-node (length ts + d) unknown
   unfolding with-fresh node-at
   fresh-node d h =
       getD-append-add ts (new-nodes (length ts) (replicate n unknown)) d (new-node 0 unknown)
