@@ -22,6 +22,7 @@ ghost use Rattle.order.specs.Words.{Found, Roots, Kids};
 ghost use Rattle.order.specs.Owning.{OwnsAll, Flagged};
 ghost use Rattle.order.specs.Going.{Compared, Rejoins};
 ghost use Rattle.order.specs.Kids.{Cells, Even, Paired};
+ghost use Rattle.order.specs.Arguments.{Fails};
 ghost use Rattle.order.specs.Joined.{Inherits, Hangs};
 use chart::kinds;
 use chart::layout;
@@ -637,4 +638,24 @@ fn pairs(
         j += 1;
     }
     OK
+}
+
+// Whether the rule fails for the arguments of a candidate's signature and of the question.
+pub fn fails(sheet: &[u32], places: &[u32], ws: &[u32], p: Query, q: Query) -> bool
+    requires { ⌜ Packed (now ws) ⌝ }
+    requires { ⌜ q .n ≤ 4 ⌝ }
+    ensures { λ r. ⌜ Fails (now (sheet .entry)) (now (places .entry)) (now (ws .entry)) p q r ⌝ }
+{
+    let mut m = [0u32; 8192];
+    let mut k: usize = 0;
+    while k < q.n {
+        let a = own_type(p.args[k]);
+        let b = table::find(ws, q.args[k]);
+        let r = go(sheet, places, ws, &mut m, a, b, DEPTH);
+        if r != OK {
+            return r == CLASH;
+        }
+        k += 1;
+    }
+    false
 }
