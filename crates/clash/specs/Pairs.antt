@@ -19,6 +19,8 @@ use Rattle.refs.specs.Refs.{KindOf, IdOf, Bit, bits-apart, Sided, type-side, ap
 use Rattle.refs.specs.Children.{Gathers}
 use Rattle.refs.specs.Links.{Linked, linked-none}
 use Rattle.clash.specs.Cycles.{Cyclic}
+use Rattle.order.specs.Brought.{Brought}
+use Rattle.order.specs.Arguments.{Fails}
 use Rattle.loose.specs.Loose.{own-type, asked-type, LooseMeaning, Opposed}
 use Rattle.clash.specs.Meeting.{Holds, queued-set, aside-met, aside-only, Meets, known-same, known-sides, kinds-same, errors-same}
 
@@ -193,9 +195,9 @@ pub args-on : (s ps ws ls qs : Words) (p q : Query) (ks rs : Words) (r k a b : �
 args-on s ps ws ls qs p q ks rs r k a b is ts u g h ea eb t = record { at = λ m w l x. t .at m w (g .at m w l x) (ap (means s m) ea ∙ x .same k h ∙ ap (means s m) (sym eb)) }
 
 -- At the start there are no links and no pairs.
--- For a candidate, where g is true, what is loose is besides not its own inverse.
+-- For a candidate, where g is true, what is loose is besides not its own inverse, and the rule succeeds from the table that it is brought into.
 pub record Clashing (g : Bool) (s ps ws : Words) (p q : Query) (b : Bool) : Type 0 where
-  pub clash : b ≡ true → (m : SignedSol) → Meaning s ps ws m → (g ≡ true → LooseMeaning s ps ws p q m) → Agree s m ws p q → ⊥
+  pub clash : b ≡ true → (m : SignedSol) → Meaning s ps ws m → (g ≡ true → LooseMeaning s ps ws p q m) → (g ≡ true → Brought s ps ws p q) → Agree s m ws p q → ⊥
 
 holds-none : (s : Words) (m : SignedSol) (ls qs : Words) → ((k : ℕ) → at ls k ≡ 0) → Holds s m ls qs 0
 holds-none s m ls qs z = record { linked = linked-none s m ls z; queued = λ k h. absurd (not-suc-le-zero h); free = omega arith }
@@ -206,16 +208,16 @@ blank (suc n) zero = refl
 blank (suc n) (suc k) = blank n k
 
 pub clashing-args : (g : Bool) (s ps ws qs : Words) (n : ℕ) (p q : Query) (ks rs : Words) (r : ℕ) → ArgsMet s ps ws (replicate n 0) qs p q ks rs r → r ≡ 1000 → Clashing g s ps ws p q true
-clashing-args g s ps ws qs n p q ks rs r t e = record { clash = λ b m w v a. (t .at m w (holds-none s m (replicate n 0) qs (blank n)) a) .free e }
+clashing-args g s ps ws qs n p q ks rs r t e = record { clash = λ b m w v u a. (t .at m w (holds-none s m (replicate n 0) qs (blank n)) a) .free e }
 
 pub clashing-run : (g : Bool) (s ps ws qs : Words) (n : ℕ) (p q : Query) (ks rs : Words) (r : ℕ) (is : Words) (b : Bool) → ArgsMet s ps ws (replicate n 0) qs p q ks rs r → Ends s ps ws ks rs r is b → b ≡ true → Clashing g s ps ws p q true
-clashing-run g s ps ws qs n p q ks rs r is b t e y = record { clash = λ z m w v a. e .clash y m w (t .at m w (holds-none s m (replicate n 0) qs (blank n)) a) }
+clashing-run g s ps ws qs n p q ks rs r is b t e y = record { clash = λ z m w v u a. e .clash y m w (t .at m w (holds-none s m (replicate n 0) qs (blank n)) a) }
 
 pub clashing-cyclic : (g : Bool) (s ps ws qs : Words) (n : ℕ) (p q : Query) (ks rs : Words) (r : ℕ) (is : Words) (b c : Bool) → ArgsMet s ps ws (replicate n 0) qs p q ks rs r → Ends s ps ws ks rs r is b → b ≡ false → Cyclic s ps ws is c → Clashing g s ps ws p q c
-clashing-cyclic g s ps ws qs n p q ks rs r is b c t e y d = record { clash = λ z m w v a. d .cycle z m w (e .links y m w (t .at m w (holds-none s m (replicate n 0) qs (blank n)) a)) }
+clashing-cyclic g s ps ws qs n p q ks rs r is b c t e y d = record { clash = λ z m w v u a. d .cycle z m w (e .links y m w (t .at m w (holds-none s m (replicate n 0) qs (blank n)) a)) }
 
 pub clashing-opposed : (g : Bool) (s ps ws qs : Words) (n : ℕ) (p q : Query) (ks rs : Words) (r : ℕ) (is : Words) (b c : Bool) → ArgsMet s ps ws (replicate n 0) qs p q ks rs r → Ends s ps ws ks rs r is b → b ≡ false → g ≡ true → Opposed s ps ws is p q c → c ≡ true → Clashing g s ps ws p q true
-clashing-opposed g s ps ws qs n p q ks rs r is b c t e y o d ec = record { clash = λ z m w v a. d .clash ec m w (v o) (e .links y m w (t .at m w (holds-none s m (replicate n 0) qs (blank n)) a)) }
+clashing-opposed g s ps ws qs n p q ks rs r is b c t e y o d ec = record { clash = λ z m w v u a. d .clash ec m w (v o) (e .links y m w (t .at m w (holds-none s m (replicate n 0) qs (blank n)) a)) }
 
 -- The roots of two arguments clash.
 pub record RootClash (s ps ws : Words) (a b : ℕ) (r : Bool) : Type 0 where
@@ -237,10 +239,17 @@ pub root-sides : (s ps ws : Words) (a b k j c d r : ℕ) (o : Bool) → KindOf s
 root-sides s ps ws a b k j c d r o ek ej zk zj ec ed t er f = record { clash = λ e m w q. bits-apart (type-side s ps ws a) (type-side s ps ws b) r t er (known-sides s ps ws a b k j c d ek ej zk zj ec ed m w q (f .is e)) }
 
 pub clashing-root : (s ps ws : Words) (p q : Query) (k a b : ℕ) (r : Bool) → k < q .n → a ≡ 2048 + at (p .args) k % 2048 → b ≡ asked-type ws q k → RootClash s ps ws a b r → r ≡ true → Clashing false s ps ws p q true
-clashing-root s ps ws p q k a b r h ea eb o e = record { clash = λ y m w v x. o .clash e m w (ap (means s m) ea ∙ x .same k h ∙ ap (means s m) (sym eb)) }
+clashing-root s ps ws p q k a b r h ea eb o e = record { clash = λ y m w v u x. o .clash e m w (ap (means s m) ea ∙ x .same k h ∙ ap (means s m) (sym eb)) }
 
 pub clashing-not : (g : Bool) (s ps ws : Words) (p q : Query) → Clashing g s ps ws p q false
 clashing-not g s ps ws p q = record { clash = λ e. let z : _≡_ {A = ℕ} 0 1 = cc in absurd (omega arith) }
 
 pub clashing-found : (g : Bool) (s ps ws : Words) (p q : Query) (r : Bool) → Clashing false s ps ws p q r → r ≡ true → Clashing g s ps ws p q true
-clashing-found g s ps ws p q r o e = record { clash = λ y m w v x. o .clash e m w (λ n. let z : _≡_ {A = ℕ} 0 1 = cc in absurd (omega arith)) x }
+clashing-found g s ps ws p q r o e = record { clash = λ y m w v u x. o .clash e m w (λ n. let z : _≡_ {A = ℕ} 0 1 = cc in absurd (omega arith)) (λ n. let z : _≡_ {A = ℕ} 0 1 = cc in absurd (omega arith)) x }
+
+-- The rule fails for a candidate.
+pub clashing-order : (g : Bool) (s ps ws : Words) (p q : Query) (r : Bool) → g ≡ true → Fails s ps ws p q r → Clashing g s ps ws p q r
+clashing-order g s ps ws p q r e f = record { clash = λ z m w v u x. f .unfit z (u e) }
+
+pub clashing-whole : (g : Bool) (s ps ws : Words) (p q : Query) (r : Bool) → Clashing g s ps ws p q r → r ≡ true → Clashing g s ps ws p q true
+clashing-whole g s ps ws p q r o e = subst (Clashing g s ps ws p q) e o

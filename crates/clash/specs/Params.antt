@@ -86,6 +86,7 @@ module _ (s : Words) (g : ℕ) (call : Calling s g) (head : ℕ) (eh : head ≡ 
             (subst (λ (src : Types). SignedCommon s (types-of ts) src ((query-of p) .1) ((query-of q) .1)) (sym its-table)
             (param-signed finder (call .question) (call .ready) (types-of ts) (query-of q) neat inside (query-of p) into won))
             (λ e. absurd (never e))
+            (λ e. absurd (never e))
 
         pub param-found : (r : Bool) → Clashing false s (take n us) ts p q r → ParamClashes s g (types-of ts) (query-of p) (query-of q) r
         param-found r k = record { room = λ e. its-room; unfit = λ e. never-met (subst (Clashing false s (take n us) ts p q) e k) }

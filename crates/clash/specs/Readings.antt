@@ -31,6 +31,7 @@ use Rattle.queries.specs.declared.Query.{Query}
 use Rattle.queries.specs.Queries.{four, query-of}
 use Rattle.queries.specs.Few.{map-at}
 use Rattle.refs.specs.Meaning.{odd, means, row, Sort, ErrorsApart, Meaning}
+use Rattle.order.specs.Brought.{Brought}
 use Rattle.loose.specs.Loose.{LooseMeaning}
 use Rattle.clash.specs.Pairs.{Agree, Clashing}
 
@@ -309,10 +310,11 @@ common-meaning s ws xs ys src c = reading s ws (names ws (c .name) (c .called)) 
 
 -- Where the arguments clash there are no terms that they have in common; for a candidate, such that what is loose is not its own inverse.
 pub never-common : (s ws : Words) (h : ℕ) → length (chain s h) ≤ 1024 → WellFormed (table s h) → WellFormed (types-of ws) → (p q : Query) → p .n ≡ q .n → q .n ≤ 4 → AllIn (length (table s h)) ((query-of p) .1) → AllIn (length (types-of ws)) ((query-of q) .1) →
-    (g : Bool) → Clashing g s (chain s h) ws p q true → (c : SignedCommon s (types-of ws) (table s h) ((query-of p) .1) ((query-of q) .1)) → (g ≡ true → LooseMeaning s (chain s h) ws p q (common-meaning s ws ((query-of p) .1) ((query-of q) .1) (table s h) c)) → ⊥
+    (g : Bool) → Clashing g s (chain s h) ws p q true → (c : SignedCommon s (types-of ws) (table s h) ((query-of p) .1) ((query-of q) .1)) → (g ≡ true → LooseMeaning s (chain s h) ws p q (common-meaning s ws ((query-of p) .1) ((query-of q) .1) (table s h) c)) → (g ≡ true → Brought s (chain s h) ws p q) → ⊥
 unfolding common-meaning
-never-common s ws h short formed whole p q en few a b g k c free =
+never-common s ws h short formed whole p q en few a b g k c free brought =
     k .clash refl (reading s ws (names ws (c .name) (c .called)) (c .σ) (c .π) (c .τ))
     (meaning s ws h short formed whole ((query-of p) .1) ((query-of q) .1) c)
     free
+    brought
     (agree s ws h short formed whole ((query-of p) .1) ((query-of q) .1) c p q en few a b (c .same))

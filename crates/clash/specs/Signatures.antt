@@ -30,6 +30,7 @@ use Rattle.opening.specs.Signing.{signature-few, table-neat, signature-inside}
 use Rattle.clash.specs.Pairs.{Clashing}
 use Rattle.clash.specs.Readings.{never-common}
 use Rattle.clash.specs.LooseReadings.{loose-meaning}
+use Rattle.clash.specs.Brought.{candidate-brought}
 use Rattle.clash.specs.Places.{places-room, places-few, places-length, places-are}
 
 -- true: there is room for the signature, and it does not unify with the question.
@@ -123,6 +124,7 @@ module _ (s : Words) (sound : Sound s) (i : ℕ) (h : i < many s header·impls) 
               (subst (λ (ps : Words). Clashing true s ps ts a q true) places k)
               (c .common)
               (λ e. loose-meaning s ts head short formed (neat .proper .formed) a q en most into inside (fresh-count s i) c)
+              (λ e. candidate-brought s sound i h ts q neat inside won head found (at s (p + 3)) (at s (p + 5)) a (o .word 5) ea en)
 
           pub clash-found : (r : Bool) → Against s (take n us) ts q p r → Clashes s (types-of ts) (query-of q) i r
           clash-found r k = record {

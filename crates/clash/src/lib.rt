@@ -83,6 +83,9 @@ const USED: usize = 510;
 
 const OFF: usize = 511;
 
+// This word says whether a candidate of the question that was tested did not unify all the same.
+const ORDER: usize = 509;
+
 // What the last word is where notes are used whatever comes.
 const BLAMELESS: u32 = 2;
 
@@ -1068,6 +1071,29 @@ fn are_small(sheet: &[u32], ws: &[u32]) -> bool {
     table::count(ws) <= SMALL_TABLE
 }
 
+// Whether the rule fails for a candidate (`given`) of a question for which one was missed before: followed in its own order, which is dearer than what is tested first.
+fn fails_late(
+    sheet: &[u32],
+    places: &[u32],
+    ws: &[u32],
+    notes: &[u32; 512],
+    p: Query,
+    q: Query,
+    given: bool,
+) -> bool
+    requires { ⌜ Packed (now ws) ⌝ }
+    requires { ⌜ q .n ≤ 4 ⌝ }
+    ensures { λ r. ⌜ Clashing given (now (sheet .entry)) (now (places .entry)) (now (ws .entry)) p q r ⌝ }
+{
+    if notes[ORDER] == 0 {
+        return false;
+    }
+    if given {
+        return order::fails(sheet, places, ws, p, q);
+    }
+    false
+}
+
 // Whether the arguments of a signature are found to clash with those of the question: by their roots, and then, unless all is small, by all that is below them.
 fn args_clash(
     sheet: &[u32],
@@ -1088,7 +1114,10 @@ fn args_clash(
     if are_small(sheet, ws) {
         return false;
     }
-    clash_args(sheet, places, ws, notes, p, q, given)
+    if clash_args(sheet, places, ws, notes, p, q, given) {
+        return true;
+    }
+    fails_late(sheet, places, ws, notes, p, q, given)
 }
 
 // Whether the signature of the impl whose record is at p clashes with question q.
@@ -1134,6 +1163,7 @@ fn impl_place(sheet: &[u32], i: usize) -> usize
 
 // A candidate that was tested did not unify all the same: if a note was used, none is for the next; if none was to be used, notes are not to blame, and are used from now on.
 pub fn missed(notes: &mut [u32; 512]) {
+    notes[ORDER] = 1;
     if notes[OFF] != 0 {
         notes[OFF] = BLAMELESS;
         return;

@@ -1,5 +1,5 @@
--- `args_clash`: by the roots, then whole.
-use Rattle.clash.specs.Pairs.{clashing-not, clashing-found}
+-- `args_clash`: by the roots, then whole, then in order.
+use Rattle.clash.specs.Pairs.{clashing-not, clashing-found, clashing-whole}
 use borrow.Author.Needs.{needs}
 use Rattle.clash.proofs.args_clash.Statement.{statement}
 use Rattle.clash.proofs.args_clash.Tie as tie
@@ -20,7 +20,13 @@ clash-args-requires : tie.Need-clash-args-requires
 clash-args-requires c κs = search needs
 
 returns-3 : tie.Need-returns-3
-returns-3 c = search needs
+returns-3 c = search (needs, clashing-whole)
+
+fails-late-requires : tie.Need-fails-late-requires
+fails-late-requires c κs = search needs
+
+returns-4 : tie.Need-returns-4
+returns-4 c = search needs
 
 pub args-clash-spec : {M : Type 1} → statement M
 args-clash-spec =
@@ -31,4 +37,6 @@ args-clash-spec =
     are-small-requires
     returns-2
     clash-args-requires
-    returns-3)
+    returns-3
+    fails-late-requires
+    returns-4)
