@@ -38,10 +38,6 @@ pub record Meets (s ps ws m : Words) (x y : ℕ) (m′ : Words) (r : ℕ) : Type
       Won ((unify-states (unify-in n s) s ts (stands (st .to) x) (stands (st .to) y) (state-at ts ((stands (st .to) x) .1)) (state-at ts ((stands (st .to) y) .1))) .0) →
       (r ≢ 0) × (r ≡ 1 → Mirror s ps ws st m′ ((unify-states (unify-in n s) s ts (stands (st .to) x) (stands (st .to) y) (state-at ts ((stands (st .to) x) .1)) (state-at ts ((stands (st .to) y) .1))) .1))
 
--- x is the root of type t.
-pub record Rooted (s ps ws m : Words) (t x : ℕ) : Type 0 where
-  pub at : (st : Stage s ps ws) (ts : Types) → Mirror s ps ws st m ts → st .live (t / 2) ≡ true → Sound s ps ws st (x / 2) × (at m (x / 2) ≡ 0) × (find ts (stands (st .to) t) ≡ stands (st .to) x)
-
 -- false: type t is not its own inverse.
 pub record Owns (s ps ws m : Words) (t : ℕ) (m′ : Words) (r : Bool) : Type 0 where
   pub marks : Marks m m′
@@ -77,15 +73,6 @@ two-classes n s ts x y e = rw (eqb-false (x .1) (y .1) e, unify-roots)
 odd-apart : (x y : ℕ) → x / 2 ≡ y / 2 → x ≢ y → xor (odd x) (odd y) ≡ true
 unfolding odd
 odd-apart x y e n = odd-sum x y ∙ eq-eqb ((x + y) % 2) 1 (omega (arith, e, n))
-
--- Turned twice a type is itself.
-turn-back : (a b : ℕ) → turn a (turn a b) ≡ b
-turn-back a b =
-    let half : turn a b / 2 ≡ b / 2 = omega arith in
-    let side : turn a b % 2 ≡ (b + a) % 2 = omega arith in
-    let sum : (turn a b + a) % 2 ≡ ((b + a) % 2 + a) % 2 = omega (arith, side) in
-    let rest : ((b + a) % 2 + a) % 2 ≡ b % 2 = omega arith in
-    ap₂ (λ (i j : ℕ). i * 2 + j) half (sum ∙ rest) ∙ (let z : b / 2 * 2 + b % 2 ≡ b = omega arith in z)
 
 -- None is met,
 pub follows-none : (s ps ws m : Words) → FollowsAll s ps ws m [] [] m 1
@@ -143,74 +130,55 @@ follows-nothing s ps ws m a b m′ r z y = record { at = λ st n ts run k p q w.
 pub meets-nothing : (s ps ws m : Words) (x y : ℕ) (m′ : Words) (r : ℕ) → r ≢ 0 → r ≢ 1 → Meets s ps ws m x y m′ r
 meets-nothing s ps ws m x y m′ r z o = record { at = λ st n ts run k p w. (z, λ e. absurd (o e)) }
 
--- A type that is linked to another directly is that.
-pub follows-linked : (s ps ws m : Words) (a b : ℕ) → at m (a / 2) ≡ turn a b % 4096 + 1 → Follows s ps ws m a b m 1
+-- Two types that are found to be one.
+pub follows-found : (s ps ws m : Words) (a b : ℕ) → ((st : Stage s ps ws) (ts : Types) → Mirror s ps ws st m ts → st .live (a / 2) ≡ true → st .live (b / 2) ≡ true → find ts (stands (st .to) a) ≡ find ts (stands (st .to) b)) → Follows s ps ws m a b m 1
 unfolding unify-in
-follows-linked s ps ws m a b e = record { at = λ st n ts run k p q w. (λ z. absurd (omega (arith, z)), λ z. go st n ts k p q w) }
+follows-found s ps ws m a b same = record { at = λ st n ts run k p q w. (λ z. absurd (omega (arith, z)), λ z. go st n ts k p q w) }
   where
-    low : b / 2 < 2048 → turn a b % 4096 ≡ turn a b
-    low h = let z : turn a b < 4096 = omega (arith, h) in omega (arith, z)
-
-    back : b / 2 < 2048 → turn a (at m (a / 2) - 1) ≡ b
-    back h = ap (λ j. turn a (j - 1)) e ∙ ap (turn a) (let z : turn a b % 4096 + 1 - 1 ≡ turn a b = omega (arith, low h) in z) ∙ turn-back a b
-
-    same : (st : Stage s ps ws) (ts : Types) → Mirror s ps ws st m ts → st .live (a / 2) ≡ true → st .live (b / 2) ≡ true → find ts (stands (st .to) a) ≡ find ts (stands (st .to) b)
-    same st ts k p q = link-find s ps ws st m ts k a (at m (a / 2)) b p refl (λ z. absurd (omega (arith, e, z))) (sym (back (st .low (b / 2) q))) .1
-
     go : (st : Stage s ps ws) (n : ℕ) (ts : Types) → Mirror s ps ws st m ts → st .live (a / 2) ≡ true → st .live (b / 2) ≡ true → Won ((unify-in n s ts (stands (st .to) a) (stands (st .to) b)) .0) → Mirror s ps ws st m ((unify-in n s ts (stands (st .to) a) (stands (st .to) b)) .1)
     go st zero ts k p q w = absurd w
     go st (suc n) ts k p q w = subst (Mirror s ps ws st m) (sym (one-class n s ts (find ts (stands (st .to) a)) (find ts (stands (st .to) b)) (ap (λ (t : Ty). t .1) (same st ts k p q)))) k
 
--- By their roots: two types of one class,
-pub follows-same : (s ps ws m : Words) (a b x y : ℕ) → Rooted s ps ws m a x → Rooted s ps ws m b y → x ≡ y → Follows s ps ws m a b m 1
-unfolding unify-in
-follows-same s ps ws m a b x y p q e = record { at = λ st n ts run k la lb w. (λ z. absurd (omega (arith, z)), λ z. go st n ts k la lb w) }
-  where
-    go : (st : Stage s ps ws) (n : ℕ) (ts : Types) → Mirror s ps ws st m ts → st .live (a / 2) ≡ true → st .live (b / 2) ≡ true → Won ((unify-in n s ts (stands (st .to) a) (stands (st .to) b)) .0) → Mirror s ps ws st m ((unify-in n s ts (stands (st .to) a) (stands (st .to) b)) .1)
-    go st zero ts k la lb w = absurd w
-    go st (suc n) ts k la lb w = subst (Mirror s ps ws st m) (sym (one-class n s ts (find ts (stands (st .to) a)) (find ts (stands (st .to) b)) (ap (λ (t : Ty). t .1) (p .at st ts k la .2 ∙ ap (stands (st .to)) e ∙ sym (q .at st ts k lb .2))))) k
+-- x is the root of type t by the notes of a table.
+pub record RootOf (s ps ws : Words) (st : Stage s ps ws) (m : Words) (ts : Types) (t x : ℕ) : Type 0 where
+  pub sound : Sound s ps ws st (x / 2)
+  pub root : at m (x / 2) ≡ 0
+  pub is : find ts (stands (st .to) t) ≡ stands (st .to) x
 
--- of which one is the other inverted: it is its own inverse,
-pub follows-own : (s ps ws m : Words) (a b x y : ℕ) (m′ : Words) (o : Bool) → Rooted s ps ws m a x → Rooted s ps ws m b y → x ≢ y → x / 2 ≡ y / 2 → Owns s ps ws m x m′ o → o ≡ true → Follows s ps ws m a b m′ 1
-unfolding unify-in stands invert-if
-follows-own s ps ws m a b x y m′ o p q ne e own eo = record { at = λ st n ts run k la lb w. (λ z. absurd (omega (arith, z)), λ z. mirror-marks s ps ws st m m′ _ (own .marks) (go st n ts k la lb w)) }
-  where
-    go : (st : Stage s ps ws) (n : ℕ) (ts : Types) → Mirror s ps ws st m ts → st .live (a / 2) ≡ true → st .live (b / 2) ≡ true → Won ((unify-in n s ts (stands (st .to) a) (stands (st .to) b)) .0) → Mirror s ps ws st m ((unify-in n s ts (stands (st .to) a) (stands (st .to) b)) .1)
-    go st zero ts k la lb w = absurd w
-    go st (suc n) ts k la lb w = subst (Mirror s ps ws st m) (sym (one-class n s ts (find ts (stands (st .to) a)) (find ts (stands (st .to) b)) (ap (λ (t : Ty). t .1) (p .at st ts k la .2) ∙ ap (λ j. (st .to j) .1) e ∙ sym (ap (λ (t : Ty). t .1) (q .at st ts k lb .2))))) k
+-- Two types by their roots, where they unify:
+module _ (s ps ws m : Words) (a b x y : ℕ) (st : Stage s ps ws) (ts : Types) (k : Mirror s ps ws st m ts) (p : RootOf s ps ws st m ts a x) (q : RootOf s ps ws st m ts b y) where
+  abbrev both : ℕ → Unified
+  both n = unify-in n s ts (stands (st .to) a) (stands (st .to) b)
 
--- or it is not, and they clash;
-pub follows-not-own : (s ps ws m : Words) (a b x y : ℕ) (m′ : Words) (o : Bool) → Rooted s ps ws m a x → Rooted s ps ws m b y → x ≢ y → x / 2 ≡ y / 2 → Owns s ps ws m x m′ o → o ≡ false → Follows s ps ws m a b m′ 0
-unfolding unify-in stands invert-if self-inverse
-follows-not-own s ps ws m a b x y m′ o p q ne e own eo = record { at = λ st n ts run k la lb w. absurd (go st n ts run k la lb w) }
-  where
-    sides : xor (odd x) (odd y) ≡ true
-    sides = odd-apart x y e ne
+  node-of-left : (find ts (stands (st .to) a)) .1 ≡ (st .to (x / 2)) .1
+  node-of-left = ap (λ (t : Ty). t .1) (p .is ∙ stands-at s ps ws st x (p .sound))
 
-    go : (st : Stage s ps ws) (n : ℕ) (ts : Types) → Run ts → Mirror s ps ws st m ts → st .live (a / 2) ≡ true → st .live (b / 2) ≡ true → Won ((unify-in n s ts (stands (st .to) a) (stands (st .to) b)) .0) → ⊥
-    go st zero ts run k la lb w = absurd w
-    go st (suc n) ts run k la lb w =
-        let fa = p .at st ts k la in
-        let fb = q .at st ts k lb in
-        let sx = stands-at s ps ws st x (fa .0) in
-        let sy = stands-at s ps ws st y (fb .0) in
-        not-own n s ts (find ts (stands (st .to) a)) (find ts (stands (st .to) b))
-        (ap (λ (t : Ty). t .1) (fa .2 ∙ sx) ∙ ap (λ j. (st .to j) .1) e ∙ sym (ap (λ (t : Ty). t .1) (fb .2 ∙ sy)))
-        (ap₂ (λ (t u : Ty). xor (t .0) (u .0)) (fa .2 ∙ sx) (fb .2 ∙ sy) ∙ sides)
-        (ap (λ (t : Ty). self-inverse s ts t) (fa .2) ∙ own .at eo st ts run k (fa .0 .live) (suc (length ts)))
-        w
+  node-of-right : (find ts (stands (st .to) b)) .1 ≡ (st .to (y / 2)) .1
+  node-of-right = ap (λ (t : Ty). t .1) (q .is ∙ stands-at s ps ws st y (q .sound))
 
--- or of two.
-pub follows-meets : (s ps ws m : Words) (a b x y : ℕ) (m′ : Words) (r : ℕ) → Rooted s ps ws m a x → Rooted s ps ws m b y → x / 2 ≢ y / 2 → Meets s ps ws m x y m′ r → Follows s ps ws m a b m′ r
-unfolding unify-in
-follows-meets s ps ws m a b x y m′ r p q ne g = record { at = λ st n ts run k la lb w. go st n ts run k la lb w }
-  where
-    go : (st : Stage s ps ws) (n : ℕ) (ts : Types) → Run ts → Mirror s ps ws st m ts → st .live (a / 2) ≡ true → st .live (b / 2) ≡ true → Won ((unify-in n s ts (stands (st .to) a) (stands (st .to) b)) .0) → (r ≢ 0) × (r ≡ 1 → Mirror s ps ws st m′ ((unify-in n s ts (stands (st .to) a) (stands (st .to) b)) .1))
-    go st zero ts run k la lb w = absurd w
-    go st (suc n) ts run k la lb w =
-        let fa = p .at st ts k la in
-        let fb = q .at st ts k lb in
-        let o : TwoRoots s ps ws st m x y = record { left = fa .0; right = fb .0; left-root = fa .1; right-root = fb .1; apart = ne } in
-        let same : unify-roots (λ us t u. unify-in n s us t u) s ts (find ts (stands (st .to) a)) (find ts (stands (st .to) b)) ≡ unify-states (unify-in n s) s ts (stands (st .to) x) (stands (st .to) y) (state-at ts ((stands (st .to) x) .1)) (state-at ts ((stands (st .to) y) .1)) = ap₂ (unify-roots (λ us t u. unify-in n s us t u) s ts) (fa .2) (fb .2) ∙ two-classes n s ts (stands (st .to) x) (stands (st .to) y) (tops-apart s ps ws st m ts k run x y o) in
-        let v = g .at st n ts run k o (subst (λ (z : Unified). Won (z .0)) same w) in
-        (v .0, λ z. subst (λ (z : Unified). Mirror s ps ws st m′ (z .1)) (sym same) (v .1 z))
+  -- of one class, nothing is joined,
+  pub same-class : (n : ℕ) → x / 2 ≡ y / 2 → Won (both n .0) → Mirror s ps ws st m (both n .1)
+  unfolding unify-in
+  same-class zero e w = absurd w
+  same-class (suc n) e w = subst (Mirror s ps ws st m) (sym (one-class n s ts (find ts (stands (st .to) a)) (find ts (stands (st .to) b)) (node-of-left ∙ ap (λ j. (st .to j) .1) e ∙ sym node-of-right))) k
+
+  -- and one that is the other inverted is its own inverse;
+  pub own-class : (n : ℕ) → x ≢ y → x / 2 ≡ y / 2 → ((j : ℕ) → self-inverse-in j s ts (stands (st .to) x) ≡ false) → Won (both n .0) → ⊥
+  unfolding unify-in self-inverse
+  own-class zero d e o w = absurd w
+  own-class (suc n) d e o w =
+      not-own n s ts (find ts (stands (st .to) a)) (find ts (stands (st .to) b))
+      (node-of-left ∙ ap (λ j. (st .to j) .1) e ∙ sym node-of-right)
+      (ap₂ (λ (t u : Ty). xor (t .0) (u .0)) (p .is ∙ stands-at s ps ws st x (p .sound)) (q .is ∙ stands-at s ps ws st y (q .sound)) ∙ odd-apart x y e d)
+      (ap (λ (t : Ty). self-inverse s ts t) (p .is) ∙ o (suc (length ts)))
+      w
+
+  -- of two classes.
+  pub meet-class : (n : ℕ) → Run ts → x / 2 ≢ y / 2 → (m′ : Words) (r : ℕ) → Meets s ps ws m x y m′ r → Won (both n .0) → (r ≢ 0) × (r ≡ 1 → Mirror s ps ws st m′ (both n .1))
+  unfolding unify-in
+  meet-class zero run d m′ r g w = absurd w
+  meet-class (suc n) run d m′ r g w =
+      let o : TwoRoots s ps ws st m x y = record { left = p .sound; right = q .sound; left-root = p .root; right-root = q .root; apart = d } in
+      let same : unify-roots (λ us t u. unify-in n s us t u) s ts (find ts (stands (st .to) a)) (find ts (stands (st .to) b)) ≡ unify-states (unify-in n s) s ts (stands (st .to) x) (stands (st .to) y) (state-at ts ((stands (st .to) x) .1)) (state-at ts ((stands (st .to) y) .1)) = ap₂ (unify-roots (λ us t u. unify-in n s us t u) s ts) (p .is) (q .is) ∙ two-classes n s ts (stands (st .to) x) (stands (st .to) y) (tops-apart s ps ws st m ts k run x y o) in
+      let v = g .at st n ts run k o (subst (λ (z : Unified). Won (z .0)) same w) in
+      (v .0, λ z. subst (λ (z : Unified). Mirror s ps ws st m′ (z .1)) (sym same) (v .1 z))

@@ -19,35 +19,45 @@ use Rattle.table.specs.ChildTypes.{ChildTypes, row-at, types-at, types-at-lengt
 use Rattle.refs.specs.Meaning.{odd, turn, record-types}
 use Rattle.refs.specs.Refs.{place, apart, Bit}
 use Rattle.refs.specs.Children.{cell-type, cell-types-are, cells-none, cells-more}
-use Rattle.order.specs.Stage.{kind-word, id-word, kids}
-use Rattle.order.specs.Mirror.{source}
-use Rattle.order.specs.Following.{Follows, FollowsAll, Meets, Rooted, Owns, follows-none, follows-more, follows-last, follows-uneven, all-nothing, follows-nothing, meets-nothing, follows-linked, follows-same, follows-own, follows-not-own, follows-meets}
+use Rattle.rules.specs.Types.{Types, find}
+use Rattle.order.specs.Stage.{stands, Stage, kind-word, id-word, kids}
+use Rattle.order.specs.Mirror.{source, Sound, Mirror, mirror-marks}
+use Rattle.order.specs.Following.{Follows, FollowsAll, Meets, Owns, RootOf, all-nothing, follows-nothing, meets-nothing, follows-found, same-class, own-class, meet-class}
 use Rattle.order.specs.Meeting.{Joins, Tells, tells-kind, meets-bind, meets-kinds, meets-error, meets-ids, meets-flag, meets-kids, meets-join}
-use Rattle.order.specs.Words.{Roots, Kids}
+use Rattle.order.specs.Words.{Roots, Steps, Shortens, mirror-shorter, root-stays}
 use Rattle.order.specs.Owning.{no}
 
-rooted : (s ps ws m : Words) (t x : ℕ) → Roots s ps m t x → Rooted s ps ws m t x
-rooted s ps ws m t x r = record { at = λ st ts k l. r .at ws st ts k l }
+-- Two types by their roots, to which they are linked first.
+module _ (s ps ws m : Words) (a b x y : ℕ) (m₁ m₂ : Words) (p : x < 4096 → Roots s ps m a x) (hx : x < 4096) (ga : Shortens m a x m₁) (q : y < 4096 → Roots s ps m₁ b y) (hy : y < 4096) (gb : Shortens m₁ b y m₂) where
+  -- What is found of a table that the notes are of.
+  record Seen (st : Stage s ps ws) (ts : Types) : Type 0 where
+    later : Mirror s ps ws st m₂ ts
+    left : RootOf s ps ws st m₂ ts a x
+    right : RootOf s ps ws st m₂ ts b y
 
--- Two types by their roots.
-module _ (s ps ws m : Words) (a b x y : ℕ) (p : x < 4096 → Roots s ps m a x) (q : y < 4096 → Roots s ps m b y) (hx : x < 4096) (hy : y < 4096) where
-  px : Rooted s ps ws m a x
-  px = rooted s ps ws m a x (p hx)
+  seen : (st : Stage s ps ws) (ts : Types) → Mirror s ps ws st m ts → st .live (a / 2) ≡ true → st .live (b / 2) ≡ true → Seen st ts
+  seen st ts k la lb =
+      let fa = p hx .at ws st ts k la in
+      let k₁ = mirror-shorter s ps ws st m ts k a x la (fa .0) (fa .1) (fa .2) m₁ ga in
+      let fb = q hy .at ws st ts k₁ lb in
+      let stay = root-stays s ps ws st m₁ ts k₁ b y lb (fb .0) (fb .1) (fb .2) m₂ gb in
+      record {
+        later = mirror-shorter s ps ws st m₁ ts k₁ b y lb (fb .0) (fb .1) (fb .2) m₂ gb;
+        left = record { sound = fa .0; root = stay x (fa .0) (root-stays s ps ws st m ts k a x la (fa .0) (fa .1) (fa .2) m₁ ga x (fa .0) (fa .1)); is = fa .2 };
+        right = record { sound = fb .0; root = stay y (fb .0) (fb .1); is = fb .2 };
+      }
 
-  py : Rooted s ps ws m b y
-  py = rooted s ps ws m b y (q hy)
+  pub go-same : x ≡ y → Follows s ps ws m a b m₂ 1
+  go-same e = record { at = λ st n ts run k la lb w. let o = seen st ts k la lb in (λ z. absurd (omega (arith, z)), λ z. same-class s ps ws m₂ a b x y st ts (o .later) (o .left) (o .right) n (ap (λ j. j / 2) e) w) }
 
-  pub go-same : x ≡ y → Follows s ps ws m a b m 1
-  go-same e = follows-same s ps ws m a b x y px py e
+  pub go-own : (m′ : Words) (o : Bool) → x / 2 ≡ y / 2 → Owns s ps ws m₂ x m′ o → o ≡ true → Follows s ps ws m a b m′ 1
+  go-own m′ o e g z = record { at = λ st n ts run k la lb w. let v = seen st ts k la lb in (λ z. absurd (omega (arith, z)), λ z. mirror-marks s ps ws st m₂ m′ _ (g .marks) (same-class s ps ws m₂ a b x y st ts (v .later) (v .left) (v .right) n e w)) }
 
-  pub go-own : (m′ : Words) (o : Bool) → x ≢ y → x / 2 ≡ y / 2 → Owns s ps ws m x m′ o → o ≡ true → Follows s ps ws m a b m′ 1
-  go-own m′ o n e w z = follows-own s ps ws m a b x y m′ o px py n e w z
+  pub go-not-own : (m′ : Words) (o : Bool) → x ≢ y → x / 2 ≡ y / 2 → Owns s ps ws m₂ x m′ o → o ≡ false → Follows s ps ws m a b m′ 0
+  go-not-own m′ o d e g z = record { at = λ st n ts run k la lb w. let v = seen st ts k la lb in absurd (own-class s ps ws m₂ a b x y st ts (v .later) (v .left) (v .right) n d e (g .at z st ts run (v .later) (v .left .sound .live)) w) }
 
-  pub go-not-own : (m′ : Words) (o : Bool) → x ≢ y → x / 2 ≡ y / 2 → Owns s ps ws m x m′ o → o ≡ false → Follows s ps ws m a b m′ 0
-  go-not-own m′ o n e w z = follows-not-own s ps ws m a b x y m′ o px py n e w z
-
-  pub go-meets : (m′ : Words) (r : ℕ) → x / 2 ≢ y / 2 → Meets s ps ws m x y m′ r → Follows s ps ws m a b m′ r
-  go-meets m′ r n w = follows-meets s ps ws m a b x y m′ r px py n w
+  pub go-meets : (m′ : Words) (r : ℕ) → x / 2 ≢ y / 2 → Meets s ps ws m₂ x y m′ r → Follows s ps ws m a b m′ r
+  go-meets m′ r d g = record { at = λ st n ts run k la lb w. let v = seen st ts k la lb in meet-class s ps ws m₂ a b x y st ts (v .later) (v .left) (v .right) n run d m′ r g w }
 
 pub go-stop : (s ps ws m : Words) (a b : ℕ) (m′ : Words) → Follows s ps ws m a b m′ 2
 go-stop s ps ws m a b m′ = follows-nothing s ps ws m a b m′ 2 (λ e. omega (arith, e)) (λ e. omega (arith, e))
@@ -58,9 +68,9 @@ all-stop s ps ws m us vs m′ = all-nothing s ps ws m us vs m′ 2 (λ e. omega 
 pub meet-stop : (s ps ws m : Words) (x y : ℕ) (m′ : Words) → Meets s ps ws m x y m′ 2
 meet-stop s ps ws m x y m′ = meets-nothing s ps ws m x y m′ 2 (λ e. omega (arith, e)) (λ e. omega (arith, e))
 
--- A pair that is linked.
-pub pair-linked : (s ps ws m : Words) (a b w u v : ℕ) → a < 4096 → w ≡ a / 2 % 2048 → u ≡ at m w → v ≡ turn (a % 2) b → u ≡ v % 4096 + 1 → Follows s ps ws m a b m 1
-pair-linked s ps ws m a b w u v h ew eu ev e = follows-linked s ps ws m a b (ap (at m) (sym (ew ∙ (let z : a / 2 % 2048 ≡ a / 2 = omega (arith, h) in z))) ∙ sym eu ∙ e ∙ ap (λ j. j % 4096 + 1) (ev ∙ (let z : turn (a % 2) b ≡ turn a b = omega arith in z)))
+-- Two types that are linked to one, or one to the other.
+pub pair-near : (s ps ws m : Words) (a b x y : ℕ) → Steps m a x → Steps m b y → x ≡ y → Follows s ps ws m a b m 1
+pair-near s ps ws m a b x y p q e = follows-found s ps ws m a b (λ st ts k la lb. p .at s ps ws st ts k la ∙ ap (λ j. find ts (stands (st .to) j)) e ∙ sym (q .at s ps ws st ts k lb))
 
 -- Two roots of which one is unknown.
 module _ (s ps ws m : Words) (x y p q k l : ℕ) (ep : p ≡ turn x (source m (x / 2))) (eq : q ≡ turn y (source m (y / 2))) (ek : k ≡ kind-word s ps ws (p / 2)) (el : l ≡ kind-word s ps ws (q / 2)) where
@@ -128,12 +138,6 @@ module _ (s ps ws m : Words) (x y p q c : ℕ) (ep : p ≡ turn x (source m (x /
     at = λ st j ts run k w v. (g .went, λ z. (meets-join s ps ws m x y p q ep eq kp kq c m₁ r₁ m₂ r (o .bit n) f e (g .left z) (g .right z) (g .joins z)) .at st j ts run k w v .1 z);
   }
 
--- A type of the signature is below 4,096, a known node has at most eight children where they are told, and a kind that is read is there.
-pub cell-small : (w u : ℕ) → u ≡ 2048 + w % 2048 → u < 4096
-cell-small w u e = omega (arith, e)
-
-pub arity-few : (ws : Words) (z n : ℕ) → ChildTypes ws z (row-at ws z n) → n ≢ 9 → n ≤ 8
-arity-few ws z n c e = c .few e
-
+-- A kind that is read is there.
 pub kind-there : (s ps ws : Words) (r k : ℕ) → k ≡ kind-word s ps ws r → k ≢ 0 → kind-word s ps ws r ≢ 0
 kind-there s ps ws r k e z q = z (e ∙ q)

@@ -18,8 +18,27 @@ use Rattle.refs.specs.Meaning.{turn, record-types, node-types}
 use Rattle.refs.specs.Refs.{place}
 use Rattle.refs.specs.Children.{cell-type, cell-types-are, cells-none, cells-more}
 use Rattle.order.specs.Stage.{kids}
-use Rattle.order.specs.Following.{Follows, FollowsAll, follows-none, follows-more, follows-last, follows-uneven}
+use Rattle.order.specs.Following.{Follows, FollowsAll, follows-none, follows-more, follows-last, follows-uneven, all-nothing}
 use Rattle.order.specs.Words.{Kids}
+
+-- A row of at most eight types, which are there.
+pub record Told (o : Row) : Type 0 where
+  pub most : o .n ≤ 8
+  pub long : o .n ≤ length (o .types)
+
+pub kids-told : (s ps ws : Words) (z : ℕ) (o : Row) → Kids s ps ws z o → o .n ≢ 9 → Told o
+kids-told s ps ws z o k n = record { most = k .few n; long = k .long n }
+
+-- The children of a ref are met with the types of a row, turned by b.
+pub record Against (s ps ws m : Words) (a : ℕ) (o : Row) (b : ℕ) (m′ : Words) (r : ℕ) : Type 0 where
+  pub all : FollowsAll s ps ws m (kids s ps ws a) (map (turn b) (take (o .n) (o .types))) m′ r
+
+pub against-stop : (s ps ws m : Words) (a : ℕ) (o : Row) (b : ℕ) (m′ : Words) → Against s ps ws m a o b m′ 2
+against-stop s ps ws m a o b m′ = record { all = all-nothing s ps ws m _ _ m′ 2 (λ e. omega (arith, e)) (λ e. omega (arith, e)) }
+
+-- The row is that of the children of another.
+pub against-kids : (s ps ws m : Words) (a z : ℕ) (o : Row) (b : ℕ) (m′ : Words) (r : ℕ) → Kids s ps ws z o → o .n ≢ 9 → Against s ps ws m a o b m′ r → FollowsAll s ps ws m (kids s ps ws a) (map (turn b) (kids s ps ws z)) m′ r
+against-kids s ps ws m a z o b m′ r k n g = subst (λ (vs : Words). FollowsAll s ps ws m (kids s ps ws a) (map (turn b) vs) m′ r) (k .are n) (g .all)
 
 -- What is left of a row from j on.
 left-of : (o : Row) (j : ℕ) → o .n ≤ length (o .types) → j < o .n → drop j (take (o .n) (o .types)) ≡ at (o .types) j ∷ drop (j + 1) (take (o .n) (o .types))
@@ -27,6 +46,13 @@ left-of o j l h = drop-cons (take (o .n) (o .types)) j 0 (omega (arith, length-t
 
 none-left : (o : Row) (j : ℕ) → o .n ≤ length (o .types) → o .n ≤ j → drop j (take (o .n) (o .types)) ≡ []
 none-left o j l h = drop-of-length-le (take (o .n) (o .types)) {i = j} (omega (arith, length-take-le (o .n) (o .types) l))
+
+-- The type in the cell at c is met with type y, turned by b.
+pub record CellMet (s ps ws m : Words) (c y b : ℕ) (m′ : Words) (r : ℕ) : Type 0 where
+  pub is : Follows s ps ws m (cell-type s c) (turn b y) m′ r
+
+pub cell-met : (s ps ws m : Words) (c y b w u v : ℕ) (m′ : Words) (r : ℕ) → w ≡ at s (c + 1) → u ≡ 2048 + w % 2048 → v ≡ turn b y → Follows s ps ws m u v m′ r → CellMet s ps ws m c y b m′ r
+cell-met s ps ws m c y b w u v m′ r ew eu ev f = record { is = subst (λ i. Follows s ps ws m i (turn b y) m′ r) (eu ∙ ap (λ i. 2048 + i % 2048) ew) (subst (λ i. Follows s ps ws m u i m′ r) ev f) }
 
 -- The cells from h are met with the types of a row, turned by b.
 pub record Cells (s ps ws m : Words) (h : ℕ) (o : Row) (b : ℕ) (m′ : Words) (r : ℕ) : Type 0 where
@@ -40,14 +66,14 @@ pub record Beside (s ps ws m : Words) (h : ℕ) (o : Row) (b : ℕ) (m₁ : Word
   pub fuel : o .n < length s
   pub rest : (m′ : Words) (r : ℕ) → FollowsAll s ps ws m₁ (map (cell-type s) (chain-of (length s - j) s c)) (map (turn b) (drop j (take (o .n) (o .types)))) m′ r → FollowsAll s ps ws m (record-types s h) (map (turn b) (take (o .n) (o .types))) m′ r
 
-pub beside-start : (s ps ws m : Words) (h z n b : ℕ) → 8 < length s → n ≤ 8 → Beside s ps ws m h (row-at ws z n) b m h 0
+pub beside-start : (s ps ws m : Words) (h : ℕ) (o : Row) (b : ℕ) → 8 < length s → Told o → Beside s ps ws m h o b m h 0
 unfolding cell-types chain
-beside-start s ps ws m h z n b f l = record {
+beside-start s ps ws m h o b f l = record {
   few = omega arith;
-  most = l;
-  long = omega (arith, types-at-length ws z);
-  fuel = omega arith;
-  rest = λ m′ r g. subst (λ (us : Words). FollowsAll s ps ws m us (map (turn b) (take n (types-at ws z))) m′ r) (sym (cell-types-are s (chain s h) ∙ ap (λ k. map (cell-type s) (chain-of k s h)) (let y : length s ≡ length s - 0 = omega arith in y))) g;
+  most = l .most;
+  long = l .long;
+  fuel = omega (arith, l .most, f);
+  rest = λ m′ r g. subst (λ (us : Words). FollowsAll s ps ws m us (map (turn b) (take (o .n) (o .types))) m′ r) (sym (cell-types-are s (chain s h) ∙ ap (λ k. map (cell-type s) (chain-of k s h)) (let y : length s ≡ length s - 0 = omega arith in y))) g;
 }
 
 module _ (s ps ws m : Words) (h : ℕ) (o : Row) (b : ℕ) (m₁ : Words) (c j : ℕ) (k : Beside s ps ws m h o b m₁ c j) where
@@ -75,38 +101,33 @@ module _ (s ps ws m : Words) (h : ℕ) (o : Row) (b : ℕ) (m₁ : Words) (c j :
   pub beside-end : c ≡ 0 → o .n ≤ j → Cells s ps ws m h o b m₁ 1
   beside-end z l = record { all = k .rest m₁ 1 (subst (λ (us : Words). FollowsAll s ps ws m₁ us (map (turn b) (drop j (take (o .n) (o .types)))) m₁ 1) (sym (no-cells z)) (subst (λ (vs : Words). FollowsAll s ps ws m₁ [] vs m₁ 1) (sym (no-types l)) (follows-none s ps ws m₁))) }
 
-  module _ (w u x v n : ℕ) (z : c ≢ 0) (l : j < o .n) (ew : w ≡ at s (c + 1)) (eu : u ≡ 2048 + w % 2048) (ex : x ≡ at (o .types) j) (ev : v ≡ turn b x) where
-    here : (m′ : Words) (r : ℕ) → FollowsAll s ps ws m₁ (u ∷ map (cell-type s) (chain-of (length s - (j + 1)) s (at s c))) (v ∷ map (turn b) (drop (j + 1) (take (o .n) (o .types)))) m′ r → FollowsAll s ps ws m (record-types s h) (map (turn b) (take (o .n) (o .types))) m′ r
+  module _ (x : ℕ) (z : c ≢ 0) (l : j < o .n) (ex : x ≡ at (o .types) j) where
+    here : (m′ : Words) (r : ℕ) → FollowsAll s ps ws m₁ (cell-type s c ∷ map (cell-type s) (chain-of (length s - (j + 1)) s (at s c))) (turn b x ∷ map (turn b) (drop (j + 1) (take (o .n) (o .types)))) m′ r → FollowsAll s ps ws m (record-types s h) (map (turn b) (take (o .n) (o .types))) m′ r
     here m′ r f = k .rest m′ r
-        (subst (λ (us : Words). FollowsAll s ps ws m₁ us (map (turn b) (drop j (take (o .n) (o .types)))) m′ r) (sym (more-cells z ∙ ap (λ i. i ∷ map (cell-type s) (chain-of (length s - (j + 1)) s (at s c))) (sym (eu ∙ ap (λ i. 2048 + i % 2048) ew))))
-        (subst (λ (vs : Words). FollowsAll s ps ws m₁ (u ∷ map (cell-type s) (chain-of (length s - (j + 1)) s (at s c))) vs m′ r) (sym (more-types l ∙ ap (λ i. i ∷ map (turn b) (drop (j + 1) (take (o .n) (o .types)))) (sym (ev ∙ ap (turn b) ex)))) f))
+        (subst (λ (us : Words). FollowsAll s ps ws m₁ us (map (turn b) (drop j (take (o .n) (o .types)))) m′ r) (sym (more-cells z))
+        (subst (λ (vs : Words). FollowsAll s ps ws m₁ (cell-type s c ∷ map (cell-type s) (chain-of (length s - (j + 1)) s (at s c))) vs m′ r) (sym (more-types l ∙ ap (λ i. turn b i ∷ map (turn b) (drop (j + 1) (take (o .n) (o .types)))) (sym ex))) f))
 
     -- A pair is the last,
-    pub beside-last : (m₂ : Words) (r : ℕ) → Follows s ps ws m₁ u v m₂ r → r ≢ 1 → Cells s ps ws m h o b m₂ r
-    beside-last m₂ r f y = record { all = here m₂ r (follows-last s ps ws m₁ u v m₂ r _ _ f y) }
+    pub beside-last : (m₂ : Words) (r : ℕ) → CellMet s ps ws m₁ c x b m₂ r → r ≢ 1 → Cells s ps ws m h o b m₂ r
+    beside-last m₂ r f y = record { all = here m₂ r (follows-last s ps ws m₁ _ _ m₂ r _ _ (f .is) y) }
 
     -- or the next is met.
-    pub beside-on : (m₂ : Words) (r : ℕ) → Follows s ps ws m₁ u v m₂ r → r ≡ 1 → n ≡ at s c → Beside s ps ws m h o b m₂ n (j + 1)
-    beside-on m₂ r f y en = record {
+    pub beside-on : (m₂ : Words) (r n : ℕ) → CellMet s ps ws m₁ c x b m₂ r → r ≡ 1 → n ≡ at s c → Beside s ps ws m h o b m₂ n (j + 1)
+    beside-on m₂ r n f y en = record {
       few = omega arith;
       most = k .most;
       long = k .long;
       fuel = k .fuel;
-      rest = λ m′ q g. here m′ q (follows-more s ps ws m₁ u v m₂ r _ _ m′ q f y (subst (λ i. FollowsAll s ps ws m₂ (map (cell-type s) (chain-of (length s - (j + 1)) s i)) (map (turn b) (drop (j + 1) (take (o .n) (o .types)))) m′ q) en g));
+      rest = λ m′ q g. here m′ q (follows-more s ps ws m₁ _ _ m₂ r _ _ m′ q (f .is) y (subst (λ i. FollowsAll s ps ws m₂ (map (cell-type s) (chain-of (length s - (j + 1)) s i)) (map (turn b) (drop (j + 1) (take (o .n) (o .types)))) m′ q) en g));
     }
 
--- The children of a ref that has a record and of a known node.
-pub kids-across : (s ps ws m : Words) (a z b p h i n : ℕ) (m′ : Words) (r : ℕ) → 1024 ≤ a → z < 256 → ChildTypes ws z (row-at ws z n) → n ≢ 9 → p ≡ place ps a → h ≡ at s (p + 4) → i ≡ h → Cells s ps ws m i (row-at ws z n) b m′ r → FollowsAll s ps ws m (kids s ps ws a) (map (turn b) (kids s ps ws z)) m′ r
+-- They are those of a ref that has a record.
+pub against-cells : (s ps ws m : Words) (a p h i : ℕ) (o : Row) (b : ℕ) (m′ : Words) (r : ℕ) → 1024 ≤ a → p ≡ place ps a → h ≡ at s (p + 4) → i ≡ h → Cells s ps ws m i o b m′ r → Against s ps ws m a o b m′ r
 unfolding kids
-kids-across s ps ws m a z b p h i n m′ r ha hz c e ep eh ei f =
-    subst (λ (us : Words). FollowsAll s ps ws m us (map (turn b) (kids s ps ws z)) m′ r) (sym (high ∙ ap (record-types s) (sym (ei ∙ eh ∙ ap (λ v. at s (v + 4)) ep))))
-    (subst (λ (vs : Words). FollowsAll s ps ws m (record-types s i) (map (turn b) vs) m′ r) (c .are e ∙ sym low) (f .all))
+against-cells s ps ws m a p h i o b m′ r ha ep eh ei f = record { all = subst (λ (us : Words). FollowsAll s ps ws m us (map (turn b) (take (o .n) (o .types))) m′ r) (sym (high ∙ ap (record-types s) (sym (ei ∙ eh ∙ ap (λ v. at s (v + 4)) ep)))) (f .all) }
   where
     high : kids s ps ws a ≡ record-types s (at s (place ps a + 4))
     high = rw (le-ltb a 256 (omega arith), kids)
-
-    low : kids s ps ws z ≡ node-types ws z
-    low = rw (lt-ltb z 256 hz, kids)
 
 -- Two rows are met, the types of the second turned by b.
 pub record Paired (s ps ws m : Words) (x y : Row) (b : ℕ) (m′ : Words) (r : ℕ) : Type 0 where
@@ -143,14 +164,14 @@ module _ (s ps ws m : Words) (x y : Row) (b : ℕ) (m₁ : Words) (j : ℕ) (k :
     pub rows-on : (m₂ : Words) (r : ℕ) → Follows s ps ws m₁ u v m₂ r → r ≡ 1 → Rows s ps ws m x y b m₂ (j + 1)
     rows-on m₂ r f e = record { even = k .even; rest = λ m′ t g. here-rows m′ t (follows-more s ps ws m₁ u v m₂ r _ _ m′ t f e g) }
 
--- The rows are those of the children of two refs.
-module _ (s ps ws : Words) (a z : ℕ) (x y : Row) (p : Kids s ps ws a x) (q : Kids s ps ws z y) (nx : x .n ≢ 9) (ny : y .n ≢ 9) where
+-- The first row is that of the children of a ref.
+module _ (s ps ws : Words) (a : ℕ) (x y : Row) (p : Kids s ps ws a x) (nx : x .n ≢ 9) (t : Told y) where
   pub rows-even : x .n ≡ y .n → Even x y
-  rows-even e = record { same = e; most = p .few nx; left = p .long nx; right = q .long ny }
+  rows-even e = record { same = e; most = p .few nx; left = p .long nx; right = t .long }
 
   -- They are not as many,
-  pub rows-uneven : (m : Words) (b : ℕ) (m′ : Words) → x .n ≢ y .n → FollowsAll s ps ws m (kids s ps ws a) (map (turn b) (kids s ps ws z)) m′ 0
-  rows-uneven m b m′ d = follows-uneven s ps ws m _ _ m′ (λ e. d (sym (count x (p .long nx)) ∙ ap length (p .are nx) ∙ e ∙ turned (kids s ps ws z) ∙ sym (ap length (q .are ny)) ∙ count y (q .long ny)))
+  pub rows-uneven : (m : Words) (b : ℕ) (m′ : Words) → x .n ≢ y .n → Against s ps ws m a y b m′ 0
+  rows-uneven m b m′ d = record { all = follows-uneven s ps ws m _ _ m′ (λ e. d (sym (count x (p .long nx)) ∙ ap length (p .are nx) ∙ e ∙ turned (take (y .n) (y .types)) ∙ count y (t .long))) }
     where
       count : (o : Row) → o .n ≤ length (o .types) → length (take (o .n) (o .types)) ≡ o .n
       count o l = length-take-le (o .n) (o .types) l
@@ -160,5 +181,5 @@ module _ (s ps ws : Words) (a z : ℕ) (x y : Row) (p : Kids s ps ws a x) (q : K
       turned (u ∷ us) = ap suc (turned us)
 
   -- or they are met.
-  pub rows-kids : (m : Words) (b : ℕ) (m′ : Words) (r : ℕ) → Paired s ps ws m x y b m′ r → FollowsAll s ps ws m (kids s ps ws a) (map (turn b) (kids s ps ws z)) m′ r
-  rows-kids m b m′ r f = subst (λ (us : Words). FollowsAll s ps ws m us (map (turn b) (kids s ps ws z)) m′ r) (p .are nx) (subst (λ (vs : Words). FollowsAll s ps ws m (take (x .n) (x .types)) (map (turn b) vs) m′ r) (q .are ny) (f .all))
+  pub rows-kids : (m : Words) (b : ℕ) (m′ : Words) (r : ℕ) → Paired s ps ws m x y b m′ r → Against s ps ws m a y b m′ r
+  rows-kids m b m′ r f = record { all = subst (λ (us : Words). FollowsAll s ps ws m us (map (turn b) (take (y .n) (y .types))) m′ r) (p .are nx) (f .all) }

@@ -16,7 +16,7 @@ use Rattle.table.specs.declared.Row.{Row}
 use Rattle.refs.specs.Meaning.{odd, turn}
 use Rattle.order.specs.Stage.{stands, Kin, Run, Stage, kind-word, id-word, kids}
 use Rattle.order.specs.Mirror.{source, Sound, Mirror, Marks, marks-same, marks-on, mirror-marks, stands-at, follow-find}
-use Rattle.order.specs.Following.{Rooted, Owns, lives}
+use Rattle.order.specs.Following.{Owns, lives}
 use Rattle.order.specs.Meeting.{state-known, state-unknown, shown}
 use Rattle.order.specs.Words.{Roots, Kids}
 

@@ -3,23 +3,26 @@ use Prim.Native.Nat.{ℕ, zero, suc, _+_, _-_, _*_, _/_, _%_, _≤_, _<_}
 use mathlib.Core.Path.{_≡_, refl, sym, _∙_, ap, ap₂, subst}
 use mathlib.Core.Bool.{Bool, true, false}
 use mathlib.Core.List.{List, [], _∷_, map}
-use mathlib.Core.Logic.{_≢_, ⊎-elim}
+use mathlib.Core.Logic.{_≢_, _⊎_, inl, inr, ⊎-elim}
+use native.Mathlib.Decide.{ℕ-discrete}
 use native.Mathlib.Omega.{arith}
 use lib.Dec.{eqb, ltb}
-use lib.ListN.{length, take}
+use lib.ListN.{length, take, set, length-set}
+use lib.Seq.{getD-set-same, getD-set-other}
 use borrow.Author.Tests.{lt-ltb, le-ltb}
 use Rattle.rules.specs.Lists.{Words}
 use Rattle.rules.specs.Sheet.{at}
-use Rattle.rules.specs.Types.{Ty, Types, xor, invert-if, find, size-at}
+use Rattle.rules.specs.Types.{Ty, Types, xor, invert-if, invert-state, find, state-at, size-at}
 use Rattle.rules.specs.Pigeonholes.{lt-or}
+use Rattle.rules.specs.CommonSides.{xor-twice}
 use Rattle.table.specs.declared.Row.{Row}
 use Rattle.table.specs.Packing.{types-of, kind-at, id-at}
 use Rattle.table.specs.ChildTypes.{ChildTypes}
 use Rattle.refs.specs.Meaning.{odd, turn, record-side, node-types, record-types}
 use Rattle.refs.specs.Refs.{place, Bit, IdOf}
 use Rattle.refs.specs.Children.{Cells}
-use Rattle.order.specs.Stage.{stands, Plain, Stage, kind-word, id-word, kids, base, stands-turn, invert-twice}
-use Rattle.order.specs.Mirror.{source, Sound, Mirror, link-find, root-find}
+use Rattle.order.specs.Stage.{stands, Plain, Stage, kind-word, id-word, kids, base, stands-turn, find-invert}
+use Rattle.order.specs.Mirror.{source, Sound, Mirror, link-find, root-find, stands-at}
 
 -- x is found along links from t.
 pub record Leads (m : Words) (t x : ℕ) : Type 0 where
@@ -162,3 +165,101 @@ kids-record s ps ws r p h j o l ep eh ej c = record { few = c .few; long = c .lo
 
 pub kids-known : (ws : Words) (r k : ℕ) → k ≡ kind-at (types-of ws) r → k ≢ 0 → kind-at (types-of ws) r ≢ 0
 kids-known ws r k e z q = z (e ∙ q)
+
+same-or : (a b : ℕ) → (a ≡ b) ⊎ (a ≢ b)
+same-or a b = go (ℕ-discrete a b)
+  where
+    go : Dec (a ≡ b) → (a ≡ b) ⊎ (a ≢ b)
+    go (yes e) = inl e
+    go (no n) = inr n
+
+-- One link on from type t, or none.
+pub record Steps (m : Words) (t x : ℕ) : Type 0 where
+  pub at : (s ps ws : Words) (st : Stage s ps ws) (ts : Types) → Mirror s ps ws st m ts → st .live (t / 2) ≡ true → find ts (stands (st .to) t) ≡ find ts (stands (st .to) x)
+
+pub steps-none : (m : Words) (t : ℕ) → Steps m t t
+steps-none m t = record { at = λ s ps ws st ts k l. refl }
+
+pub steps-up : (m : Words) (t w u v : ℕ) → w ≡ t / 2 % 2048 → u ≡ at m w → u ≢ 0 → v ≡ turn (t % 2) (u - 1) → Steps m t v
+steps-up m t w u v e q z ev = record { at = λ s ps ws st ts k l. link-find s ps ws st m ts k t u v l (q ∙ ap (at m) (e ∙ low-ref (t / 2) (st .low (t / 2) l))) z (ev ∙ (let y : turn (t % 2) (u - 1) ≡ turn t (u - 1) = omega arith in y)) .1 }
+
+-- Type t, whose root is x, is linked to it directly; nothing is written where it is its own.
+pub record Shortens (m : Words) (t x : ℕ) (m′ : Words) : Type 0 where
+  pub own : t / 2 ≡ x / 2 → m′ ≡ m
+  pub len : length m′ ≡ length m
+  pub there : t / 2 ≢ x / 2 → t / 2 < 2048 → length m ≡ 8192 → at m′ (t / 2) ≡ turn t x % 4096 + 1
+  pub rest : (j : ℕ) → t / 2 < 2048 → j ≢ t / 2 → at m′ j ≡ at m j
+
+pub shortens-own : (m : Words) (t x : ℕ) → t / 2 ≡ x / 2 → Shortens m t x m
+shortens-own m t x e = record { own = λ q. refl; len = refl; there = λ n. absurd (n e); rest = λ j h d. refl }
+
+pub shortens-set : (m : Words) (t x w v : ℕ) → t / 2 ≢ x / 2 → w ≡ t / 2 % 2048 → v ≡ turn (t % 2) x → Shortens m t x (set m w (v % 4096 + 1))
+shortens-set m t x w v n ew ev = record {
+  own = λ e. absurd (n e);
+  len = length-set m w (v % 4096 + 1);
+  there = λ z h l.
+      let r = ew ∙ low-ref (t / 2) h in
+      ap (at (set m w (v % 4096 + 1))) (sym r) ∙ getD-set-same m w (v % 4096 + 1) 0 (omega (arith, l, r, h)) ∙ ap (λ j. j % 4096 + 1) (ev ∙ (let y : turn (t % 2) x ≡ turn t x = omega arith in y));
+  rest = λ j h d. getD-set-other m w j (v % 4096 + 1) 0 (λ q. d (q ∙ ew ∙ low-ref (t / 2) h));
+}
+
+-- The notes are of the same table then,
+module _ (s ps ws : Words) (st : Stage s ps ws) (m : Words) (ts : Types) (k : Mirror s ps ws st m ts) (t x : ℕ) (l : st .live (t / 2) ≡ true) (o : Sound s ps ws st (x / 2)) (rx : at m (x / 2) ≡ 0) (f : find ts (stands (st .to) t) ≡ stands (st .to) x) (m′ : Words) (g : Shortens m t x m′) where
+  -- for what is linked is no root.
+  not-root : t / 2 ≢ x / 2 → Plain s ps (t / 2) → at m (t / 2) ≢ 0
+  not-root n p z =
+      let a : Sound s ps ws st (t / 2) = record { live = l; plain = p } in
+      n (st .one (t / 2) (x / 2) l (o .live) p (o .plain) (sym (ap (λ (u : Ty). u .1) (stands-at s ps ws st t a)) ∙ ap (λ (u : Ty). u .1) (sym (root-find s ps ws st m ts k t a z) ∙ f) ∙ ap (λ (u : Ty). u .1) (stands-at s ps ws st x o)))
+
+  module _ (n : t / 2 ≢ x / 2) where
+    low-t : t / 2 < 2048
+    low-t = st .low (t / 2) l
+
+    word : at m′ (t / 2) ≡ turn t x + 1
+    word = g .there n low-t (k .long) ∙ ap (λ j. j + 1) (let z : turn t x < 4096 = omega (arith, st .low (x / 2) (o .live)) in let y : turn t x % 4096 ≡ turn t x = omega (arith, z) in y)
+
+    other : (r : ℕ) → Sound s ps ws st r → at m′ r ≡ 0 → (r ≢ t / 2) × (at m r ≡ 0)
+    other r a e =
+        let d : r ≢ t / 2 = λ q. omega (arith, sym (ap (at m′) q ∙ word) ∙ e) in
+        (d, sym (g .rest r low-t d) ∙ e)
+
+    same : (r : ℕ) → (d : ℕ) → 2048 ≤ d → at m′ (d + r) ≡ at m (d + r)
+    same r d h = g .rest (d + r) low-t (λ q. omega (arith, q, low-t, h))
+
+    same-from : (r : ℕ) → source m r ≡ source m′ r
+    unfolding source
+    same-from r = ap {B = ℕ} (λ j. elim (eqb j 0) [ true ↦ 2 * r | false ↦ j - 1 ]) (sym (same r 4096 (omega arith)))
+
+    here-link : Sound s ps ws st ((at m′ (t / 2) - 1) / 2) × (find ts (st .to (t / 2)) ≡ find ts (stands (st .to) (at m′ (t / 2) - 1)))
+    unfolding stands invert-if
+    here-link =
+        let e : turn t x ≡ at m′ (t / 2) - 1 = omega (arith, word) in
+        let r : turn t x / 2 ≡ x / 2 = omega arith in (
+          subst (λ j. Sound s ps ws st (j / 2)) e (subst (Sound s ps ws st) (sym r) o),
+          subst (λ j. find ts (st .to (t / 2)) ≡ find ts (stands (st .to) j)) e
+              (sym (invert-back (odd t) (find ts (st .to (t / 2))))
+              ∙ ap (invert-if (odd t)) (sym (find-invert ts (odd t) (st .to (t / 2))) ∙ f ∙ sym (root-find s ps ws st m ts k x o rx))
+              ∙ sym (find-invert ts (odd t) (stands (st .to) x))
+              ∙ ap (find ts) (sym (stands-turn (st .to) t x))),
+        )
+      where
+        invert-back : (b : Bool) (u : Ty) → invert-if b (invert-if b u) ≡ u
+        invert-back b u = λ i. (xor-twice b (u .0) i, u .1)
+
+    shortened : Mirror s ps ws st m′ ts
+    shortened = record {
+      long = g .len ∙ k .long;
+      len = k .len;
+      follow = k .follow;
+      link = λ r live z. ⊎-elim (λ q. subst (λ j. Sound s ps ws st ((at m′ j - 1) / 2) × (find ts (st .to j) ≡ find ts (stands (st .to) (at m′ j - 1)))) (sym q) here-link) (λ d. let e = sym (g .rest r low-t d) in subst (λ j. Sound s ps ws st ((j - 1) / 2) × (find ts (st .to r) ≡ find ts (stands (st .to) (j - 1)))) e (k .link r live (λ y. z (sym e ∙ y)))) (same-or r (t / 2));
+      root = λ r a e. k .root r a (other r a e .1);
+      size = λ r a e. k .size r a (other r a e .1) ∙ ap (λ j. size-at (st .table) ((st .to r) .1) + j) (sym (same r 2048 (omega arith)));
+      state = λ r a e. subst (λ j. Sound s ps ws st (j / 2) × (state-at ts ((st .to r) .1) ≡ invert-state (odd j) (state-at (st .table) ((st .to (j / 2)) .1)))) (same-from r) (k .state r a (other r a e .1));
+    }
+
+  pub mirror-shorter : Mirror s ps ws st m′ ts
+  mirror-shorter = ⊎-elim (λ e. subst (λ (j : Words). Mirror s ps ws st j ts) (sym (g .own e)) k) shortened (same-or (t / 2) (x / 2))
+
+  -- and a root stays one.
+  pub root-stays : (y : ℕ) → Sound s ps ws st (y / 2) → at m (y / 2) ≡ 0 → at m′ (y / 2) ≡ 0
+  root-stays y a e = ⊎-elim (λ q. ap (λ (j : Words). at j (y / 2)) (g .own q) ∙ e) (λ n. g .rest (y / 2) (st .low (t / 2) l) (λ q. not-root n (subst (Plain s ps) q (a .plain)) (ap (at m) (sym q) ∙ e)) ∙ e) (same-or (t / 2) (x / 2))

@@ -8,20 +8,19 @@ ghost use mathlib.Core.Bool.{true, false};
 ghost use mathlib.Core.List.{map};
 ghost use Prim.Native.Nat.{_+_, _/_, _%_, _<_, _≤_};
 ghost use lib.Dec.{eqb};
-ghost use lib.ListN.{length, take};
+ghost use lib.ListN.{length};
 ghost use Rattle.rules.specs.Sheet.{at};
 ghost use Rattle.table.specs.Packing.{Packed};
-ghost use Rattle.table.specs.ChildTypes.{row-at};
 ghost use Rattle.refs.specs.Meaning.{turn as turn-of};
 ghost use Rattle.refs.specs.Refs.{place, Bit, apart as apart-of};
 ghost use Rattle.order.specs.Stage.{kind-word, id-word, kids, base};
 ghost use Rattle.order.specs.Mirror.{source, Marks};
 ghost use Rattle.order.specs.Following.{Follows, FollowsAll, Meets, Owns};
 ghost use Rattle.order.specs.Meeting.{Joins};
-ghost use Rattle.order.specs.Words.{Found, Roots, Kids};
+ghost use Rattle.order.specs.Words.{Found, Roots, Kids, Steps, Shortens};
 ghost use Rattle.order.specs.Owning.{OwnsAll, Flagged};
 ghost use Rattle.order.specs.Going.{Compared, Rejoins};
-ghost use Rattle.order.specs.Kids.{Cells, Even, Paired};
+ghost use Rattle.order.specs.Kids.{Told, Against, CellMet, Cells, Even, Paired};
 ghost use Rattle.order.specs.Arguments.{Fails};
 ghost use Rattle.order.specs.Joined.{Inherits, Hangs};
 use chart::kinds;
@@ -124,6 +123,27 @@ fn root(sheet: &[u32], places: &[u32], m: &[u32; 8192], t: u32) -> u32
         return find_own(sheet, places, m, t);
     }
     find(m, turn(t % 2, up - 1))
+}
+
+// The type that a type is linked to, or itself.
+fn step(m: &[u32; 8192], t: u32) -> u32
+    ensures { λ x. ⌜ Steps (now (m .entry)) t x ⌝ }
+{
+    let up = m[ref_of(t)];
+    if up == 0 {
+        return t;
+    }
+    turn(t % 2, up - 1)
+}
+
+// Links a type to its root, unless it is of the same ref.
+fn shorten(m: &mut [u32; 8192], t: u32, x: u32)
+    ensures { λ _. ⌜ Shortens (now (m .entry)) t x (now (m .exit)) ⌝ }
+{
+    if t / 2 != x / 2 {
+        let v = turn(t % 2, x);
+        m[ref_of(t)] = v % 4096 + 1;
+    }
 }
 
 // The type whose state the type of a root has.
@@ -388,10 +408,12 @@ fn go(
     if x >= TYPES {
         return STOP;
     }
+    shorten(m, a, x);
     let y = root(sheet, places, m, b);
     if y >= TYPES {
         return STOP;
     }
+    shorten(m, b, y);
     if x / 2 != y / 2 {
         return meet(sheet, places, ws, m, x, y, left);
     }
@@ -485,72 +507,63 @@ fn below(
     requires { ⌜ Packed (now ws) ⌝ }
     ensures { λ r. ⌜ FollowsAll (now (sheet .entry)) (now (places .entry)) (now (ws .entry)) (now (m .entry)) (kids (now (sheet .entry)) (now (places .entry)) (now (ws .entry)) a) (map (turn-of b) (kids (now (sheet .entry)) (now (places .entry)) (now (ws .entry)) z)) (now (m .exit)) r ⌝ }
 {
-    if RECORDS <= a {
-        if z < NODES {
-            return across(sheet, places, ws, m, a, z, b, left);
-        }
+    let ys = children(sheet, places, ws, z);
+    if ys.n == UNTOLD {
+        return STOP;
     }
-    rows(sheet, places, ws, m, a, z, b, left)
+    if RECORDS <= a {
+        return across(sheet, places, ws, m, a, ys, b, left);
+    }
+    rows(sheet, places, ws, m, a, ys, b, left)
 }
 
-// The same of a ref that has a record and of a node.
+// The children of a ref that has a record and the types of a row, turned by b.
 fn across(
     sheet: &[u32],
     places: &[u32],
     ws: &[u32],
     m: &mut [u32; 8192],
     a: u32,
-    z: u32,
+    ys: Row,
     b: u32,
     left: usize,
 ) -> u32
     requires { ⌜ Packed (now ws) ⌝ }
     requires { ⌜ 1024 ≤ a ⌝ }
-    requires { ⌜ z < 256 ⌝ }
-    ensures { λ r. ⌜ FollowsAll (now (sheet .entry)) (now (places .entry)) (now (ws .entry)) (now (m .entry)) (kids (now (sheet .entry)) (now (places .entry)) (now (ws .entry)) a) (map (turn-of b) (kids (now (sheet .entry)) (now (places .entry)) (now (ws .entry)) z)) (now (m .exit)) r ⌝ }
+    requires { ⌜ Told ys ⌝ }
+    ensures { λ r. ⌜ Against (now (sheet .entry)) (now (places .entry)) (now (ws .entry)) (now (m .entry)) a ys b (now (m .exit)) r ⌝ }
 {
     if sheet.len() <= 8 {
         return STOP;
     }
-    if table::kind_of(ws, z) == 0 {
-        return STOP;
-    }
-    let n = table::own_children(ws, z);
-    if n == UNTOLD {
-        return STOP;
-    }
     let p = place_of(places, a);
     let head = words::offset(sheet, p, layout::NODE_CHILDREN);
-    beside(sheet, places, ws, m, words::wide(head), z, n, b, left)
+    beside(sheet, places, ws, m, words::wide(head), ys, b, left)
 }
 
-// The types in the cells from a head and the n children of node z, turned by b.
+// The types in the cells from a head and those of a row, turned by b.
 fn beside(
     sheet: &[u32],
     places: &[u32],
     ws: &[u32],
     m: &mut [u32; 8192],
     head: usize,
-    z: u32,
-    n: usize,
+    ys: Row,
     b: u32,
     left: usize,
 ) -> u32
     requires { ⌜ Packed (now ws) ⌝ }
     requires { ⌜ 8 < length (now sheet) ⌝ }
-    requires { ⌜ z < 256 ⌝ }
-    requires { ⌜ n ≤ 8 ⌝ }
-    ensures { λ r. ⌜ Cells (now (sheet .entry)) (now (places .entry)) (now (ws .entry)) (now (m .entry)) head (row-at (now (ws .entry)) z n) b (now (m .exit)) r ⌝ }
+    requires { ⌜ Told ys ⌝ }
+    ensures { λ r. ⌜ Cells (now (sheet .entry)) (now (places .entry)) (now (ws .entry)) (now (m .entry)) head ys b (now (m .exit)) r ⌝ }
 {
     let mut c = head;
     let mut j: usize = 0;
-    while j < n {
+    while j < ys.n {
         if c == 0 {
             return CLASH;
         }
-        let u = own_type(words::offset(sheet, c, layout::CELL_TYPE));
-        let v = turn(b, table::child_type(ws, z, j));
-        let r = pair(sheet, places, ws, m, u, v, left);
+        let r = cell(sheet, places, ws, m, c, ys.types[j], b, left);
         if r != OK {
             return r;
         }
@@ -563,7 +576,26 @@ fn beside(
     OK
 }
 
-// Two types, unless the one is linked to the other.
+// The type in the cell at c and type y, turned by b.
+fn cell(
+    sheet: &[u32],
+    places: &[u32],
+    ws: &[u32],
+    m: &mut [u32; 8192],
+    c: usize,
+    y: u32,
+    b: u32,
+    left: usize,
+) -> u32
+    requires { ⌜ Packed (now ws) ⌝ }
+    ensures { λ r. ⌜ CellMet (now (sheet .entry)) (now (places .entry)) (now (ws .entry)) (now (m .entry)) c y b (now (m .exit)) r ⌝ }
+{
+    let u = own_type(words::offset(sheet, c, layout::CELL_TYPE));
+    let v = turn(b, y);
+    pair(sheet, places, ws, m, u, v, left)
+}
+
+// Two types, unless they are linked to one, or one to the other.
 fn pair(
     sheet: &[u32],
     places: &[u32],
@@ -574,36 +606,32 @@ fn pair(
     left: usize,
 ) -> u32
     requires { ⌜ Packed (now ws) ⌝ }
-    requires { ⌜ a < 4096 ⌝ }
     ensures { λ r. ⌜ Follows (now (sheet .entry)) (now (places .entry)) (now (ws .entry)) (now (m .entry)) a b (now (m .exit)) r ⌝ }
 {
-    let v = turn(a % 2, b);
-    if m[ref_of(a)] == v % 4096 + 1 {
+    let x = step(m, a);
+    if x == step(m, b) {
         return OK;
     }
     go(sheet, places, ws, m, a, b, left)
 }
 
-// The children of two refs, whichever they are, those of the second turned by b.
+// The children of a ref and the types of a row, turned by b.
 fn rows(
     sheet: &[u32],
     places: &[u32],
     ws: &[u32],
     m: &mut [u32; 8192],
     a: u32,
-    z: u32,
+    ys: Row,
     b: u32,
     left: usize,
 ) -> u32
     requires { ⌜ Packed (now ws) ⌝ }
-    ensures { λ r. ⌜ FollowsAll (now (sheet .entry)) (now (places .entry)) (now (ws .entry)) (now (m .entry)) (kids (now (sheet .entry)) (now (places .entry)) (now (ws .entry)) a) (map (turn-of b) (kids (now (sheet .entry)) (now (places .entry)) (now (ws .entry)) z)) (now (m .exit)) r ⌝ }
+    requires { ⌜ Told ys ⌝ }
+    ensures { λ r. ⌜ Against (now (sheet .entry)) (now (places .entry)) (now (ws .entry)) (now (m .entry)) a ys b (now (m .exit)) r ⌝ }
 {
     let xs = children(sheet, places, ws, a);
     if xs.n == UNTOLD {
-        return STOP;
-    }
-    let ys = children(sheet, places, ws, z);
-    if ys.n == UNTOLD {
         return STOP;
     }
     if xs.n != ys.n {
@@ -631,7 +659,7 @@ fn pairs(
     while j < xs.n {
         let u = xs.types[j];
         let v = turn(b, ys.types[j]);
-        let r = go(sheet, places, ws, m, u, v, left);
+        let r = pair(sheet, places, ws, m, u, v, left);
         if r != OK {
             return r;
         }

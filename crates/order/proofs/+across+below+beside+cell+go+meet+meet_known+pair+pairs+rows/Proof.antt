@@ -1,88 +1,94 @@
 -- The cycle of `go`: the rule is followed layer by layer, and the fuel falls.
 use native.Mathlib.Omega.{arith}
 use Prim.Native.Nat.{_+_, _*_, _-_}
-use Rattle.table.specs.ChildTypes.{row-at}
-use Rattle.order.specs.Words.{kids-known}
-use Rattle.order.specs.Going.{go-same, go-own, go-not-own, go-meets, go-stop, all-stop, meet-stop, pair-linked, meet-left, meet-right, known-clash, known-kids, known-joined, cell-small, kind-there, arity-few}
-use Rattle.order.specs.Kids.{Beside, beside-start, beside-short, beside-over, beside-end, beside-last, beside-on, kids-across, Rows, rows-start, rows-even, rows-uneven, rows-end, rows-last, rows-on, rows-kids}
+use Rattle.order.specs.Going.{go-same, go-own, go-not-own, go-meets, go-stop, all-stop, meet-stop, pair-near, meet-left, meet-right, known-clash, known-kids, known-joined, kind-there}
+use Rattle.order.specs.Kids.{Beside, beside-start, beside-short, beside-over, beside-end, beside-last, beside-on, cell-met, kids-told, against-stop, against-kids, against-cells, Rows, rows-start, rows-even, rows-uneven, rows-end, rows-last, rows-on, rows-kids}
 use borrow.Author.Needs.{needs}
 use Prim.Native.Nat.{ℕ, _<_}
 use borrow.Fn.Kinds.{In}
 use borrow.Fn.PlainCycle.{Measures, is, falls, and}
 use Rattle.order.proofs.across.Reads as across
 use Rattle.order.proofs.across.Kinds as across-kinds
-use Rattle.order.proofs.+across+below+beside+go+meet+meet_known+pair+pairs+rows.Lts-across as across-lts
+use Rattle.order.proofs.+across+below+beside+cell+go+meet+meet_known+pair+pairs+rows.Lts-across as across-lts
 use Rattle.order.proofs.below.Reads as below
 use Rattle.order.proofs.below.Kinds as below-kinds
-use Rattle.order.proofs.+across+below+beside+go+meet+meet_known+pair+pairs+rows.Lts-below as below-lts
+use Rattle.order.proofs.+across+below+beside+cell+go+meet+meet_known+pair+pairs+rows.Lts-below as below-lts
 use Rattle.order.proofs.beside.Reads as beside
 use Rattle.order.proofs.beside.Kinds as beside-kinds
-use Rattle.order.proofs.+across+below+beside+go+meet+meet_known+pair+pairs+rows.Lts-beside as beside-lts
+use Rattle.order.proofs.+across+below+beside+cell+go+meet+meet_known+pair+pairs+rows.Lts-beside as beside-lts
+use Rattle.order.proofs.cell.Reads as cell
+use Rattle.order.proofs.cell.Kinds as cell-kinds
+use Rattle.order.proofs.+across+below+beside+cell+go+meet+meet_known+pair+pairs+rows.Lts-cell as cell-lts
 use Rattle.order.proofs.go.Reads as go
 use Rattle.order.proofs.go.Kinds as go-kinds
-use Rattle.order.proofs.+across+below+beside+go+meet+meet_known+pair+pairs+rows.Lts-go as go-lts
+use Rattle.order.proofs.+across+below+beside+cell+go+meet+meet_known+pair+pairs+rows.Lts-go as go-lts
 use Rattle.order.proofs.meet.Reads as meet
 use Rattle.order.proofs.meet.Kinds as meet-kinds
-use Rattle.order.proofs.+across+below+beside+go+meet+meet_known+pair+pairs+rows.Lts-meet as meet-lts
+use Rattle.order.proofs.+across+below+beside+cell+go+meet+meet_known+pair+pairs+rows.Lts-meet as meet-lts
 use Rattle.order.proofs.meet_known.Reads as meet-known
 use Rattle.order.proofs.meet_known.Kinds as meet-known-kinds
-use Rattle.order.proofs.+across+below+beside+go+meet+meet_known+pair+pairs+rows.Lts-meet_known as meet-known-lts
+use Rattle.order.proofs.+across+below+beside+cell+go+meet+meet_known+pair+pairs+rows.Lts-meet_known as meet-known-lts
 use Rattle.order.proofs.pair.Reads as pair
 use Rattle.order.proofs.pair.Kinds as pair-kinds
-use Rattle.order.proofs.+across+below+beside+go+meet+meet_known+pair+pairs+rows.Lts-pair as pair-lts
+use Rattle.order.proofs.+across+below+beside+cell+go+meet+meet_known+pair+pairs+rows.Lts-pair as pair-lts
 use Rattle.order.proofs.pairs.Reads as pairs
 use Rattle.order.proofs.pairs.Kinds as pairs-kinds
-use Rattle.order.proofs.+across+below+beside+go+meet+meet_known+pair+pairs+rows.Lts-pairs as pairs-lts
+use Rattle.order.proofs.+across+below+beside+cell+go+meet+meet_known+pair+pairs+rows.Lts-pairs as pairs-lts
 use Rattle.order.proofs.rows.Reads as rows
 use Rattle.order.proofs.rows.Kinds as rows-kinds
-use Rattle.order.proofs.+across+below+beside+go+meet+meet_known+pair+pairs+rows.Lts-rows as rows-lts
+use Rattle.order.proofs.+across+below+beside+cell+go+meet+meet_known+pair+pairs+rows.Lts-rows as rows-lts
 use Rattle.order.proofs.children.Reads as children-reads
 use Rattle.order.proofs.compare.Reads as compare-reads
 use Rattle.order.proofs.join.Reads as join-reads
 use Rattle.order.proofs.kind.Reads as kind-reads
 use Rattle.order.proofs.own.Reads as own-reads
-use Rattle.order.proofs.ref_of.Reads as ref-of-reads
 use Rattle.order.proofs.rejoin.Reads as rejoin-reads
 use Rattle.order.proofs.root.Reads as root-reads
+use Rattle.order.proofs.shorten.Reads as shorten-reads
 use Rattle.order.proofs.state.Reads as state-reads
+use Rattle.order.proofs.step.Reads as step-reads
 use Rattle.refs.proofs.own_type.Reads as own-type-reads
 use Rattle.refs.proofs.place_of.Reads as place-of-reads
 use Rattle.refs.proofs.turn.Reads as turn-reads
-use Rattle.table.proofs.child_type.Reads as child-type-reads
-use Rattle.table.proofs.kind_of.Reads as kind-of-reads
-use Rattle.table.proofs.own_children.Reads as own-children-reads
 use Rattle.words.proofs.next.Reads as next-reads
 use Rattle.words.proofs.offset.Reads as offset-reads
 use Rattle.words.proofs.wide.Reads as wide-reads
-use Rattle.order.proofs.+across+below+beside+go+meet+meet_known+pair+pairs+rows.{statement}
-use Rattle.order.proofs.+across+below+beside+go+meet+meet_known+pair+pairs+rows.Tie.{close}
+use Rattle.order.proofs.+across+below+beside+cell+go+meet+meet_known+pair+pairs+rows.{
+  statement,
+}
+use Rattle.order.proofs.+across+below+beside+cell+go+meet+meet_known+pair+pairs+rows.Tie.{
+  close,
+}
 
 abbrev μ-across : Measures 4 across-kinds.ps ℕ
-μ-across κs a = 8 * (a .1 .1 .1 .1 .1 .1 .1 .0) + 6
+μ-across κs a = 10 * (a .1 .1 .1 .1 .1 .1 .1 .0) + 8
 
 abbrev μ-below : Measures 4 below-kinds.ps ℕ
-μ-below κs a = 8 * (a .1 .1 .1 .1 .1 .1 .1 .0) + 7
+μ-below κs a = 10 * (a .1 .1 .1 .1 .1 .1 .1 .0) + 9
 
 abbrev μ-beside : Measures 4 beside-kinds.ps ℕ
-μ-beside κs a = 8 * (a .1 .1 .1 .1 .1 .1 .1 .1 .0) + 5
+μ-beside κs a = 10 * (a .1 .1 .1 .1 .1 .1 .1 .0) + 7
+
+abbrev μ-cell : Measures 4 cell-kinds.ps ℕ
+μ-cell κs a = 10 * (a .1 .1 .1 .1 .1 .1 .1 .0) + 5
 
 abbrev μ-go : Measures 4 go-kinds.ps ℕ
-μ-go κs a = 8 * (a .1 .1 .1 .1 .1 .1 .0) + 2
+μ-go κs a = 10 * (a .1 .1 .1 .1 .1 .1 .0) + 2
 
 abbrev μ-meet : Measures 4 meet-kinds.ps ℕ
-μ-meet κs a = 8 * (a .1 .1 .1 .1 .1 .1 .0) + 1
+μ-meet κs a = 10 * (a .1 .1 .1 .1 .1 .1 .0) + 1
 
 abbrev μ-meet-known : Measures 4 meet-known-kinds.ps ℕ
-μ-meet-known κs a = 8 * (a .1 .1 .1 .1 .1 .1 .1 .1 .1 .1 .0)
+μ-meet-known κs a = 10 * (a .1 .1 .1 .1 .1 .1 .1 .1 .1 .1 .0)
 
 abbrev μ-pair : Measures 4 pair-kinds.ps ℕ
-μ-pair κs a = 8 * (a .1 .1 .1 .1 .1 .1 .0) + 4
+μ-pair κs a = 10 * (a .1 .1 .1 .1 .1 .1 .0) + 4
 
 abbrev μ-pairs : Measures 4 pairs-kinds.ps ℕ
-μ-pairs κs a = 8 * (a .1 .1 .1 .1 .1 .1 .1 .0) + 5
+μ-pairs κs a = 10 * (a .1 .1 .1 .1 .1 .1 .1 .0) + 7
 
 abbrev μ-rows : Measures 4 rows-kinds.ps ℕ
-μ-rows κs a = 8 * (a .1 .1 .1 .1 .1 .1 .1 .0) + 6
+μ-rows κs a = 10 * (a .1 .1 .1 .1 .1 .1 .1 .0) + 8
 
 abbrev across-at : ℕ → In 4 across-kinds.ps
 across-at t = and 4 across-kinds.ps (is 4 across-kinds.ps μ-across t) across.Pre
@@ -101,6 +107,12 @@ beside-at t = and 4 beside-kinds.ps (is 4 beside-kinds.ps μ-beside t) beside.Pr
 
 abbrev beside-below : ℕ → In 4 beside-kinds.ps
 beside-below t = and 4 beside-kinds.ps (falls 4 beside-kinds.ps _<_ μ-beside t) beside.Pre
+
+abbrev cell-at : ℕ → In 4 cell-kinds.ps
+cell-at t = and 4 cell-kinds.ps (is 4 cell-kinds.ps μ-cell t) cell.Pre
+
+abbrev cell-below : ℕ → In 4 cell-kinds.ps
+cell-below t = and 4 cell-kinds.ps (falls 4 cell-kinds.ps _<_ μ-cell t) cell.Pre
 
 abbrev go-at : ℕ → In 4 go-kinds.ps
 go-at t = and 4 go-kinds.ps (is 4 go-kinds.ps μ-go t) go.Pre
@@ -141,13 +153,16 @@ abbrev rows-below : ℕ → In 4 rows-kinds.ps
 rows-below t = and 4 rows-kinds.ps (falls 4 rows-kinds.ps _<_ μ-rows t) rows.Pre
 
 abbrev across-calls : ℕ → across-lts.Claims
-across-calls t = (kind-of-reads.Asked, kind-of-reads.Learnt, own-children-reads.Asked, own-children-reads.Learnt, place-of-reads.Asked, place-of-reads.Learnt, offset-reads.Asked, offset-reads.Learnt, wide-reads.Asked, wide-reads.Learnt, beside-below t, beside.Post)
+across-calls t = (place-of-reads.Asked, place-of-reads.Learnt, offset-reads.Asked, offset-reads.Learnt, wide-reads.Asked, wide-reads.Learnt, beside-below t, beside.Post)
 
-abbrev beside-calls : ℕ → beside-lts.Claims
-beside-calls t = (offset-reads.Asked, offset-reads.Learnt, own-type-reads.Asked, own-type-reads.Learnt, child-type-reads.Asked, child-type-reads.Learnt, turn-reads.Asked, turn-reads.Learnt, pair-below t, pair.Post, next-reads.Asked, next-reads.Learnt)
+abbrev below-calls : ℕ → below-lts.Claims
+below-calls t = (children-reads.Asked, children-reads.Learnt, across-below t, across.Post, rows-below t, rows.Post)
+
+abbrev cell-calls : ℕ → cell-lts.Claims
+cell-calls t = (offset-reads.Asked, offset-reads.Learnt, own-type-reads.Asked, own-type-reads.Learnt, turn-reads.Asked, turn-reads.Learnt, pair-below t, pair.Post)
 
 abbrev go-calls : ℕ → go-lts.Claims
-go-calls t = (root-reads.Asked, root-reads.Learnt, meet-below t, meet.Post, own-reads.Asked, own-reads.Learnt)
+go-calls t = (root-reads.Asked, root-reads.Learnt, shorten-reads.Asked, shorten-reads.Learnt, meet-below t, meet.Post, own-reads.Asked, own-reads.Learnt)
 
 abbrev meet-calls : ℕ → meet-lts.Claims
 meet-calls t = (state-reads.Asked, state-reads.Learnt, kind-reads.Asked, kind-reads.Learnt, join-reads.Asked, join-reads.Learnt, meet-known-below t, meet-known.Post)
@@ -155,23 +170,8 @@ meet-calls t = (state-reads.Asked, state-reads.Learnt, kind-reads.Asked, kind-re
 abbrev meet-known-calls : ℕ → meet-known-lts.Claims
 meet-known-calls t = (compare-reads.Asked, compare-reads.Learnt, below-below t, below.Post, rejoin-reads.Asked, rejoin-reads.Learnt)
 
-abbrev pair-calls : ℕ → pair-lts.Claims
-pair-calls t = (turn-reads.Asked, turn-reads.Learnt, ref-of-reads.Asked, ref-of-reads.Learnt, go-below t, go.Post)
-
 across-returns : (t : ℕ) → across-lts.Need-returns (across-calls t) (across-at t) across.Post
-across-returns t c = search (needs, all-stop)
-
-across-kind-of-requires : (t : ℕ) → across-lts.Need-kind-of-requires (across-calls t) (across-at t) across.Post
-across-kind-of-requires t c κs = search needs
-
-across-returns-2 : (t : ℕ) → across-lts.Need-returns-2 (across-calls t) (across-at t) across.Post
-across-returns-2 t c = search (needs, all-stop)
-
-across-own-children-requires : (t : ℕ) → across-lts.Need-own-children-requires (across-calls t) (across-at t) across.Post
-across-own-children-requires t c κs = (search needs, search (needs, kids-known))
-
-across-returns-3 : (t : ℕ) → across-lts.Need-returns-3 (across-calls t) (across-at t) across.Post
-across-returns-3 t c = search (needs, all-stop)
+across-returns t c = search (needs, against-stop)
 
 across-place-of-requires : (t : ℕ) → across-lts.Need-place-of-requires (across-calls t) (across-at t) across.Post
 across-place-of-requires t c κs = search needs
@@ -183,90 +183,145 @@ across-wide-requires : (t : ℕ) → across-lts.Need-wide-requires (across-calls
 across-wide-requires t c κs = search needs
 
 across-beside-requires : (t : ℕ) → across-lts.Need-beside-requires (across-calls t) (across-at t) across.Post
-across-beside-requires t c κs = (omega arith, (search needs, (search needs, (search needs, search (needs, arity-few)))))
+across-beside-requires t c κs = (omega arith, (search needs, (search needs, search needs)))
 
-across-returns-4 : (t : ℕ) → across-lts.Need-returns-4 (across-calls t) (across-at t) across.Post
-across-returns-4 t c = search (needs, kids-across)
+across-returns-2 : (t : ℕ) → across-lts.Need-returns-2 (across-calls t) (across-at t) across.Post
+across-returns-2 t c = search (needs, against-cells)
 
-below-across-requires : (t : ℕ) → below-lts.Need-across-requires (
-  across-below t,
-  across.Post,
-  rows-below t,
-  rows.Post,
-) (below-at t) below.Post
-below-across-requires t c κs = (omega arith, (search needs, (search needs, search needs)))
+below-children-requires : (t : ℕ) → below-lts.Need-children-requires (below-calls t) (below-at t) below.Post
+below-children-requires t c κs = search needs
 
-below-returns : (t : ℕ) → below-lts.Need-returns (
-  across-below t,
-  across.Post,
-  rows-below t,
-  rows.Post,
-) (below-at t) below.Post
-below-returns t c = search needs
+below-returns : (t : ℕ) → below-lts.Need-returns (below-calls t) (below-at t) below.Post
+below-returns t c = search (needs, all-stop)
 
-below-rows-requires : (t : ℕ) → below-lts.Need-rows-requires (
-  across-below t,
-  across.Post,
-  rows-below t,
-  rows.Post,
-) (below-at t) below.Post
-below-rows-requires t c κs = (omega arith, search needs)
+below-across-requires : (t : ℕ) → below-lts.Need-across-requires (below-calls t) (below-at t) below.Post
+below-across-requires t c κs = (omega arith, (search needs, (search needs, search (needs, kids-told))))
 
-below-returns-2 : (t : ℕ) → below-lts.Need-returns-2 (
-  across-below t,
-  across.Post,
-  rows-below t,
-  rows.Post,
-) (below-at t) below.Post
-below-returns-2 t c = search needs
+below-returns-2 : (t : ℕ) → below-lts.Need-returns-2 (below-calls t) (below-at t) below.Post
+below-returns-2 t c = search (needs, against-kids)
+
+below-rows-requires : (t : ℕ) → below-lts.Need-rows-requires (below-calls t) (below-at t) below.Post
+below-rows-requires t c κs = (omega arith, (search needs, search (needs, kids-told)))
+
+below-returns-3 : (t : ℕ) → below-lts.Need-returns-3 (below-calls t) (below-at t) below.Post
+below-returns-3 t c = search (needs, against-kids)
 
 abbrev beside-Inv-loop : beside-lts.InvT-loop
-beside-Inv-loop sheet places ws m₀ head z n b left c₀ j₀ m c j = Beside sheet places ws m₀ head (row-at ws z n) b m c j
+beside-Inv-loop sheet places ws m₀ head b left ys c₀ j₀ m c j = Beside sheet places ws m₀ head ys b m c j
 
 abbrev beside-μ-loop : beside-lts.MeasureT-loop
-beside-μ-loop sheet places ws m₀ head z n b left c₀ j₀ m c j = n - j
+beside-μ-loop sheet places ws m₀ head b left ys c₀ j₀ m c j = ys .n - j
 
-beside-loop-holds : (t : ℕ) → beside-lts.Need-loop-holds (beside-calls t) (beside-at t) beside.Post beside-Inv-loop beside-μ-loop
+beside-loop-holds : (t : ℕ) → beside-lts.Need-loop-holds (
+  cell-below t,
+  cell.Post,
+  next-reads.Asked,
+  next-reads.Learnt,
+) (beside-at t) beside.Post beside-Inv-loop beside-μ-loop
 beside-loop-holds t c = search (needs, beside-start)
 
-beside-returns : (t : ℕ) → beside-lts.Need-returns (beside-calls t) (beside-at t) beside.Post beside-Inv-loop beside-μ-loop
+beside-returns : (t : ℕ) → beside-lts.Need-returns (
+  cell-below t,
+  cell.Post,
+  next-reads.Asked,
+  next-reads.Learnt,
+) (beside-at t) beside.Post beside-Inv-loop beside-μ-loop
 beside-returns t c = search (needs, beside-short)
 
-beside-offset-requires : (t : ℕ) → beside-lts.Need-offset-requires (beside-calls t) (beside-at t) beside.Post beside-Inv-loop beside-μ-loop
-beside-offset-requires t c κs = search needs
+beside-mul-cell : (t : ℕ) → beside-lts.Need-mul-cell (
+  cell-below t,
+  cell.Post,
+  next-reads.Asked,
+  next-reads.Learnt,
+) (beside-at t) beside.Post beside-Inv-loop beside-μ-loop
+beside-mul-cell t c = search needs
 
-beside-own-type-requires : (t : ℕ) → beside-lts.Need-own-type-requires (beside-calls t) (beside-at t) beside.Post beside-Inv-loop beside-μ-loop
-beside-own-type-requires t c κs = search needs
+beside-element-copy-out-cell : (t : ℕ) → beside-lts.Need-element-copy-out-cell (
+  cell-below t,
+  cell.Post,
+  next-reads.Asked,
+  next-reads.Learnt,
+) (beside-at t) beside.Post beside-Inv-loop beside-μ-loop
+beside-element-copy-out-cell t c = search needs
 
-beside-child-type-requires : (t : ℕ) → beside-lts.Need-child-type-requires (beside-calls t) (beside-at t) beside.Post beside-Inv-loop beside-μ-loop
-beside-child-type-requires t c κs = search needs
+beside-cell-requires : (t : ℕ) → beside-lts.Need-cell-requires (
+  cell-below t,
+  cell.Post,
+  next-reads.Asked,
+  next-reads.Learnt,
+) (beside-at t) beside.Post beside-Inv-loop beside-μ-loop
+beside-cell-requires t c κs = (omega arith, search needs)
 
-beside-turn-requires : (t : ℕ) → beside-lts.Need-turn-requires (beside-calls t) (beside-at t) beside.Post beside-Inv-loop beside-μ-loop
-beside-turn-requires t c κs = search needs
-
-beside-pair-requires : (t : ℕ) → beside-lts.Need-pair-requires (beside-calls t) (beside-at t) beside.Post beside-Inv-loop beside-μ-loop
-beside-pair-requires t c κs = (omega arith, (search needs, search (needs, cell-small)))
-
-beside-returns-2 : (t : ℕ) → beside-lts.Need-returns-2 (beside-calls t) (beside-at t) beside.Post beside-Inv-loop beside-μ-loop
+beside-returns-2 : (t : ℕ) → beside-lts.Need-returns-2 (
+  cell-below t,
+  cell.Post,
+  next-reads.Asked,
+  next-reads.Learnt,
+) (beside-at t) beside.Post beside-Inv-loop beside-μ-loop
 beside-returns-2 t c = search (needs, beside-last)
 
-beside-next-requires : (t : ℕ) → beside-lts.Need-next-requires (beside-calls t) (beside-at t) beside.Post beside-Inv-loop beside-μ-loop
+beside-next-requires : (t : ℕ) → beside-lts.Need-next-requires (
+  cell-below t,
+  cell.Post,
+  next-reads.Asked,
+  next-reads.Learnt,
+) (beside-at t) beside.Post beside-Inv-loop beside-μ-loop
 beside-next-requires t c κs = search needs
 
-beside-add-j : (t : ℕ) → beside-lts.Need-add-j (beside-calls t) (beside-at t) beside.Post beside-Inv-loop beside-μ-loop
+beside-add-j : (t : ℕ) → beside-lts.Need-add-j (
+  cell-below t,
+  cell.Post,
+  next-reads.Asked,
+  next-reads.Learnt,
+) (beside-at t) beside.Post beside-Inv-loop beside-μ-loop
 beside-add-j t c = search needs
 
-beside-loop-less : (t : ℕ) → beside-lts.Need-loop-less (beside-calls t) (beside-at t) beside.Post beside-Inv-loop beside-μ-loop
+beside-loop-less : (t : ℕ) → beside-lts.Need-loop-less (
+  cell-below t,
+  cell.Post,
+  next-reads.Asked,
+  next-reads.Learnt,
+) (beside-at t) beside.Post beside-Inv-loop beside-μ-loop
 beside-loop-less t c = search needs
 
-beside-loop-again : (t : ℕ) → beside-lts.Need-loop-again (beside-calls t) (beside-at t) beside.Post beside-Inv-loop beside-μ-loop
+beside-loop-again : (t : ℕ) → beside-lts.Need-loop-again (
+  cell-below t,
+  cell.Post,
+  next-reads.Asked,
+  next-reads.Learnt,
+) (beside-at t) beside.Post beside-Inv-loop beside-μ-loop
 beside-loop-again t c = search (needs, beside-on)
 
-beside-returns-3 : (t : ℕ) → beside-lts.Need-returns-3 (beside-calls t) (beside-at t) beside.Post beside-Inv-loop beside-μ-loop
+beside-returns-3 : (t : ℕ) → beside-lts.Need-returns-3 (
+  cell-below t,
+  cell.Post,
+  next-reads.Asked,
+  next-reads.Learnt,
+) (beside-at t) beside.Post beside-Inv-loop beside-μ-loop
 beside-returns-3 t c = search (needs, beside-over)
 
-beside-returns-4 : (t : ℕ) → beside-lts.Need-returns-4 (beside-calls t) (beside-at t) beside.Post beside-Inv-loop beside-μ-loop
+beside-returns-4 : (t : ℕ) → beside-lts.Need-returns-4 (
+  cell-below t,
+  cell.Post,
+  next-reads.Asked,
+  next-reads.Learnt,
+) (beside-at t) beside.Post beside-Inv-loop beside-μ-loop
 beside-returns-4 t c = search (needs, beside-end)
+
+cell-offset-requires : (t : ℕ) → cell-lts.Need-offset-requires (cell-calls t) (cell-at t) cell.Post
+cell-offset-requires t c κs = search needs
+
+cell-own-type-requires : (t : ℕ) → cell-lts.Need-own-type-requires (cell-calls t) (cell-at t) cell.Post
+cell-own-type-requires t c κs = search needs
+
+cell-turn-requires : (t : ℕ) → cell-lts.Need-turn-requires (cell-calls t) (cell-at t) cell.Post
+cell-turn-requires t c κs = search needs
+
+cell-pair-requires : (t : ℕ) → cell-lts.Need-pair-requires (cell-calls t) (cell-at t) cell.Post
+cell-pair-requires t c κs = (omega arith, search needs)
+
+cell-returns : (t : ℕ) → cell-lts.Need-returns (cell-calls t) (cell-at t) cell.Post
+cell-returns t c = search (needs, cell-met)
 
 go-root-requires : (t : ℕ) → go-lts.Need-root-requires (go-calls t) (go-at t) go.Post
 go-root-requires t c κs = search needs
@@ -274,11 +329,17 @@ go-root-requires t c κs = search needs
 go-returns : (t : ℕ) → go-lts.Need-returns (go-calls t) (go-at t) go.Post
 go-returns t c = search (needs, go-stop)
 
+go-shorten-requires : (t : ℕ) → go-lts.Need-shorten-requires (go-calls t) (go-at t) go.Post
+go-shorten-requires t c κs = search needs
+
 go-root-requires-2 : (t : ℕ) → go-lts.Need-root-requires-2 (go-calls t) (go-at t) go.Post
 go-root-requires-2 t c κs = search needs
 
 go-returns-2 : (t : ℕ) → go-lts.Need-returns-2 (go-calls t) (go-at t) go.Post
 go-returns-2 t c = search (needs, go-stop)
+
+go-shorten-requires-2 : (t : ℕ) → go-lts.Need-shorten-requires-2 (go-calls t) (go-at t) go.Post
+go-shorten-requires-2 t c κs = search needs
 
 go-meet-requires : (t : ℕ) → go-lts.Need-meet-requires (go-calls t) (go-at t) go.Post
 go-meet-requires t c κs = (omega arith, (search needs, (search needs, search needs)))
@@ -352,28 +413,44 @@ meet-known-rejoin-requires t c κs = search needs
 meet-known-returns-4 : (t : ℕ) → meet-known-lts.Need-returns-4 (meet-known-calls t) (meet-known-at t) meet-known.Post
 meet-known-returns-4 t c = search (needs, known-joined, kind-there)
 
-pair-turn-requires : (t : ℕ) → pair-lts.Need-turn-requires (pair-calls t) (pair-at t) pair.Post
-pair-turn-requires t c κs = search needs
+pair-step-requires : (t : ℕ) → pair-lts.Need-step-requires (
+  step-reads.Asked,
+  step-reads.Learnt,
+  go-below t,
+  go.Post,
+) (pair-at t) pair.Post
+pair-step-requires t c κs = search needs
 
-pair-ref-of-requires : (t : ℕ) → pair-lts.Need-ref-of-requires (pair-calls t) (pair-at t) pair.Post
-pair-ref-of-requires t c κs = search needs
+pair-step-requires-2 : (t : ℕ) → pair-lts.Need-step-requires-2 (
+  step-reads.Asked,
+  step-reads.Learnt,
+  go-below t,
+  go.Post,
+) (pair-at t) pair.Post
+pair-step-requires-2 t c κs = search needs
 
-pair-mul-if1 : (t : ℕ) → pair-lts.Need-mul-if1 (pair-calls t) (pair-at t) pair.Post
-pair-mul-if1 t c = search needs
+pair-returns : (t : ℕ) → pair-lts.Need-returns (
+  step-reads.Asked,
+  step-reads.Learnt,
+  go-below t,
+  go.Post,
+) (pair-at t) pair.Post
+pair-returns t c = search (needs, pair-near)
 
-pair-element-copy-out-if1 : (t : ℕ) → pair-lts.Need-element-copy-out-if1 (pair-calls t) (pair-at t) pair.Post
-pair-element-copy-out-if1 t c = search needs
-
-pair-add-if1 : (t : ℕ) → pair-lts.Need-add-if1 (pair-calls t) (pair-at t) pair.Post
-pair-add-if1 t c = search needs
-
-pair-returns : (t : ℕ) → pair-lts.Need-returns (pair-calls t) (pair-at t) pair.Post
-pair-returns t c = search (needs, pair-linked)
-
-pair-go-requires : (t : ℕ) → pair-lts.Need-go-requires (pair-calls t) (pair-at t) pair.Post
+pair-go-requires : (t : ℕ) → pair-lts.Need-go-requires (
+  step-reads.Asked,
+  step-reads.Learnt,
+  go-below t,
+  go.Post,
+) (pair-at t) pair.Post
 pair-go-requires t c κs = (omega arith, search needs)
 
-pair-returns-2 : (t : ℕ) → pair-lts.Need-returns-2 (pair-calls t) (pair-at t) pair.Post
+pair-returns-2 : (t : ℕ) → pair-lts.Need-returns-2 (
+  step-reads.Asked,
+  step-reads.Learnt,
+  go-below t,
+  go.Post,
+) (pair-at t) pair.Post
 pair-returns-2 t c = search needs
 
 abbrev pairs-Inv-loop : pairs-lts.InvT-loop
@@ -385,96 +462,96 @@ pairs-μ-loop sheet places ws m₀ b left xs ys j₀ m j = xs .n - j
 pairs-loop-holds : (t : ℕ) → pairs-lts.Need-loop-holds (
   turn-reads.Asked,
   turn-reads.Learnt,
-  go-below t,
-  go.Post,
+  pair-below t,
+  pair.Post,
 ) (pairs-at t) pairs.Post pairs-Inv-loop pairs-μ-loop
 pairs-loop-holds t c = search (needs, rows-start)
 
 pairs-mul-u : (t : ℕ) → pairs-lts.Need-mul-u (
   turn-reads.Asked,
   turn-reads.Learnt,
-  go-below t,
-  go.Post,
+  pair-below t,
+  pair.Post,
 ) (pairs-at t) pairs.Post pairs-Inv-loop pairs-μ-loop
 pairs-mul-u t c = search needs
 
 pairs-element-copy-out-u : (t : ℕ) → pairs-lts.Need-element-copy-out-u (
   turn-reads.Asked,
   turn-reads.Learnt,
-  go-below t,
-  go.Post,
+  pair-below t,
+  pair.Post,
 ) (pairs-at t) pairs.Post pairs-Inv-loop pairs-μ-loop
 pairs-element-copy-out-u t c = search needs
 
 pairs-mul-turn : (t : ℕ) → pairs-lts.Need-mul-turn (
   turn-reads.Asked,
   turn-reads.Learnt,
-  go-below t,
-  go.Post,
+  pair-below t,
+  pair.Post,
 ) (pairs-at t) pairs.Post pairs-Inv-loop pairs-μ-loop
 pairs-mul-turn t c = search needs
 
 pairs-element-copy-out-turn : (t : ℕ) → pairs-lts.Need-element-copy-out-turn (
   turn-reads.Asked,
   turn-reads.Learnt,
-  go-below t,
-  go.Post,
+  pair-below t,
+  pair.Post,
 ) (pairs-at t) pairs.Post pairs-Inv-loop pairs-μ-loop
 pairs-element-copy-out-turn t c = search needs
 
 pairs-turn-requires : (t : ℕ) → pairs-lts.Need-turn-requires (
   turn-reads.Asked,
   turn-reads.Learnt,
-  go-below t,
-  go.Post,
+  pair-below t,
+  pair.Post,
 ) (pairs-at t) pairs.Post pairs-Inv-loop pairs-μ-loop
 pairs-turn-requires t c κs = search needs
 
-pairs-go-requires : (t : ℕ) → pairs-lts.Need-go-requires (
+pairs-pair-requires : (t : ℕ) → pairs-lts.Need-pair-requires (
   turn-reads.Asked,
   turn-reads.Learnt,
-  go-below t,
-  go.Post,
+  pair-below t,
+  pair.Post,
 ) (pairs-at t) pairs.Post pairs-Inv-loop pairs-μ-loop
-pairs-go-requires t c κs = (omega arith, search needs)
+pairs-pair-requires t c κs = (omega arith, search needs)
 
 pairs-returns : (t : ℕ) → pairs-lts.Need-returns (
   turn-reads.Asked,
   turn-reads.Learnt,
-  go-below t,
-  go.Post,
+  pair-below t,
+  pair.Post,
 ) (pairs-at t) pairs.Post pairs-Inv-loop pairs-μ-loop
 pairs-returns t c = search (needs, rows-last)
 
 pairs-add-j : (t : ℕ) → pairs-lts.Need-add-j (
   turn-reads.Asked,
   turn-reads.Learnt,
-  go-below t,
-  go.Post,
+  pair-below t,
+  pair.Post,
 ) (pairs-at t) pairs.Post pairs-Inv-loop pairs-μ-loop
 pairs-add-j t c = search needs
 
 pairs-loop-less : (t : ℕ) → pairs-lts.Need-loop-less (
   turn-reads.Asked,
   turn-reads.Learnt,
-  go-below t,
-  go.Post,
+  pair-below t,
+  pair.Post,
 ) (pairs-at t) pairs.Post pairs-Inv-loop pairs-μ-loop
 pairs-loop-less t c = search needs
 
 pairs-loop-again : (t : ℕ) → pairs-lts.Need-loop-again (
   turn-reads.Asked,
   turn-reads.Learnt,
-  go-below t,
-  go.Post,
+  pair-below t,
+  pair.Post,
 ) (pairs-at t) pairs.Post pairs-Inv-loop pairs-μ-loop
 pairs-loop-again t c = search (needs, rows-on)
 
 pairs-returns-2 : (t : ℕ) → pairs-lts.Need-returns-2 (
   turn-reads.Asked,
   turn-reads.Learnt,
-  go-below t,
-  go.Post,
+  pair-below t,
+  pair.Post,
 ) (pairs-at t) pairs.Post pairs-Inv-loop pairs-μ-loop
 pairs-returns-2 t c = search (needs, rows-end)
 
@@ -492,15 +569,7 @@ rows-returns : (t : ℕ) → rows-lts.Need-returns (
   pairs-below t,
   pairs.Post,
 ) (rows-at t) rows.Post
-rows-returns t c = search (needs, all-stop)
-
-rows-children-requires-2 : (t : ℕ) → rows-lts.Need-children-requires-2 (
-  children-reads.Asked,
-  children-reads.Learnt,
-  pairs-below t,
-  pairs.Post,
-) (rows-at t) rows.Post
-rows-children-requires-2 t c κs = search needs
+rows-returns t c = search (needs, against-stop)
 
 rows-returns-2 : (t : ℕ) → rows-lts.Need-returns-2 (
   children-reads.Asked,
@@ -508,15 +577,7 @@ rows-returns-2 : (t : ℕ) → rows-lts.Need-returns-2 (
   pairs-below t,
   pairs.Post,
 ) (rows-at t) rows.Post
-rows-returns-2 t c = search (needs, all-stop)
-
-rows-returns-3 : (t : ℕ) → rows-lts.Need-returns-3 (
-  children-reads.Asked,
-  children-reads.Learnt,
-  pairs-below t,
-  pairs.Post,
-) (rows-at t) rows.Post
-rows-returns-3 t c = search (needs, rows-uneven)
+rows-returns-2 t c = search (needs, rows-uneven)
 
 rows-pairs-requires : (t : ℕ) → rows-lts.Need-pairs-requires (
   children-reads.Asked,
@@ -526,20 +587,21 @@ rows-pairs-requires : (t : ℕ) → rows-lts.Need-pairs-requires (
 ) (rows-at t) rows.Post
 rows-pairs-requires t c κs = (omega arith, (search needs, search (needs, rows-even)))
 
-rows-returns-4 : (t : ℕ) → rows-lts.Need-returns-4 (
+rows-returns-3 : (t : ℕ) → rows-lts.Need-returns-3 (
   children-reads.Asked,
   children-reads.Learnt,
   pairs-below t,
   pairs.Post,
 ) (rows-at t) rows.Post
-rows-returns-4 t c = search (needs, rows-kids)
+rows-returns-3 t c = search (needs, rows-kids)
 
-pub +across+below+beside+go+meet+meet-known+pair+pairs+rows-spec : {M : Type 1} → statement M
-+across+below+beside+go+meet+meet-known+pair+pairs+rows-spec =
+pub +across+below+beside+cell+go+meet+meet-known+pair+pairs+rows-spec : {M : Type 1} → statement M
++across+below+beside+cell+go+meet+meet-known+pair+pairs+rows-spec =
     close
     μ-across
     μ-below
     μ-beside
+    μ-cell
     μ-go
     μ-meet
     μ-meet-known
@@ -549,34 +611,30 @@ pub +across+below+beside+go+meet+meet-known+pair+pairs+rows-spec : {M : Type 1} 
     (λ t. across-lts.spec (across-calls t) (across-at t)
     across.Post
     (across-returns t)
-    (across-kind-of-requires t)
-    (across-returns-2 t)
-    (across-own-children-requires t)
-    (across-returns-3 t)
     (across-place-of-requires t)
     (across-offset-requires t)
     (across-wide-requires t)
     (across-beside-requires t)
-    (across-returns-4 t))
-    (λ t. below-lts.spec
-    (across-below t, across.Post, rows-below t, rows.Post)
-    (below-at t)
+    (across-returns-2 t))
+    (λ t. below-lts.spec (below-calls t) (below-at t)
     below.Post
-    (below-across-requires t)
+    (below-children-requires t)
     (below-returns t)
+    (below-across-requires t)
+    (below-returns-2 t)
     (below-rows-requires t)
-    (below-returns-2 t))
-    (λ t. beside-lts.spec (beside-calls t) (beside-at t)
+    (below-returns-3 t))
+    (λ t. beside-lts.spec
+    (cell-below t, cell.Post, next-reads.Asked, next-reads.Learnt)
+    (beside-at t)
     beside.Post
     beside-Inv-loop
     beside-μ-loop
     (beside-loop-holds t)
     (beside-returns t)
-    (beside-offset-requires t)
-    (beside-own-type-requires t)
-    (beside-child-type-requires t)
-    (beside-turn-requires t)
-    (beside-pair-requires t)
+    (beside-mul-cell t)
+    (beside-element-copy-out-cell t)
+    (beside-cell-requires t)
     (beside-returns-2 t)
     (beside-next-requires t)
     (beside-add-j t)
@@ -584,12 +642,21 @@ pub +across+below+beside+go+meet+meet-known+pair+pairs+rows-spec : {M : Type 1} 
     (beside-loop-again t)
     (beside-returns-3 t)
     (beside-returns-4 t))
+    (λ t. cell-lts.spec (cell-calls t) (cell-at t)
+    cell.Post
+    (cell-offset-requires t)
+    (cell-own-type-requires t)
+    (cell-turn-requires t)
+    (cell-pair-requires t)
+    (cell-returns t))
     (λ t. go-lts.spec (go-calls t) (go-at t)
     go.Post
     (go-root-requires t)
     (go-returns t)
+    (go-shorten-requires t)
     (go-root-requires-2 t)
     (go-returns-2 t)
+    (go-shorten-requires-2 t)
     (go-meet-requires t)
     (go-returns-3 t)
     (go-returns-4 t)
@@ -618,18 +685,17 @@ pub +across+below+beside+go+meet+meet-known+pair+pairs+rows-spec : {M : Type 1} 
     (meet-known-returns-3 t)
     (meet-known-rejoin-requires t)
     (meet-known-returns-4 t))
-    (λ t. pair-lts.spec (pair-calls t) (pair-at t)
+    (λ t. pair-lts.spec
+    (step-reads.Asked, step-reads.Learnt, go-below t, go.Post)
+    (pair-at t)
     pair.Post
-    (pair-turn-requires t)
-    (pair-ref-of-requires t)
-    (pair-mul-if1 t)
-    (pair-element-copy-out-if1 t)
-    (pair-add-if1 t)
+    (pair-step-requires t)
+    (pair-step-requires-2 t)
     (pair-returns t)
     (pair-go-requires t)
     (pair-returns-2 t))
     (λ t. pairs-lts.spec
-    (turn-reads.Asked, turn-reads.Learnt, go-below t, go.Post)
+    (turn-reads.Asked, turn-reads.Learnt, pair-below t, pair.Post)
     (pairs-at t)
     pairs.Post
     pairs-Inv-loop
@@ -640,7 +706,7 @@ pub +across+below+beside+go+meet+meet-known+pair+pairs+rows-spec : {M : Type 1} 
     (pairs-mul-turn t)
     (pairs-element-copy-out-turn t)
     (pairs-turn-requires t)
-    (pairs-go-requires t)
+    (pairs-pair-requires t)
     (pairs-returns t)
     (pairs-add-j t)
     (pairs-loop-less t)
@@ -652,8 +718,6 @@ pub +across+below+beside+go+meet+meet-known+pair+pairs+rows-spec : {M : Type 1} 
     rows.Post
     (rows-children-requires t)
     (rows-returns t)
-    (rows-children-requires-2 t)
     (rows-returns-2 t)
-    (rows-returns-3 t)
     (rows-pairs-requires t)
-    (rows-returns-4 t)
+    (rows-returns-3 t)
