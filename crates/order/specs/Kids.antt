@@ -18,27 +18,8 @@ use Rattle.refs.specs.Meaning.{turn, record-types, node-types}
 use Rattle.refs.specs.Refs.{place}
 use Rattle.refs.specs.Children.{cell-type, cell-types-are, cells-none, cells-more}
 use Rattle.order.specs.Stage.{kids}
-use Rattle.order.specs.Following.{Follows, FollowsAll, follows-none, follows-more, follows-last, follows-uneven, all-nothing}
+use Rattle.order.specs.Following.{Follows, FollowsAll, follows-none, follows-more, follows-last, follows-uneven}
 use Rattle.order.specs.Words.{Kids}
-
--- A row of at most eight types, which are there.
-pub record Told (o : Row) : Type 0 where
-  pub most : o .n ≤ 8
-  pub long : o .n ≤ length (o .types)
-
-pub kids-told : (s ps ws : Words) (z : ℕ) (o : Row) → Kids s ps ws z o → o .n ≢ 9 → Told o
-kids-told s ps ws z o k n = record { most = k .few n; long = k .long n }
-
--- The children of a ref are met with the types of a row, turned by b.
-pub record Against (s ps ws m : Words) (a : ℕ) (o : Row) (b : ℕ) (m′ : Words) (r : ℕ) : Type 0 where
-  pub all : FollowsAll s ps ws m (kids s ps ws a) (map (turn b) (take (o .n) (o .types))) m′ r
-
-pub against-stop : (s ps ws m : Words) (a : ℕ) (o : Row) (b : ℕ) (m′ : Words) → Against s ps ws m a o b m′ 2
-against-stop s ps ws m a o b m′ = record { all = all-nothing s ps ws m _ _ m′ 2 (λ e. omega (arith, e)) (λ e. omega (arith, e)) }
-
--- The row is that of the children of another.
-pub against-kids : (s ps ws m : Words) (a z : ℕ) (o : Row) (b : ℕ) (m′ : Words) (r : ℕ) → Kids s ps ws z o → o .n ≢ 9 → Against s ps ws m a o b m′ r → FollowsAll s ps ws m (kids s ps ws a) (map (turn b) (kids s ps ws z)) m′ r
-against-kids s ps ws m a z o b m′ r k n g = subst (λ (vs : Words). FollowsAll s ps ws m (kids s ps ws a) (map (turn b) vs) m′ r) (k .are n) (g .all)
 
 -- What is left of a row from j on.
 left-of : (o : Row) (j : ℕ) → o .n ≤ length (o .types) → j < o .n → drop j (take (o .n) (o .types)) ≡ at (o .types) j ∷ drop (j + 1) (take (o .n) (o .types))
@@ -66,14 +47,14 @@ pub record Beside (s ps ws m : Words) (h : ℕ) (o : Row) (b : ℕ) (m₁ : Word
   pub fuel : o .n < length s
   pub rest : (m′ : Words) (r : ℕ) → FollowsAll s ps ws m₁ (map (cell-type s) (chain-of (length s - j) s c)) (map (turn b) (drop j (take (o .n) (o .types)))) m′ r → FollowsAll s ps ws m (record-types s h) (map (turn b) (take (o .n) (o .types))) m′ r
 
-pub beside-start : (s ps ws m : Words) (h : ℕ) (o : Row) (b : ℕ) → 8 < length s → Told o → Beside s ps ws m h o b m h 0
+pub beside-start : (s ps ws m : Words) (h z n b : ℕ) → 8 < length s → n ≤ 8 → Beside s ps ws m h (row-at ws z n) b m h 0
 unfolding cell-types chain
-beside-start s ps ws m h o b f l = record {
+beside-start s ps ws m h z n b f l = record {
   few = omega arith;
-  most = l .most;
-  long = l .long;
-  fuel = omega (arith, l .most, f);
-  rest = λ m′ r g. subst (λ (us : Words). FollowsAll s ps ws m us (map (turn b) (take (o .n) (o .types))) m′ r) (sym (cell-types-are s (chain s h) ∙ ap (λ k. map (cell-type s) (chain-of k s h)) (let y : length s ≡ length s - 0 = omega arith in y))) g;
+  most = l;
+  long = omega (arith, types-at-length ws z);
+  fuel = omega arith;
+  rest = λ m′ r g. subst (λ (us : Words). FollowsAll s ps ws m us (map (turn b) (take n (types-at ws z))) m′ r) (sym (cell-types-are s (chain s h) ∙ ap (λ k. map (cell-type s) (chain-of k s h)) (let y : length s ≡ length s - 0 = omega arith in y))) g;
 }
 
 module _ (s ps ws m : Words) (h : ℕ) (o : Row) (b : ℕ) (m₁ : Words) (c j : ℕ) (k : Beside s ps ws m h o b m₁ c j) where
@@ -121,13 +102,21 @@ module _ (s ps ws m : Words) (h : ℕ) (o : Row) (b : ℕ) (m₁ : Words) (c j :
       rest = λ m′ q g. here m′ q (follows-more s ps ws m₁ _ _ m₂ r _ _ m′ q (f .is) y (subst (λ i. FollowsAll s ps ws m₂ (map (cell-type s) (chain-of (length s - (j + 1)) s i)) (map (turn b) (drop (j + 1) (take (o .n) (o .types)))) m′ q) en g));
     }
 
--- They are those of a ref that has a record.
-pub against-cells : (s ps ws m : Words) (a p h i : ℕ) (o : Row) (b : ℕ) (m′ : Words) (r : ℕ) → 1024 ≤ a → p ≡ place ps a → h ≡ at s (p + 4) → i ≡ h → Cells s ps ws m i o b m′ r → Against s ps ws m a o b m′ r
+-- The children of a ref that has a record and of a known node.
+pub kids-across : (s ps ws m : Words) (a z b p h i n : ℕ) (m′ : Words) (r : ℕ) → 1024 ≤ a → z < 256 → ChildTypes ws z (row-at ws z n) → n ≢ 9 → p ≡ place ps a → h ≡ at s (p + 4) → i ≡ h → Cells s ps ws m i (row-at ws z n) b m′ r → FollowsAll s ps ws m (kids s ps ws a) (map (turn b) (kids s ps ws z)) m′ r
 unfolding kids
-against-cells s ps ws m a p h i o b m′ r ha ep eh ei f = record { all = subst (λ (us : Words). FollowsAll s ps ws m us (map (turn b) (take (o .n) (o .types))) m′ r) (sym (high ∙ ap (record-types s) (sym (ei ∙ eh ∙ ap (λ v. at s (v + 4)) ep)))) (f .all) }
+kids-across s ps ws m a z b p h i n m′ r ha hz c e ep eh ei f =
+    subst (λ (us : Words). FollowsAll s ps ws m us (map (turn b) (kids s ps ws z)) m′ r) (sym (high ∙ ap (record-types s) (sym (ei ∙ eh ∙ ap (λ v. at s (v + 4)) ep))))
+    (subst (λ (vs : Words). FollowsAll s ps ws m (record-types s i) (map (turn b) vs) m′ r) (c .are e ∙ sym low) (f .all))
   where
     high : kids s ps ws a ≡ record-types s (at s (place ps a + 4))
     high = rw (le-ltb a 256 (omega arith), kids)
+
+    low : kids s ps ws z ≡ node-types ws z
+    low = rw (lt-ltb z 256 hz, kids)
+
+pub arity-few : (ws : Words) (z n : ℕ) → ChildTypes ws z (row-at ws z n) → n ≢ 9 → n ≤ 8
+arity-few ws z n c e = c .few e
 
 -- Two rows are met, the types of the second turned by b.
 pub record Paired (s ps ws m : Words) (x y : Row) (b : ℕ) (m′ : Words) (r : ℕ) : Type 0 where
@@ -164,14 +153,14 @@ module _ (s ps ws m : Words) (x y : Row) (b : ℕ) (m₁ : Words) (j : ℕ) (k :
     pub rows-on : (m₂ : Words) (r : ℕ) → Follows s ps ws m₁ u v m₂ r → r ≡ 1 → Rows s ps ws m x y b m₂ (j + 1)
     rows-on m₂ r f e = record { even = k .even; rest = λ m′ t g. here-rows m′ t (follows-more s ps ws m₁ u v m₂ r _ _ m′ t f e g) }
 
--- The first row is that of the children of a ref.
-module _ (s ps ws : Words) (a : ℕ) (x y : Row) (p : Kids s ps ws a x) (nx : x .n ≢ 9) (t : Told y) where
+-- The rows are those of the children of two refs.
+module _ (s ps ws : Words) (a z : ℕ) (x y : Row) (p : Kids s ps ws a x) (q : Kids s ps ws z y) (nx : x .n ≢ 9) (ny : y .n ≢ 9) where
   pub rows-even : x .n ≡ y .n → Even x y
-  rows-even e = record { same = e; most = p .few nx; left = p .long nx; right = t .long }
+  rows-even e = record { same = e; most = p .few nx; left = p .long nx; right = q .long ny }
 
   -- They are not as many,
-  pub rows-uneven : (m : Words) (b : ℕ) (m′ : Words) → x .n ≢ y .n → Against s ps ws m a y b m′ 0
-  rows-uneven m b m′ d = record { all = follows-uneven s ps ws m _ _ m′ (λ e. d (sym (count x (p .long nx)) ∙ ap length (p .are nx) ∙ e ∙ turned (take (y .n) (y .types)) ∙ count y (t .long))) }
+  pub rows-uneven : (m : Words) (b : ℕ) (m′ : Words) → x .n ≢ y .n → FollowsAll s ps ws m (kids s ps ws a) (map (turn b) (kids s ps ws z)) m′ 0
+  rows-uneven m b m′ d = follows-uneven s ps ws m _ _ m′ (λ e. d (sym (count x (p .long nx)) ∙ ap length (p .are nx) ∙ e ∙ turned (kids s ps ws z) ∙ sym (ap length (q .are ny)) ∙ count y (q .long ny)))
     where
       count : (o : Row) → o .n ≤ length (o .types) → length (take (o .n) (o .types)) ≡ o .n
       count o l = length-take-le (o .n) (o .types) l
@@ -181,5 +170,5 @@ module _ (s ps ws : Words) (a : ℕ) (x y : Row) (p : Kids s ps ws a x) (nx : x 
       turned (u ∷ us) = ap suc (turned us)
 
   -- or they are met.
-  pub rows-kids : (m : Words) (b : ℕ) (m′ : Words) (r : ℕ) → Paired s ps ws m x y b m′ r → Against s ps ws m a y b m′ r
-  rows-kids m b m′ r f = record { all = subst (λ (us : Words). FollowsAll s ps ws m us (map (turn b) (take (y .n) (y .types))) m′ r) (p .are nx) (f .all) }
+  pub rows-kids : (m : Words) (b : ℕ) (m′ : Words) (r : ℕ) → Paired s ps ws m x y b m′ r → FollowsAll s ps ws m (kids s ps ws a) (map (turn b) (kids s ps ws z)) m′ r
+  rows-kids m b m′ r f = subst (λ (us : Words). FollowsAll s ps ws m us (map (turn b) (kids s ps ws z)) m′ r) (p .are nx) (subst (λ (vs : Words). FollowsAll s ps ws m (take (x .n) (x .types)) (map (turn b) vs) m′ r) (q .are ny) (f .all))

@@ -11,6 +11,7 @@ ghost use lib.Dec.{eqb};
 ghost use lib.ListN.{length};
 ghost use Rattle.rules.specs.Sheet.{at};
 ghost use Rattle.table.specs.Packing.{Packed};
+ghost use Rattle.table.specs.ChildTypes.{row-at};
 ghost use Rattle.refs.specs.Meaning.{turn as turn-of};
 ghost use Rattle.refs.specs.Refs.{place, Bit, apart as apart-of};
 ghost use Rattle.order.specs.Stage.{kind-word, id-word, kids, base};
@@ -20,7 +21,7 @@ ghost use Rattle.order.specs.Meeting.{Joins};
 ghost use Rattle.order.specs.Words.{Found, Roots, Kids, Steps, Shortens};
 ghost use Rattle.order.specs.Owning.{OwnsAll, Flagged};
 ghost use Rattle.order.specs.Going.{Compared, Rejoins};
-ghost use Rattle.order.specs.Kids.{Told, Against, CellMet, Cells, Even, Paired};
+ghost use Rattle.order.specs.Kids.{CellMet, Cells, Even, Paired};
 ghost use Rattle.order.specs.Arguments.{Fails};
 ghost use Rattle.order.specs.Joined.{Inherits, Hangs};
 use chart::kinds;
@@ -507,63 +508,71 @@ fn below(
     requires { ⌜ Packed (now ws) ⌝ }
     ensures { λ r. ⌜ FollowsAll (now (sheet .entry)) (now (places .entry)) (now (ws .entry)) (now (m .entry)) (kids (now (sheet .entry)) (now (places .entry)) (now (ws .entry)) a) (map (turn-of b) (kids (now (sheet .entry)) (now (places .entry)) (now (ws .entry)) z)) (now (m .exit)) r ⌝ }
 {
-    let ys = children(sheet, places, ws, z);
-    if ys.n == UNTOLD {
-        return STOP;
-    }
     if RECORDS <= a {
-        return across(sheet, places, ws, m, a, ys, b, left);
+        if z < NODES {
+            return across(sheet, places, ws, m, a, z, b, left);
+        }
     }
-    rows(sheet, places, ws, m, a, ys, b, left)
+    rows(sheet, places, ws, m, a, z, b, left)
 }
 
-// The children of a ref that has a record and the types of a row, turned by b.
+// The same of a ref that has a record and of a node.
 fn across(
     sheet: &[u32],
     places: &[u32],
     ws: &[u32],
     m: &mut [u32; 8192],
     a: u32,
-    ys: Row,
+    z: u32,
     b: u32,
     left: usize,
 ) -> u32
     requires { ⌜ Packed (now ws) ⌝ }
     requires { ⌜ 1024 ≤ a ⌝ }
-    requires { ⌜ Told ys ⌝ }
-    ensures { λ r. ⌜ Against (now (sheet .entry)) (now (places .entry)) (now (ws .entry)) (now (m .entry)) a ys b (now (m .exit)) r ⌝ }
+    requires { ⌜ z < 256 ⌝ }
+    ensures { λ r. ⌜ FollowsAll (now (sheet .entry)) (now (places .entry)) (now (ws .entry)) (now (m .entry)) (kids (now (sheet .entry)) (now (places .entry)) (now (ws .entry)) a) (map (turn-of b) (kids (now (sheet .entry)) (now (places .entry)) (now (ws .entry)) z)) (now (m .exit)) r ⌝ }
 {
     if sheet.len() <= 8 {
         return STOP;
     }
+    if table::kind_of(ws, z) == 0 {
+        return STOP;
+    }
+    let n = table::own_children(ws, z);
+    if n == UNTOLD {
+        return STOP;
+    }
     let p = place_of(places, a);
     let head = words::offset(sheet, p, layout::NODE_CHILDREN);
-    beside(sheet, places, ws, m, words::wide(head), ys, b, left)
+    beside(sheet, places, ws, m, words::wide(head), z, n, b, left)
 }
 
-// The types in the cells from a head and those of a row, turned by b.
+// The types in the cells from a head and the n children of node z, turned by b.
 fn beside(
     sheet: &[u32],
     places: &[u32],
     ws: &[u32],
     m: &mut [u32; 8192],
     head: usize,
-    ys: Row,
+    z: u32,
+    n: usize,
     b: u32,
     left: usize,
 ) -> u32
     requires { ⌜ Packed (now ws) ⌝ }
     requires { ⌜ 8 < length (now sheet) ⌝ }
-    requires { ⌜ Told ys ⌝ }
-    ensures { λ r. ⌜ Cells (now (sheet .entry)) (now (places .entry)) (now (ws .entry)) (now (m .entry)) head ys b (now (m .exit)) r ⌝ }
+    requires { ⌜ z < 256 ⌝ }
+    requires { ⌜ n ≤ 8 ⌝ }
+    ensures { λ r. ⌜ Cells (now (sheet .entry)) (now (places .entry)) (now (ws .entry)) (now (m .entry)) head (row-at (now (ws .entry)) z n) b (now (m .exit)) r ⌝ }
 {
     let mut c = head;
     let mut j: usize = 0;
-    while j < ys.n {
+    while j < n {
         if c == 0 {
             return CLASH;
         }
-        let r = cell(sheet, places, ws, m, c, ys.types[j], b, left);
+        let y = table::child_type(ws, z, j);
+        let r = cell(sheet, places, ws, m, c, y, b, left);
         if r != OK {
             return r;
         }
@@ -609,29 +618,35 @@ fn pair(
     ensures { λ r. ⌜ Follows (now (sheet .entry)) (now (places .entry)) (now (ws .entry)) (now (m .entry)) a b (now (m .exit)) r ⌝ }
 {
     let x = step(m, a);
+    if x == b {
+        return OK;
+    }
     if x == step(m, b) {
         return OK;
     }
     go(sheet, places, ws, m, a, b, left)
 }
 
-// The children of a ref and the types of a row, turned by b.
+// The children of two refs, whichever they are, those of the second turned by b.
 fn rows(
     sheet: &[u32],
     places: &[u32],
     ws: &[u32],
     m: &mut [u32; 8192],
     a: u32,
-    ys: Row,
+    z: u32,
     b: u32,
     left: usize,
 ) -> u32
     requires { ⌜ Packed (now ws) ⌝ }
-    requires { ⌜ Told ys ⌝ }
-    ensures { λ r. ⌜ Against (now (sheet .entry)) (now (places .entry)) (now (ws .entry)) (now (m .entry)) a ys b (now (m .exit)) r ⌝ }
+    ensures { λ r. ⌜ FollowsAll (now (sheet .entry)) (now (places .entry)) (now (ws .entry)) (now (m .entry)) (kids (now (sheet .entry)) (now (places .entry)) (now (ws .entry)) a) (map (turn-of b) (kids (now (sheet .entry)) (now (places .entry)) (now (ws .entry)) z)) (now (m .exit)) r ⌝ }
 {
     let xs = children(sheet, places, ws, a);
     if xs.n == UNTOLD {
+        return STOP;
+    }
+    let ys = children(sheet, places, ws, z);
+    if ys.n == UNTOLD {
         return STOP;
     }
     if xs.n != ys.n {

@@ -1,8 +1,10 @@
 -- The cycle of `go`: the rule is followed layer by layer, and the fuel falls.
 use native.Mathlib.Omega.{arith}
 use Prim.Native.Nat.{_+_, _*_, _-_}
+use Rattle.table.specs.ChildTypes.{row-at}
+use Rattle.order.specs.Words.{kids-known, steps-none}
 use Rattle.order.specs.Going.{go-same, go-own, go-not-own, go-meets, go-stop, all-stop, meet-stop, pair-near, meet-left, meet-right, known-clash, known-kids, known-joined, kind-there}
-use Rattle.order.specs.Kids.{Beside, beside-start, beside-short, beside-over, beside-end, beside-last, beside-on, cell-met, kids-told, against-stop, against-kids, against-cells, Rows, rows-start, rows-even, rows-uneven, rows-end, rows-last, rows-on, rows-kids}
+use Rattle.order.specs.Kids.{Beside, beside-start, beside-short, beside-over, beside-end, beside-last, beside-on, cell-met, arity-few, kids-across, Rows, rows-start, rows-even, rows-uneven, rows-end, rows-last, rows-on, rows-kids}
 use borrow.Author.Needs.{needs}
 use Prim.Native.Nat.{ℕ, _<_}
 use borrow.Fn.Kinds.{In}
@@ -50,6 +52,9 @@ use Rattle.order.proofs.step.Reads as step-reads
 use Rattle.refs.proofs.own_type.Reads as own-type-reads
 use Rattle.refs.proofs.place_of.Reads as place-of-reads
 use Rattle.refs.proofs.turn.Reads as turn-reads
+use Rattle.table.proofs.child_type.Reads as child-type-reads
+use Rattle.table.proofs.kind_of.Reads as kind-of-reads
+use Rattle.table.proofs.own_children.Reads as own-children-reads
 use Rattle.words.proofs.next.Reads as next-reads
 use Rattle.words.proofs.offset.Reads as offset-reads
 use Rattle.words.proofs.wide.Reads as wide-reads
@@ -67,7 +72,7 @@ abbrev μ-below : Measures 4 below-kinds.ps ℕ
 μ-below κs a = 10 * (a .1 .1 .1 .1 .1 .1 .1 .0) + 9
 
 abbrev μ-beside : Measures 4 beside-kinds.ps ℕ
-μ-beside κs a = 10 * (a .1 .1 .1 .1 .1 .1 .1 .0) + 7
+μ-beside κs a = 10 * (a .1 .1 .1 .1 .1 .1 .1 .1 .0) + 7
 
 abbrev μ-cell : Measures 4 cell-kinds.ps ℕ
 μ-cell κs a = 10 * (a .1 .1 .1 .1 .1 .1 .1 .0) + 5
@@ -153,10 +158,10 @@ abbrev rows-below : ℕ → In 4 rows-kinds.ps
 rows-below t = and 4 rows-kinds.ps (falls 4 rows-kinds.ps _<_ μ-rows t) rows.Pre
 
 abbrev across-calls : ℕ → across-lts.Claims
-across-calls t = (place-of-reads.Asked, place-of-reads.Learnt, offset-reads.Asked, offset-reads.Learnt, wide-reads.Asked, wide-reads.Learnt, beside-below t, beside.Post)
+across-calls t = (kind-of-reads.Asked, kind-of-reads.Learnt, own-children-reads.Asked, own-children-reads.Learnt, place-of-reads.Asked, place-of-reads.Learnt, offset-reads.Asked, offset-reads.Learnt, wide-reads.Asked, wide-reads.Learnt, beside-below t, beside.Post)
 
-abbrev below-calls : ℕ → below-lts.Claims
-below-calls t = (children-reads.Asked, children-reads.Learnt, across-below t, across.Post, rows-below t, rows.Post)
+abbrev beside-calls : ℕ → beside-lts.Claims
+beside-calls t = (child-type-reads.Asked, child-type-reads.Learnt, cell-below t, cell.Post, next-reads.Asked, next-reads.Learnt)
 
 abbrev cell-calls : ℕ → cell-lts.Claims
 cell-calls t = (offset-reads.Asked, offset-reads.Learnt, own-type-reads.Asked, own-type-reads.Learnt, turn-reads.Asked, turn-reads.Learnt, pair-below t, pair.Post)
@@ -171,7 +176,19 @@ abbrev meet-known-calls : ℕ → meet-known-lts.Claims
 meet-known-calls t = (compare-reads.Asked, compare-reads.Learnt, below-below t, below.Post, rejoin-reads.Asked, rejoin-reads.Learnt)
 
 across-returns : (t : ℕ) → across-lts.Need-returns (across-calls t) (across-at t) across.Post
-across-returns t c = search (needs, against-stop)
+across-returns t c = search (needs, all-stop)
+
+across-kind-of-requires : (t : ℕ) → across-lts.Need-kind-of-requires (across-calls t) (across-at t) across.Post
+across-kind-of-requires t c κs = search needs
+
+across-returns-2 : (t : ℕ) → across-lts.Need-returns-2 (across-calls t) (across-at t) across.Post
+across-returns-2 t c = search (needs, all-stop)
+
+across-own-children-requires : (t : ℕ) → across-lts.Need-own-children-requires (across-calls t) (across-at t) across.Post
+across-own-children-requires t c κs = (search needs, search (needs, kids-known))
+
+across-returns-3 : (t : ℕ) → across-lts.Need-returns-3 (across-calls t) (across-at t) across.Post
+across-returns-3 t c = search (needs, all-stop)
 
 across-place-of-requires : (t : ℕ) → across-lts.Need-place-of-requires (across-calls t) (across-at t) across.Post
 across-place-of-requires t c κs = search needs
@@ -183,129 +200,80 @@ across-wide-requires : (t : ℕ) → across-lts.Need-wide-requires (across-calls
 across-wide-requires t c κs = search needs
 
 across-beside-requires : (t : ℕ) → across-lts.Need-beside-requires (across-calls t) (across-at t) across.Post
-across-beside-requires t c κs = (omega arith, (search needs, (search needs, search needs)))
+across-beside-requires t c κs = (omega arith, (search needs, (search needs, (search needs, search (needs, arity-few)))))
 
-across-returns-2 : (t : ℕ) → across-lts.Need-returns-2 (across-calls t) (across-at t) across.Post
-across-returns-2 t c = search (needs, against-cells)
+across-returns-4 : (t : ℕ) → across-lts.Need-returns-4 (across-calls t) (across-at t) across.Post
+across-returns-4 t c = search (needs, kids-across)
 
-below-children-requires : (t : ℕ) → below-lts.Need-children-requires (below-calls t) (below-at t) below.Post
-below-children-requires t c κs = search needs
+below-across-requires : (t : ℕ) → below-lts.Need-across-requires (
+  across-below t,
+  across.Post,
+  rows-below t,
+  rows.Post,
+) (below-at t) below.Post
+below-across-requires t c κs = (omega arith, (search needs, (search needs, search needs)))
 
-below-returns : (t : ℕ) → below-lts.Need-returns (below-calls t) (below-at t) below.Post
-below-returns t c = search (needs, all-stop)
+below-returns : (t : ℕ) → below-lts.Need-returns (
+  across-below t,
+  across.Post,
+  rows-below t,
+  rows.Post,
+) (below-at t) below.Post
+below-returns t c = search needs
 
-below-across-requires : (t : ℕ) → below-lts.Need-across-requires (below-calls t) (below-at t) below.Post
-below-across-requires t c κs = (omega arith, (search needs, (search needs, search (needs, kids-told))))
+below-rows-requires : (t : ℕ) → below-lts.Need-rows-requires (
+  across-below t,
+  across.Post,
+  rows-below t,
+  rows.Post,
+) (below-at t) below.Post
+below-rows-requires t c κs = (omega arith, search needs)
 
-below-returns-2 : (t : ℕ) → below-lts.Need-returns-2 (below-calls t) (below-at t) below.Post
-below-returns-2 t c = search (needs, against-kids)
-
-below-rows-requires : (t : ℕ) → below-lts.Need-rows-requires (below-calls t) (below-at t) below.Post
-below-rows-requires t c κs = (omega arith, (search needs, search (needs, kids-told)))
-
-below-returns-3 : (t : ℕ) → below-lts.Need-returns-3 (below-calls t) (below-at t) below.Post
-below-returns-3 t c = search (needs, against-kids)
+below-returns-2 : (t : ℕ) → below-lts.Need-returns-2 (
+  across-below t,
+  across.Post,
+  rows-below t,
+  rows.Post,
+) (below-at t) below.Post
+below-returns-2 t c = search needs
 
 abbrev beside-Inv-loop : beside-lts.InvT-loop
-beside-Inv-loop sheet places ws m₀ head b left ys c₀ j₀ m c j = Beside sheet places ws m₀ head ys b m c j
+beside-Inv-loop sheet places ws m₀ head z n b left c₀ j₀ m c j = Beside sheet places ws m₀ head (row-at ws z n) b m c j
 
 abbrev beside-μ-loop : beside-lts.MeasureT-loop
-beside-μ-loop sheet places ws m₀ head b left ys c₀ j₀ m c j = ys .n - j
+beside-μ-loop sheet places ws m₀ head z n b left c₀ j₀ m c j = n - j
 
-beside-loop-holds : (t : ℕ) → beside-lts.Need-loop-holds (
-  cell-below t,
-  cell.Post,
-  next-reads.Asked,
-  next-reads.Learnt,
-) (beside-at t) beside.Post beside-Inv-loop beside-μ-loop
+beside-loop-holds : (t : ℕ) → beside-lts.Need-loop-holds (beside-calls t) (beside-at t) beside.Post beside-Inv-loop beside-μ-loop
 beside-loop-holds t c = search (needs, beside-start)
 
-beside-returns : (t : ℕ) → beside-lts.Need-returns (
-  cell-below t,
-  cell.Post,
-  next-reads.Asked,
-  next-reads.Learnt,
-) (beside-at t) beside.Post beside-Inv-loop beside-μ-loop
+beside-returns : (t : ℕ) → beside-lts.Need-returns (beside-calls t) (beside-at t) beside.Post beside-Inv-loop beside-μ-loop
 beside-returns t c = search (needs, beside-short)
 
-beside-mul-cell : (t : ℕ) → beside-lts.Need-mul-cell (
-  cell-below t,
-  cell.Post,
-  next-reads.Asked,
-  next-reads.Learnt,
-) (beside-at t) beside.Post beside-Inv-loop beside-μ-loop
-beside-mul-cell t c = search needs
+beside-child-type-requires : (t : ℕ) → beside-lts.Need-child-type-requires (beside-calls t) (beside-at t) beside.Post beside-Inv-loop beside-μ-loop
+beside-child-type-requires t c κs = search needs
 
-beside-element-copy-out-cell : (t : ℕ) → beside-lts.Need-element-copy-out-cell (
-  cell-below t,
-  cell.Post,
-  next-reads.Asked,
-  next-reads.Learnt,
-) (beside-at t) beside.Post beside-Inv-loop beside-μ-loop
-beside-element-copy-out-cell t c = search needs
-
-beside-cell-requires : (t : ℕ) → beside-lts.Need-cell-requires (
-  cell-below t,
-  cell.Post,
-  next-reads.Asked,
-  next-reads.Learnt,
-) (beside-at t) beside.Post beside-Inv-loop beside-μ-loop
+beside-cell-requires : (t : ℕ) → beside-lts.Need-cell-requires (beside-calls t) (beside-at t) beside.Post beside-Inv-loop beside-μ-loop
 beside-cell-requires t c κs = (omega arith, search needs)
 
-beside-returns-2 : (t : ℕ) → beside-lts.Need-returns-2 (
-  cell-below t,
-  cell.Post,
-  next-reads.Asked,
-  next-reads.Learnt,
-) (beside-at t) beside.Post beside-Inv-loop beside-μ-loop
+beside-returns-2 : (t : ℕ) → beside-lts.Need-returns-2 (beside-calls t) (beside-at t) beside.Post beside-Inv-loop beside-μ-loop
 beside-returns-2 t c = search (needs, beside-last)
 
-beside-next-requires : (t : ℕ) → beside-lts.Need-next-requires (
-  cell-below t,
-  cell.Post,
-  next-reads.Asked,
-  next-reads.Learnt,
-) (beside-at t) beside.Post beside-Inv-loop beside-μ-loop
+beside-next-requires : (t : ℕ) → beside-lts.Need-next-requires (beside-calls t) (beside-at t) beside.Post beside-Inv-loop beside-μ-loop
 beside-next-requires t c κs = search needs
 
-beside-add-j : (t : ℕ) → beside-lts.Need-add-j (
-  cell-below t,
-  cell.Post,
-  next-reads.Asked,
-  next-reads.Learnt,
-) (beside-at t) beside.Post beside-Inv-loop beside-μ-loop
+beside-add-j : (t : ℕ) → beside-lts.Need-add-j (beside-calls t) (beside-at t) beside.Post beside-Inv-loop beside-μ-loop
 beside-add-j t c = search needs
 
-beside-loop-less : (t : ℕ) → beside-lts.Need-loop-less (
-  cell-below t,
-  cell.Post,
-  next-reads.Asked,
-  next-reads.Learnt,
-) (beside-at t) beside.Post beside-Inv-loop beside-μ-loop
+beside-loop-less : (t : ℕ) → beside-lts.Need-loop-less (beside-calls t) (beside-at t) beside.Post beside-Inv-loop beside-μ-loop
 beside-loop-less t c = search needs
 
-beside-loop-again : (t : ℕ) → beside-lts.Need-loop-again (
-  cell-below t,
-  cell.Post,
-  next-reads.Asked,
-  next-reads.Learnt,
-) (beside-at t) beside.Post beside-Inv-loop beside-μ-loop
+beside-loop-again : (t : ℕ) → beside-lts.Need-loop-again (beside-calls t) (beside-at t) beside.Post beside-Inv-loop beside-μ-loop
 beside-loop-again t c = search (needs, beside-on)
 
-beside-returns-3 : (t : ℕ) → beside-lts.Need-returns-3 (
-  cell-below t,
-  cell.Post,
-  next-reads.Asked,
-  next-reads.Learnt,
-) (beside-at t) beside.Post beside-Inv-loop beside-μ-loop
+beside-returns-3 : (t : ℕ) → beside-lts.Need-returns-3 (beside-calls t) (beside-at t) beside.Post beside-Inv-loop beside-μ-loop
 beside-returns-3 t c = search (needs, beside-over)
 
-beside-returns-4 : (t : ℕ) → beside-lts.Need-returns-4 (
-  cell-below t,
-  cell.Post,
-  next-reads.Asked,
-  next-reads.Learnt,
-) (beside-at t) beside.Post beside-Inv-loop beside-μ-loop
+beside-returns-4 : (t : ℕ) → beside-lts.Need-returns-4 (beside-calls t) (beside-at t) beside.Post beside-Inv-loop beside-μ-loop
 beside-returns-4 t c = search (needs, beside-end)
 
 cell-offset-requires : (t : ℕ) → cell-lts.Need-offset-requires (cell-calls t) (cell-at t) cell.Post
@@ -421,6 +389,14 @@ pair-step-requires : (t : ℕ) → pair-lts.Need-step-requires (
 ) (pair-at t) pair.Post
 pair-step-requires t c κs = search needs
 
+pair-returns : (t : ℕ) → pair-lts.Need-returns (
+  step-reads.Asked,
+  step-reads.Learnt,
+  go-below t,
+  go.Post,
+) (pair-at t) pair.Post
+pair-returns t c = search (needs, pair-near, steps-none)
+
 pair-step-requires-2 : (t : ℕ) → pair-lts.Need-step-requires-2 (
   step-reads.Asked,
   step-reads.Learnt,
@@ -429,13 +405,13 @@ pair-step-requires-2 : (t : ℕ) → pair-lts.Need-step-requires-2 (
 ) (pair-at t) pair.Post
 pair-step-requires-2 t c κs = search needs
 
-pair-returns : (t : ℕ) → pair-lts.Need-returns (
+pair-returns-2 : (t : ℕ) → pair-lts.Need-returns-2 (
   step-reads.Asked,
   step-reads.Learnt,
   go-below t,
   go.Post,
 ) (pair-at t) pair.Post
-pair-returns t c = search (needs, pair-near)
+pair-returns-2 t c = search (needs, pair-near)
 
 pair-go-requires : (t : ℕ) → pair-lts.Need-go-requires (
   step-reads.Asked,
@@ -445,13 +421,13 @@ pair-go-requires : (t : ℕ) → pair-lts.Need-go-requires (
 ) (pair-at t) pair.Post
 pair-go-requires t c κs = (omega arith, search needs)
 
-pair-returns-2 : (t : ℕ) → pair-lts.Need-returns-2 (
+pair-returns-3 : (t : ℕ) → pair-lts.Need-returns-3 (
   step-reads.Asked,
   step-reads.Learnt,
   go-below t,
   go.Post,
 ) (pair-at t) pair.Post
-pair-returns-2 t c = search needs
+pair-returns-3 t c = search needs
 
 abbrev pairs-Inv-loop : pairs-lts.InvT-loop
 pairs-Inv-loop sheet places ws m₀ b left xs ys j₀ m j = Rows sheet places ws m₀ xs ys b m j
@@ -569,7 +545,15 @@ rows-returns : (t : ℕ) → rows-lts.Need-returns (
   pairs-below t,
   pairs.Post,
 ) (rows-at t) rows.Post
-rows-returns t c = search (needs, against-stop)
+rows-returns t c = search (needs, all-stop)
+
+rows-children-requires-2 : (t : ℕ) → rows-lts.Need-children-requires-2 (
+  children-reads.Asked,
+  children-reads.Learnt,
+  pairs-below t,
+  pairs.Post,
+) (rows-at t) rows.Post
+rows-children-requires-2 t c κs = search needs
 
 rows-returns-2 : (t : ℕ) → rows-lts.Need-returns-2 (
   children-reads.Asked,
@@ -577,7 +561,15 @@ rows-returns-2 : (t : ℕ) → rows-lts.Need-returns-2 (
   pairs-below t,
   pairs.Post,
 ) (rows-at t) rows.Post
-rows-returns-2 t c = search (needs, rows-uneven)
+rows-returns-2 t c = search (needs, all-stop)
+
+rows-returns-3 : (t : ℕ) → rows-lts.Need-returns-3 (
+  children-reads.Asked,
+  children-reads.Learnt,
+  pairs-below t,
+  pairs.Post,
+) (rows-at t) rows.Post
+rows-returns-3 t c = search (needs, rows-uneven)
 
 rows-pairs-requires : (t : ℕ) → rows-lts.Need-pairs-requires (
   children-reads.Asked,
@@ -587,13 +579,13 @@ rows-pairs-requires : (t : ℕ) → rows-lts.Need-pairs-requires (
 ) (rows-at t) rows.Post
 rows-pairs-requires t c κs = (omega arith, (search needs, search (needs, rows-even)))
 
-rows-returns-3 : (t : ℕ) → rows-lts.Need-returns-3 (
+rows-returns-4 : (t : ℕ) → rows-lts.Need-returns-4 (
   children-reads.Asked,
   children-reads.Learnt,
   pairs-below t,
   pairs.Post,
 ) (rows-at t) rows.Post
-rows-returns-3 t c = search (needs, rows-kids)
+rows-returns-4 t c = search (needs, rows-kids)
 
 pub +across+below+beside+cell+go+meet+meet-known+pair+pairs+rows-spec : {M : Type 1} → statement M
 +across+below+beside+cell+go+meet+meet-known+pair+pairs+rows-spec =
@@ -611,29 +603,30 @@ pub +across+below+beside+cell+go+meet+meet-known+pair+pairs+rows-spec : {M : Typ
     (λ t. across-lts.spec (across-calls t) (across-at t)
     across.Post
     (across-returns t)
+    (across-kind-of-requires t)
+    (across-returns-2 t)
+    (across-own-children-requires t)
+    (across-returns-3 t)
     (across-place-of-requires t)
     (across-offset-requires t)
     (across-wide-requires t)
     (across-beside-requires t)
-    (across-returns-2 t))
-    (λ t. below-lts.spec (below-calls t) (below-at t)
+    (across-returns-4 t))
+    (λ t. below-lts.spec
+    (across-below t, across.Post, rows-below t, rows.Post)
+    (below-at t)
     below.Post
-    (below-children-requires t)
-    (below-returns t)
     (below-across-requires t)
-    (below-returns-2 t)
+    (below-returns t)
     (below-rows-requires t)
-    (below-returns-3 t))
-    (λ t. beside-lts.spec
-    (cell-below t, cell.Post, next-reads.Asked, next-reads.Learnt)
-    (beside-at t)
+    (below-returns-2 t))
+    (λ t. beside-lts.spec (beside-calls t) (beside-at t)
     beside.Post
     beside-Inv-loop
     beside-μ-loop
     (beside-loop-holds t)
     (beside-returns t)
-    (beside-mul-cell t)
-    (beside-element-copy-out-cell t)
+    (beside-child-type-requires t)
     (beside-cell-requires t)
     (beside-returns-2 t)
     (beside-next-requires t)
@@ -690,10 +683,11 @@ pub +across+below+beside+cell+go+meet+meet-known+pair+pairs+rows-spec : {M : Typ
     (pair-at t)
     pair.Post
     (pair-step-requires t)
-    (pair-step-requires-2 t)
     (pair-returns t)
+    (pair-step-requires-2 t)
+    (pair-returns-2 t)
     (pair-go-requires t)
-    (pair-returns-2 t))
+    (pair-returns-3 t))
     (λ t. pairs-lts.spec
     (turn-reads.Asked, turn-reads.Learnt, pair-below t, pair.Post)
     (pairs-at t)
@@ -718,6 +712,8 @@ pub +across+below+beside+cell+go+meet+meet-known+pair+pairs+rows-spec : {M : Typ
     rows.Post
     (rows-children-requires t)
     (rows-returns t)
+    (rows-children-requires-2 t)
     (rows-returns-2 t)
-    (rows-pairs-requires t)
     (rows-returns-3 t)
+    (rows-pairs-requires t)
+    (rows-returns-4 t)
