@@ -69,7 +69,7 @@ const ERROR: u32 = 13;
 const DIFFER: u32 = 2;
 
 // How deep types are followed.
-const DEPTH: usize = 256;
+const DEPTH: usize = 128;
 
 // The ref of a type, as an index.
 fn ref_of(t: u32) -> usize
