@@ -303,10 +303,36 @@ fn meetings() -> Vec<(&'static str, Search)> {
   ]
 }
 
-/// The slowest search known: candidates that fail in the rule's own order alone, and are slow to open.
+/// The slowest search known that the gate runs: candidates that fail in the rule's own order alone, and are slow to open.
 fn slowest() -> (&'static str, Search) {
   let name = "84 unknowns meet a type of 100 nodes, and Defaults inverted";
   (name, Search { meeting: Meeting::Bindings, dense: 100, links: 12, ..Search::default() })
+}
+
+/// Others whose candidates fail in the rule's own order alone, after many types have met.
+fn in_order() -> Vec<(&'static str, Search)> {
+  use Meeting::{Brothers, Copies, Defaults, Over};
+  let base = Search { defaults: true, ..Search::default() };
+  let turned = Search { meeting: Defaults, dense: 110, turned: true, ..base };
+  vec![
+    (
+      "types of 105 nodes over a parameter, and Defaults inverted",
+      Search { meeting: Over, dense: 105, ..base },
+    ),
+    (
+      "seven copies of 14 nodes, and Defaults inverted",
+      Search { meeting: Copies, dense: 14, links: 1, ..base },
+    ),
+    (
+      "seven copies of 31 nodes brought, and Defaults inverted",
+      Search { meeting: Brothers, dense: 31, links: 1, ..base },
+    ),
+    ("a type of 110 nodes inverted, and Defaults inverted", turned),
+    (
+      "the same of structs, 380 others before them",
+      Search { of_structs: true, structs: 380, ..turned },
+    ),
+  ]
 }
 
 /// The searches of impl calls that spend all steps, every question another, and whether the first test before a candidate is opened finds what
@@ -314,7 +340,7 @@ fn slowest() -> (&'static str, Search) {
 pub fn impl_searches() -> Vec<(Worst, bool)> {
   let worst = |(name, search): (&str, Search)| {
     let call = Search { tagged: true, ..search }.call();
-    (Worst { part: "search, impl", name: name.into(), call }, search.meeting.is_found())
+    (Worst { part: "search, impl", name: name.into(), call }, search.is_found())
   };
   meetings().into_iter().chain([slowest()]).map(worst).collect()
 }
@@ -330,7 +356,7 @@ pub fn searches() -> Vec<Worst> {
     ("search, flex", true, steps, true),
     ("search, the same", false, steps, false),
   ] {
-    for (name, search) in meetings().into_iter().chain([slowest()]) {
+    for (name, search) in meetings().into_iter().chain([slowest()]).chain(in_order()) {
       // The enum round the arguments takes nodes too: eight fewer have room.
       let dense = if flex { search.dense.saturating_sub(8).max(1) } else { search.dense };
       let call = Search { flex, levels, tagged, dense, ..search }.call();

@@ -64,13 +64,6 @@ pub enum Meeting {
   Hidden,
 }
 
-impl Meeting {
-  /// Whether the test before a candidate is opened finds that it fails.
-  pub fn is_found(self) -> bool {
-    !matches!(self, Meeting::Later | Meeting::Defaults | Meeting::Twice | Meeting::Bindings)
-  }
-}
-
 /// A search in which `branch` candidates of a question ask a sub-question, to so many levels, and all others fail in the last
 /// argument, after the first two have met with success.
 #[derive(Debug, Clone, Copy)]
@@ -85,6 +78,10 @@ pub struct Search {
   pub dense: usize,
   /// Links that are met.
   pub links: usize,
+  /// The dense type of a candidate is inverted.
+  pub turned: bool,
+  /// In place of an unknown that would be within itself, two Defaults that meet inverted.
+  pub defaults: bool,
   /// The question's generics have four impl parameters that fail like the candidates.
   pub params: bool,
   /// Every sub-question is another: each candidate that asks one puts a type of its own round a fourth argument.
@@ -99,6 +96,12 @@ pub struct Search {
 }
 
 impl Search {
+  /// Whether the first test before a candidate is opened finds that it fails.
+  pub fn is_found(&self) -> bool {
+    use Meeting::{Bindings, Defaults, Later, Twice};
+    !self.defaults && !matches!(self.meeting, Later | Defaults | Twice | Bindings)
+  }
+
   pub fn call(&self) -> Call {
     let mut sheet = bare(3 + usize::from(self.tagged), self.flex);
     let self_dual = u32::from(self.meeting != Meeting::Turned);
@@ -308,7 +311,9 @@ impl Search {
         let opposed = table.add(0, 0, &[]);
         [self.dense(table), table.add(kind::TUPLE, 0, &[opposed, opposed + 1])]
       }
-      Meeting::Defaults => [self.dense(table), table.add(kind::DEFAULT, 0, &[]) + 1],
+      Meeting::Defaults => {
+        [self.dense(table) + u32::from(self.turned), table.add(kind::DEFAULT, 0, &[]) + 1]
+      }
       Meeting::Bindings => {
         let dense = table.add(0, 0, &[]);
         let links = links(table, self.links, |table| [(); 7].map(|()| table.add(0, 0, &[])));
@@ -353,9 +358,13 @@ impl Search {
           Meeting::Brothers => self.copies(table),
           _ => self.dense(table),
         };
-        let within = table.add(0, 0, &[]);
-        let round = table.add(kind::TUPLE, 0, &[within]);
-        [first, table.add(kind::TUPLE, 0, &[within, round])]
+        if self.defaults {
+          [first, table.add(kind::DEFAULT, 0, &[]) + 1]
+        } else {
+          let within = table.add(0, 0, &[]);
+          let round = table.add(kind::TUPLE, 0, &[within]);
+          [first, table.add(kind::TUPLE, 0, &[within, round])]
+        }
       }
     };
     let third = table.add(0, 0, &[]);
@@ -393,6 +402,7 @@ impl Search {
       _ => self.dense(table),
     };
     let met = match self.meeting {
+      _ if self.defaults => table.add(kind::DEFAULT, 0, &[]),
       Meeting::Unknowns | Meeting::Inverse => links(table, self.links, |_| [dense; 7]),
       Meeting::Bindings => {
         let links = links(table, self.links, |_| [dense; 7]);
@@ -456,6 +466,8 @@ impl Default for Search {
       of_structs: false,
       dense: 1,
       links: 0,
+      turned: false,
+      defaults: false,
       params: false,
       tagged: false,
       found: 0,
@@ -526,6 +538,8 @@ pub fn random(rng: &mut Rng) -> Search {
       Copies | Brothers => 1,
       _ => rng.range(1, 60),
     },
+    turned: rng.chance(30),
+    defaults: rng.chance(20),
     params: rng.chance(20),
     tagged: rng.chance(50),
     found: 0,
