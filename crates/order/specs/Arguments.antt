@@ -1,18 +1,16 @@
 -- The arguments of a signature and of the question, followed from the table that the signature is brought into.
-use Prim.Native.Nat.{ℕ, zero, suc, _+_, _-_, _*_, _/_, _%_, _≤_, _<_}
+use Prim.Native.Nat.{ℕ, zero, suc, _+_, _*_, _/_, _%_, _≤_, _<_}
 use mathlib.Core.Path.{_≡_, refl, sym, _∙_, ap, ap₂, subst}
 use mathlib.Core.Bool.{Bool, true, false, true≢false}
 use mathlib.Core.List.{List, [], _∷_, map}
 use mathlib.Core.Logic.{_≢_, ⊎-elim}
-use native.Mathlib.Numerals.{add-one}
 use native.Mathlib.Omega.{arith}
 use lib.Dec.{eqb}
-use lib.ListN.{length, take, drop, drop-of-length-le, replicate, length-replicate, getD-replicate}
-use lib.Seq.{drop-cons, getD-take, length-take-le}
+use lib.ListN.{length, take, drop, replicate, length-replicate, getD-replicate}
 use borrow.Author.Tests.{eqb-true}
 use Rattle.rules.specs.Lists.{Words}
 use Rattle.rules.specs.Sheet.{at}
-use Rattle.rules.specs.Types.{Ty, TypeState, unknown, known, Types, node-at, xor, invert-if, invert-state, find, state-at, size-at, and, larger, join, Unified, unify-each, unify-in, unify}
+use Rattle.rules.specs.Types.{Ty, TypeState, unknown, known, Types, node-at, invert-if, invert-state, find, state-at, size-at, and, larger, join, Unified, unify-each, unify-in, unify}
 use Rattle.rules.specs.Transfer.{type-of-word}
 use Rattle.rules.specs.Answer.{word-of-type}
 use Rattle.rules.specs.WordLaws.{word-past}
@@ -26,7 +24,7 @@ use Rattle.table.specs.Packing.{types-of}
 use Rattle.queries.specs.declared.Query.{Query}
 use Rattle.queries.specs.Queries.{four}
 use Rattle.refs.specs.Meaning.{odd}
-use Rattle.order.specs.Stage.{stands, Run, Stage}
+use Rattle.order.specs.Stage.{Stage}
 use Rattle.order.specs.Mirror.{source, source-own, Sound, Mirror}
 use Rattle.order.specs.Following.{Follows, FollowsAll, kin-length, follows-more, follows-last}
 use Rattle.order.specs.Brought.{own-types, asked-types, Brought}

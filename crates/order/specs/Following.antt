@@ -1,28 +1,22 @@
 -- A test that follows `unify` on the table that notes are of, wherever it succeeds. What it comes to: 0, a clash; 1, all went well, and the notes are of the table that is left; anything else says nothing.
-use Prim.Native.Nat.{ℕ, zero, suc, _+_, _-_, _*_, _/_, _%_, _≤_, _<_}
+use Prim.Native.Nat.{ℕ, zero, suc, _+_, _/_, _%_, _<_}
 use mathlib.Core.Path.{_≡_, refl, sym, _∙_, ap, ap₂, subst}
-use mathlib.Core.Bool.{Bool, true, false, not, _&&_, _||_}
-use mathlib.Core.List.{List, [], _∷_, map}
+use mathlib.Core.Bool.{Bool, true, false, not}
+use mathlib.Core.List.{List, [], _∷_}
 use mathlib.Core.Logic.{_≢_}
 use native.Mathlib.Omega.{arith}
-use native.Mathlib.Decide.{ℕ-discrete}
-use lib.Dec.{T, eqb, eqb→eq}
 use lib.ListN.{length}
 use borrow.Author.Tests.{eq-eqb}
 use Rattle.rules.specs.Lists.{Words}
-use Rattle.rules.specs.Layout.{kind·closure, kind·error}
-use Rattle.rules.specs.Sheet.{at, kind-flag, row·may-meet}
-use Rattle.rules.specs.Types.{Ty, TypeState, unknown, known, Types, xor, invert-if, invert-state, find, state-at, size-at, self-inverse-in, self-inverse, from-bool, success, join, Unified, unify-each, unify-children, unify-known, join-on-success, occurs-in, bind-unknown, unify-states, unify-roots, unify-in}
-use Rattle.rules.specs.Solutions.{rep, AllIn, ChildrenIn, WellFormed, eqb-true, eqb-false, known≢}
-use Rattle.rules.specs.MostGeneral.{Won, both-won, flip-in, known-right, join-won, unify-in-right}
-use Rattle.rules.specs.Carried.{known-carries, unify-in-carries}
-use Rattle.rules.specs.UprightRoots.{RootsUpright, join-upright}
-use Rattle.rules.specs.ErrorsApart.{known-plain, known-still}
+use Rattle.rules.specs.Sheet.{at}
+use Rattle.rules.specs.Types.{Ty, Types, xor, invert-if, find, state-at, self-inverse-in, self-inverse, from-bool, Unified, unify-each, unify-states, unify-roots, unify-in}
+use Rattle.rules.specs.Solutions.{eqb-true, eqb-false}
+use Rattle.rules.specs.MostGeneral.{Won, both-won}
 use Rattle.table.specs.ChildTypes.{odd-sum}
 use Rattle.refs.specs.Meaning.{odd, turn}
-use Rattle.refs.specs.Refs.{side-of, type-side, apart}
-use Rattle.order.specs.Stage.{stands, Plain, Kin, Shown, Run, Stage, kind-word, id-word, kids, run-on, find-invert, stands-turn}
-use Rattle.order.specs.Mirror.{source, Sound, Mirror, Marks, mirror-marks, TwoRoots, Bare, follow-find, link-find, root-find, stands-at, left-in, right-in, left-top, right-top, tops-apart}
+use Rattle.refs.specs.Refs.{apart}
+use Rattle.order.specs.Stage.{stands, Kin, Run, Stage, run-on}
+use Rattle.order.specs.Mirror.{Sound, Mirror, Marks, TwoRoots, follow-find, stands-at, tops-apart}
 
 -- Two types of refs are met.
 pub record Follows (s ps ws m : Words) (a b : ℕ) (m′ : Words) (r : ℕ) : Type 0 where

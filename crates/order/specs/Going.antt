@@ -1,31 +1,23 @@
 -- The steps of the test, as the code takes them.
-use Prim.Native.Nat.{ℕ, zero, suc, _+_, _-_, _*_, _/_, _%_, _≤_, _<_}
+use Prim.Native.Nat.{ℕ, _/_, _%_, _<_}
 use mathlib.Core.Path.{_≡_, refl, sym, _∙_, ap, ap₂, subst}
-use mathlib.Core.Bool.{Bool, true, false, true≢false, not}
-use mathlib.Core.List.{List, [], _∷_, map}
-use mathlib.Core.Logic.{_≢_, _⊎_, inl, inr}
-use native.Mathlib.Numerals.{add-one}
+use mathlib.Core.Bool.{Bool, true, false, not}
+use mathlib.Core.List.{map}
+use mathlib.Core.Logic.{_≢_, inl, inr}
 use native.Mathlib.Omega.{arith}
 use lib.Dec.{eqb}
-use lib.ListN.{length, take, drop, drop-of-length-le}
-use lib.Seq.{drop-cons, getD-take, length-take-le}
-use borrow.Author.Tests.{eqb-true, eq-eqb as eq-yes, ne-eqb as eq-no}
+use borrow.Author.Tests.{eq-eqb as eq-yes, ne-eqb as eq-no}
 use Rattle.rules.specs.Lists.{Words}
-use Rattle.rules.specs.Layout.{kind·error}
-use Rattle.rules.specs.Sheet.{at, kind-flag, chain, chain-of}
-use Rattle.rules.specs.Transfer.{cell-types}
-use Rattle.table.specs.declared.Row.{Row}
-use Rattle.table.specs.ChildTypes.{ChildTypes, row-at, types-at, types-at-length}
-use Rattle.refs.specs.Meaning.{odd, turn, record-types}
-use Rattle.refs.specs.Refs.{place, apart, Bit}
-use Rattle.refs.specs.Children.{cell-type, cell-types-are, cells-none, cells-more}
+use Rattle.rules.specs.Sheet.{at, kind-flag}
+use Rattle.refs.specs.Meaning.{turn}
+use Rattle.refs.specs.Refs.{apart, Bit}
 use Rattle.rules.specs.Types.{Types, find}
 use Rattle.order.specs.Stage.{stands, Stage, kind-word, id-word, kids}
-use Rattle.order.specs.Mirror.{source, Sound, Mirror, mirror-marks}
+use Rattle.order.specs.Mirror.{source, Mirror, mirror-marks}
 use Rattle.order.specs.Following.{Follows, FollowsAll, Meets, Owns, RootOf, all-nothing, follows-nothing, meets-nothing, follows-found, same-class, own-class, meet-class}
 use Rattle.order.specs.Meeting.{Joins, Tells, tells-kind, meets-bind, meets-kinds, meets-error, meets-ids, meets-flag, meets-kids, meets-join}
 use Rattle.order.specs.Words.{Roots, Steps, Shortens, mirror-shorter, root-stays}
-use Rattle.order.specs.Owning.{no}
+use Rattle.order.specs.Owning.{not-held}
 
 -- Two types by their roots, to which they are linked first.
 module _ (s ps ws m : Words) (a b x y : ℕ) (m₁ m₂ : Words) (p : x < 4096 → Roots s ps m a x) (hx : x < 4096) (ga : Shortens m a x m₁) (q : y < 4096 → Roots s ps m₁ b y) (hy : y < 4096) (gb : Shortens m₁ b y m₂) where
@@ -102,7 +94,7 @@ module _ (s ps ws : Words) (p q k l : ℕ) (ek : k ≡ kind-word s ps ws (p / 2)
   compared-ids d c ed ec n = record { clash = λ e m x y m′ ep eq kp kq. meets-ids s ps ws m x y p q ep eq kp kq m′ (λ z. n (ed ∙ z ∙ sym ec)); bit = λ z. absurd (z refl) }
 
 pub compared-flag : (s ps ws : Words) (p q k d b i j : ℕ) (f : Bool) → k ≡ kind-word s ps ws (p / 2) → d ≡ id-word s ps ws (p / 2) → Bit (apart s ps ws p q) b → b ≡ 1 → i ≡ k → j ≡ d → f ≡ kind-flag s 3 i j → not f ≡ true → Compared s ps ws p q 2
-compared-flag s ps ws p q k d b i j f ek ed bit e ei ej ef n = record { clash = λ e′ m x y m′ ep eq kp kq. meets-flag s ps ws m x y p q ep eq kp kq m′ b bit e (sym (ap₂ (kind-flag s 3) (ei ∙ ek) (ej ∙ ed)) ∙ sym ef ∙ no f n); bit = λ z. absurd (z refl) }
+compared-flag s ps ws p q k d b i j f ek ed bit e ei ej ef n = record { clash = λ e′ m x y m′ ep eq kp kq. meets-flag s ps ws m x y p q ep eq kp kq m′ b bit e (sym (ap₂ (kind-flag s 3) (ei ∙ ek) (ej ∙ ed)) ∙ sym ef ∙ not-held f n); bit = λ z. absurd (z refl) }
 
 pub compared-bit : (s ps ws : Words) (p q b : ℕ) → Bit (apart s ps ws p q) b → Compared s ps ws p q b
 compared-bit s ps ws p q b o = record { clash = λ e. absurd (omega (arith, o .small, e)); bit = λ z. o }

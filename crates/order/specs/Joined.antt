@@ -1,20 +1,17 @@
 -- The notes as words are written: a root hung under another, and two joined.
-use Prim.Native.Nat.{ℕ, zero, suc, _+_, _-_, _*_, _/_, _%_, _≤_, _<_}
-use mathlib.Core.Path.{_≡_, refl, sym, _∙_, ap, ap₂, subst}
+use Prim.Native.Nat.{ℕ, _+_, _-_, _*_, _/_, _%_, _≤_, _<_}
+use mathlib.Core.Path.{_≡_, refl, sym, _∙_, ap, subst}
 use mathlib.Core.Bool.{Bool, true, false, true≢false}
-use mathlib.Core.Logic.{_≢_, ⊎-elim}
+use mathlib.Core.Logic.{_≢_}
 use native.Mathlib.Omega.{arith}
-use lib.Dec.{eqb, ltb}
 use lib.ListN.{length, set, length-set}
 use lib.Seq.{getD-set-same, getD-set-other}
-use borrow.Author.Tests.{lt-ltb, le-ltb}
 use Rattle.rules.specs.Lists.{Words}
 use Rattle.rules.specs.Sheet.{at}
-use Rattle.rules.specs.Types.{Ty, Types, size-at, join}
-use Rattle.table.specs.Packing.{types-of}
-use Rattle.refs.specs.Meaning.{odd, turn}
-use Rattle.order.specs.Stage.{stands, Run, Stage, base}
-use Rattle.order.specs.Mirror.{source, source-own, source-other, Mirror, Hung, Bare, TwoRoots, mirror-left, mirror-right}
+use Rattle.rules.specs.Types.{Types, size-at}
+use Rattle.refs.specs.Meaning.{turn}
+use Rattle.order.specs.Stage.{Stage, base}
+use Rattle.order.specs.Mirror.{source, source-own, source-other, Mirror, Hung, TwoRoots, mirror-left, mirror-right}
 use Rattle.order.specs.Meeting.{Joins}
 
 -- Where a root has its state from.
@@ -49,9 +46,6 @@ inherits-set m lo hi p v w h ep ev ew =
 pub record Hangs (m : Words) (lo hi n : ℕ) (bare : Bool) (m′ : Words) (r : ℕ) : Type 0 where
   pub went : r ≢ 0
   pub at : r ≡ 1 → length m ≡ 8192 → Hung m lo hi n bare m′
-
-pub hangs-not : (m : Words) (lo hi n : ℕ) (bare : Bool) (m′ : Words) → Hangs m lo hi n bare m′ 2
-hangs-not m lo hi n bare m′ = record { went = λ e. omega (arith, e); at = λ e. absurd (omega (arith, e)) }
 
 -- The words of size and link are written.
 module _ (m : Words) (lo hi n g w v z : ℕ) (hl : lo < 4096) (hh : hi < 4096) (ew : w ≡ hi / 2 % 2048) (ez : z ≡ lo / 2 % 2048) (eg : g ≡ at m (2048 + w)) (ev : v ≡ turn (lo % 2) hi) where

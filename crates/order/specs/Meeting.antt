@@ -1,27 +1,26 @@
 -- Two different roots, followed by what they are: an unknown is bound, two known types meet in their children, and are joined.
-use Prim.Native.Nat.{ℕ, zero, suc, _+_, _-_, _*_, _/_, _%_, _≤_, _<_}
+use Prim.Native.Nat.{ℕ, suc, _/_}
 use mathlib.Core.Path.{_≡_, refl, sym, _∙_, ap, ap₂, subst}
 use mathlib.Core.Bool.{Bool, true, false, not, _&&_, _||_, true≢false}
 use mathlib.Core.List.{List, [], _∷_, map}
 use mathlib.Core.Logic.{_≢_, _⊎_, inl, inr}
 use native.Mathlib.Omega.{arith}
-use native.Mathlib.Decide.{ℕ-discrete}
 use lib.Dec.{T, eqb, eqb→eq}
 use lib.ListN.{length}
-use borrow.Author.Tests.{eq-eqb, ne-eqb, eqb-true as eqb-yes, eqb-false as eqb-no}
+use borrow.Author.Tests.{eqb-true as eqb-yes, eqb-false as eqb-no}
 use Rattle.rules.specs.Lists.{Words}
 use Rattle.rules.specs.Layout.{kind·closure, kind·error}
 use Rattle.rules.specs.Sheet.{at, kind-flag, row·may-meet}
 use Rattle.rules.specs.Types.{Ty, TypeState, unknown, known, Types, xor, invert-if, invert-state, find, state-at, join, Unified, unify-each, unify-children, unify-known, join-on-success, occurs-in, bind-unknown, unify-states, unify-in}
-use Rattle.rules.specs.Solutions.{rep, AllIn, ChildrenIn, WellFormed, known≢}
+use Rattle.rules.specs.Solutions.{AllIn, ChildrenIn, known≢}
 use Rattle.rules.specs.MostGeneral.{Won, known-right, join-won, unify-in-right}
 use Rattle.rules.specs.Carried.{known-carries, unify-in-carries}
 use Rattle.rules.specs.UprightRoots.{RootsUpright, join-upright}
 use Rattle.rules.specs.ErrorsApart.{known-plain, known-still}
 use Rattle.refs.specs.Meaning.{odd, turn}
 use Rattle.refs.specs.Refs.{side-of, type-side, apart, Bit}
-use Rattle.order.specs.Stage.{stands, Plain, Kin, Shown, Run, Stage, kind-word, id-word, kids, find-invert, stands-turn}
-use Rattle.order.specs.Mirror.{source, Sound, Mirror, TwoRoots, Bare, stands-at, odd-turn, left-in, right-in, left-top, right-top, tops-apart}
+use Rattle.order.specs.Stage.{stands, Kin, Shown, Run, Stage, kind-word, id-word, kids, find-invert, stands-turn}
+use Rattle.order.specs.Mirror.{source, Sound, Mirror, TwoRoots, Bare, stands-at, odd-turn, left-in, right-in, left-top, right-top}
 use Rattle.order.specs.Following.{FollowsAll, Meets}
 
 -- The notes m′ are of the table in which two roots are joined, of which bx and by say whether they are unknown.

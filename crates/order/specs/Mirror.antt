@@ -1,22 +1,22 @@
 -- A table by what is noted of its classes at refs: links to roots, what was added to a class's size, and where a root has its state from. What a join does to the table is done to the notes.
 -- Four times 2,048 words. Of ref r: at r 0, or one more than the type that the ref is; 2,048 behind it what was added to the size of its class; another 2,048 behind that 0, or one more than the type of which it has its state; and behind those a mark, which says nothing of the table.
-use Prim.Native.Nat.{ℕ, suc, _+_, _-_, _*_, _/_, _%_, _≤_, _<_}
+use Prim.Native.Nat.{ℕ, _+_, _-_, _*_, _/_, _%_, _≤_, _<_}
 use mathlib.Core.Path.{_≡_, refl, sym, _∙_, ap, ap₂, subst}
 use mathlib.Core.Bool.{Bool, true, false}
-use mathlib.Core.List.{List, [], _∷_, map}
-use mathlib.Core.Logic.{_≢_, ⊎-elim}
+use mathlib.Core.List.{map}
+use mathlib.Core.Logic.{_≢_}
 use native.Mathlib.Omega.{arith}
 use native.Mathlib.Decide.{ℕ-discrete}
 use lib.Dec.{eqb, ltb}
 use lib.ListN.{length}
-use lib.Seq.{getD-set-same, getD-set-other}
+use lib.Seq.{getD-set-same}
 use borrow.Author.Tests.{eq-eqb, ne-eqb, lt-ltb, le-ltb}
 use Rattle.rules.specs.Lists.{Words}
 use Rattle.rules.specs.Sheet.{at}
 use Rattle.rules.specs.Types.{Ty, TypeState, unknown, known, TypeNode, Types, node-at, xor, invert-if, invert-state, find, state-at, size-at, relabel, or-else, hang, larger, join}
-use Rattle.rules.specs.Solutions.{rep, WellFormed, known≢}
-use Rattle.rules.specs.Joining.{hang-state, hang-top, map-at, map-length}
-use Rattle.rules.specs.UprightRoots.{hung-length, hung-off, RootsUpright}
+use Rattle.rules.specs.Solutions.{rep}
+use Rattle.rules.specs.Joining.{hang-state, hang-top, map-length}
+use Rattle.rules.specs.UprightRoots.{hung-length, hung-off}
 use Rattle.rules.specs.CommonSides.{up-stays, up-turns, xor-assoc, xor-none, xor-comm}
 use Rattle.table.specs.ChildTypes.{odd-sum}
 use Rattle.refs.specs.Meaning.{odd, turn}

@@ -1,21 +1,20 @@
 -- Whether a type is its own inverse, by the notes: false only where it is not.
-use Prim.Native.Nat.{ℕ, zero, suc, _+_, _-_, _*_, _/_, _%_, _≤_, _<_}
+use Prim.Native.Nat.{ℕ, zero, suc, _+_, _/_, _≤_, _<_}
 use mathlib.Core.Path.{_≡_, refl, sym, _∙_, ap, ap₂, subst}
 use mathlib.Core.Bool.{Bool, true, false, true≢false, not}
 use mathlib.Core.List.{List, [], _∷_}
 use mathlib.Core.Logic.{_≢_, _⊎_, inl, inr}
 use native.Mathlib.Numerals.{add-one}
 use native.Mathlib.Omega.{arith}
-use lib.ListN.{length, take, drop, set, length-set, drop-of-length-le}
+use lib.ListN.{length, take, drop, set, length-set}
 use lib.Seq.{drop-cons, getD-take, length-take-le, getD-set-other}
 use Rattle.rules.specs.Lists.{Words, all}
 use Rattle.rules.specs.Sheet.{at, kind-flag, row·own-inverse}
-use Rattle.rules.specs.Types.{Ty, TypeState, unknown, known, Types, xor, invert-if, invert-state, find, state-at, kind, self-inverse-in}
-use Rattle.rules.specs.Solutions.{rep}
+use Rattle.rules.specs.Types.{Ty, unknown, known, Types, invert-state, find, state-at, kind, self-inverse-in}
 use Rattle.table.specs.declared.Row.{Row}
-use Rattle.refs.specs.Meaning.{odd, turn}
+use Rattle.refs.specs.Meaning.{turn}
 use Rattle.order.specs.Stage.{stands, Kin, Run, Stage, kind-word, id-word, kids}
-use Rattle.order.specs.Mirror.{source, Sound, Mirror, Marks, marks-same, marks-on, mirror-marks, stands-at, follow-find}
+use Rattle.order.specs.Mirror.{source, Mirror, Marks, marks-same, marks-on, mirror-marks, stands-at, follow-find}
 use Rattle.order.specs.Following.{Owns, lives}
 use Rattle.order.specs.Meeting.{state-known, state-unknown, shown}
 use Rattle.order.specs.Words.{Roots, Kids}
@@ -57,9 +56,10 @@ own-opened (suc k) s ts t x i kd d cs e q true f (inl z) = absurd (true≢false 
 own-opened (suc k) s ts t x i kd d cs e q true f (inr z) = rw (e, q, f, self-inverse-in, kind) (z k)
 own-opened (suc k) s ts t x i kd d cs e q false f c = rw (e, q, f, self-inverse-in, kind)
 
-pub no : (c : Bool) → not c ≡ true → c ≡ false
-no true z = absurd (true≢false (sym z))
-no false z = refl
+-- A test that does not hold.
+pub not-held : (c : Bool) → not c ≡ true → c ≡ false
+not-held true z = absurd (true≢false (sym z))
+not-held false z = refl
 
 -- Nothing is said.
 pub owns-true : (s ps ws m : Words) (t : ℕ) → Owns s ps ws m t m true
@@ -82,7 +82,7 @@ owns-flag s ps ws m t x p b f h ep g nb = record { marks = marks-same m; at = λ
     go st ts k l j (suc n) e =
         let z : kind-word s ps ws (p / 2) ≢ 0 = λ q. omega (arith, sym e ∙ q) in
         let a = f h .at ws st ts k l in
-        own-opened j s ts (stands (st .to) t) (stands (st .to) x) _ _ _ _ (a .2) (ap (λ (u : Ty). state-at ts (u .1)) (stands-at s ps ws st x (a .0)) ∙ state-known s ps ws m x p ep st ts k (a .0) (a .1) z) false (g .not (no b nb) z) (inl refl)
+        own-opened j s ts (stands (st .to) t) (stands (st .to) x) _ _ _ _ (a .2) (ap (λ (u : Ty). state-at ts (u .1)) (stands-at s ps ws st x (a .0)) ∙ state-known s ps ws m x p ep st ts k (a .0) (a .1) z) false (g .not (not-held b nb) z) (inl refl)
 
 -- or one of its children is not.
 pub owns-kids : (s ps ws m : Words) (t x p : ℕ) (m′ : Words) (b : Bool) → (x < 4096 → Roots s ps m t x) → x < 4096 → p ≡ turn x (source m (x / 2)) → OwnsAll s ps ws m (kids s ps ws (p / 2)) m′ b → not b ≡ true → Owns s ps ws m t m′ false
@@ -95,7 +95,7 @@ owns-kids s ps ws m t x p m′ b f h ep g nb = record { marks = g .marks; at = �
     go st ts run k l j (suc n) e =
         let z : kind-word s ps ws (p / 2) ≢ 0 = λ q. omega (arith, sym e ∙ q) in
         let a = f h .at ws st ts k l in
-        own-opened j s ts (stands (st .to) t) (stands (st .to) x) _ _ _ _ (a .2) (ap (λ (u : Ty). state-at ts (u .1)) (stands-at s ps ws st x (a .0)) ∙ state-known s ps ws m x p ep st ts k (a .0) (a .1) z) _ refl (inr (g .at (no b nb) st ts run k _ (shown s ps ws m x p ep st ts k (a .0) (a .1) z .kin)))
+        own-opened j s ts (stands (st .to) t) (stands (st .to) x) _ _ _ _ (a .2) (ap (λ (u : Ty). state-at ts (u .1)) (stands-at s ps ws st x (a .0)) ∙ state-known s ps ws m x p ep st ts k (a .0) (a .1) z) _ refl (inr (g .at (not-held b nb) st ts run k _ (shown s ps ws m x p ep st ts k (a .0) (a .1) z .kin)))
 
 -- One type and then the others.
 all-one : (s ps ws m : Words) (u : ℕ) (us m′ : Words) → Owns s ps ws m u m′ false → OwnsAll s ps ws m (u ∷ us) m′ false
@@ -146,7 +146,7 @@ module _ (s ps ws m : Words) (o : Row) (m₁ : Words) (j : ℕ) (k : Owning s ps
   pub owning-not : (r u : ℕ) (m₂ : Words) (b : Bool) → Kids s ps ws r o → o .n ≢ 9 → j < o .n → u ≡ at (o .types) j → Owns s ps ws m₁ u m₂ b → not b ≡ true → OwnsAll s ps ws m (kids s ps ws r) m₂ false
   owning-not r u m₂ b t z h e w nb =
       subst (λ (us : Words). OwnsAll s ps ws m us m₂ false) (t .are z)
-      (k .rest m₂ (subst (λ (us : Words). OwnsAll s ps ws m₁ us m₂ false) (sym (here h)) (subst (λ v. OwnsAll s ps ws m₁ (v ∷ drop (j + 1) (take (o .n) (o .types))) m₂ false) e (all-one s ps ws m₁ u (drop (j + 1) (take (o .n) (o .types))) m₂ (subst (Owns s ps ws m₁ u m₂) (no b nb) w)))))
+      (k .rest m₂ (subst (λ (us : Words). OwnsAll s ps ws m₁ us m₂ false) (sym (here h)) (subst (λ v. OwnsAll s ps ws m₁ (v ∷ drop (j + 1) (take (o .n) (o .types))) m₂ false) e (all-one s ps ws m₁ u (drop (j + 1) (take (o .n) (o .types))) m₂ (subst (Owns s ps ws m₁ u m₂) (not-held b nb) w)))))
 
   pub owning-end : (us : Words) → OwnsAll s ps ws m us m₁ true
   owning-end us = all-true s ps ws m us m₁ (k .marks)

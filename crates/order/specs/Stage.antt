@@ -1,21 +1,21 @@
 -- Refs on the table that a candidate's signature was brought into: where each stands, and what its words say of its node.
 -- A type is a number: twice a ref, and one more if it is inverted. Refs are below 2,048: up to 255 a root of the question's table, from 256 on a type parameter, from 1,024 on a node of the signature's table by its record.
 use Prim.Native.Nat.{ℕ, _+_, _/_, _%_, _≤_, _<_}
-use mathlib.Core.Path.{_≡_, refl, sym, _∙_, ap, ap₂, subst}
+use mathlib.Core.Path.{_≡_, sym, _∙_, ap, ap₂}
 use mathlib.Core.Bool.{Bool, true, false}
-use mathlib.Core.List.{List, [], _∷_, map}
+use mathlib.Core.List.{List, [], _∷_}
 use mathlib.Core.Logic.{_≢_}
 use native.Mathlib.Omega.{arith}
 use lib.Dec.{eqb, ltb}
 use lib.ListN.{length}
 use Rattle.rules.specs.Lists.{Words}
 use Rattle.rules.specs.Sheet.{at}
-use Rattle.rules.specs.Types.{Ty, TypeState, unknown, known, TypeNode, Types, node-at, xor, invert-if, find, state-at, size-at, Unified, unify-in}
-use Rattle.rules.specs.Solutions.{rep, WellFormed, Readable}
+use Rattle.rules.specs.Types.{Ty, unknown, known, Types, node-at, xor, invert-if, find, state-at, size-at, unify-in}
+use Rattle.rules.specs.Solutions.{WellFormed, Readable}
 use Rattle.rules.specs.MostGeneral.{Won, unify-in-right}
 use Rattle.rules.specs.Carried.{unify-in-carries}
 use Rattle.rules.specs.UprightRoots.{RootsUpright, join-upright}
-use Rattle.rules.specs.CommonSides.{xor-assoc, xor-none, xor-comm}
+use Rattle.rules.specs.CommonSides.{xor-assoc}
 use Rattle.table.specs.Packing.{types-of, kind-at, id-at}
 use Rattle.table.specs.ChildTypes.{odd-sum}
 use Rattle.refs.specs.Meaning.{odd, turn, record-side, node-types, record-types}

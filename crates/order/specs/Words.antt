@@ -1,24 +1,23 @@
 -- What the test reads, by its words: roots along links, what refs are, and their children.
-use Prim.Native.Nat.{ℕ, zero, suc, _+_, _-_, _*_, _/_, _%_, _≤_, _<_}
+use Prim.Native.Nat.{ℕ, _+_, _-_, _*_, _/_, _%_, _≤_, _<_}
 use mathlib.Core.Path.{_≡_, refl, sym, _∙_, ap, ap₂, subst}
 use mathlib.Core.Bool.{Bool, true, false}
-use mathlib.Core.List.{List, [], _∷_, map}
 use mathlib.Core.Logic.{_≢_, _⊎_, inl, inr, ⊎-elim}
 use native.Mathlib.Decide.{ℕ-discrete}
 use native.Mathlib.Omega.{arith}
-use lib.Dec.{eqb, ltb}
+use lib.Dec.{eqb}
 use lib.ListN.{length, take, set, length-set}
 use lib.Seq.{getD-set-same, getD-set-other}
 use borrow.Author.Tests.{lt-ltb, le-ltb}
 use Rattle.rules.specs.Lists.{Words}
 use Rattle.rules.specs.Sheet.{at}
-use Rattle.rules.specs.Types.{Ty, Types, xor, invert-if, invert-state, find, state-at, size-at}
+use Rattle.rules.specs.Types.{Ty, Types, invert-if, invert-state, find, state-at, size-at}
 use Rattle.rules.specs.Pigeonholes.{lt-or}
 use Rattle.rules.specs.CommonSides.{xor-twice}
 use Rattle.table.specs.declared.Row.{Row}
-use Rattle.table.specs.Packing.{types-of, kind-at, id-at}
+use Rattle.table.specs.Packing.{types-of, kind-at}
 use Rattle.table.specs.ChildTypes.{ChildTypes}
-use Rattle.refs.specs.Meaning.{odd, turn, record-side, node-types, record-types}
+use Rattle.refs.specs.Meaning.{odd, turn, record-side, record-types}
 use Rattle.refs.specs.Refs.{place, Bit, IdOf}
 use Rattle.refs.specs.Children.{Cells}
 use Rattle.order.specs.Stage.{stands, Plain, Stage, kind-word, id-word, kids, base, stands-turn, find-invert}
@@ -142,9 +141,6 @@ size-node ws m r w a g h ew ea eg l = ap₂ (λ (i j : ℕ). i + j) (ea ∙ rw (
 pub size-other : (ws m : Words) (r w g : ℕ) → 256 ≤ r → w ≡ r → g ≡ at m (2048 + w) → 1 + g < 65536 → 1 + g ≡ base ws r + at m (2048 + r)
 unfolding base
 size-other ws m r w g h ew eg l = ap₂ (λ (i j : ℕ). i + j) (let z : 1 ≡ base ws r = rw (le-ltb r 256 h, base) in z) (eg ∙ ap (λ j. at m (2048 + j)) ew)
-
-pub size-many : (ws m : Words) (r : ℕ) → 65536 < 65536 → 65536 ≡ base ws r + at m (2048 + r)
-size-many ws m r l = absurd (omega (arith, l))
 
 -- The children of a ref, where they are told.
 pub record Kids (s ps ws : Words) (r : ℕ) (o : Row) : Type 0 where
