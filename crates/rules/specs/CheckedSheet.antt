@@ -91,8 +91,11 @@ leads_opt N m f h zero l = tt
 leads_opt N m f h (suc t) l = (h t l, tt)
 
 leads_in : (N : ℕ) (es : List Edge) → Leads N es → (e : Edge) → In e es → e.1 < N
-leads_in N es h e first = h.0
-leads_in N es h e (later {xs = us} i) = leads_in N us h.1 e i
+leads_in N es h e i = go e es i h
+  where
+    go : (e : Edge) (es : List Edge) → In e es → Leads N es → e.1 < N
+    go e es first h = h.0
+    go e es (later {xs = us} i) h = go e us i h.1
 
 range_length : (i n : ℕ) → length (range i n) ≡ n
 unfolding range

@@ -61,13 +61,13 @@ module _ {A : Type 0} where
       go false e (inl t) = absurd (subst T e t)
       go false e (inr t) = rw (e, any) t
 
-  any-back : (p : A → Bool) (xs : List A) (x : A) → In x xs → T (p x) → T (any p xs)
-  any-back p xs x (first {xs = ys}) t = any_cons p x ys (inl t)
-  any-back p xs x (later {y} {xs = ys} h) t = any_cons p y ys (inr (any-back p ys x h t))
+  any_back : (p : A → Bool) (x : A) (xs : List A) → In x xs → T (p x) → T (any p xs)
+  any_back p x xs (first {xs = ys}) t = any_cons p x ys (inl t)
+  any_back p x xs (later {y} {xs = ys} h) t = any_cons p y ys (inr (any_back p x ys h t))
 
   -- `any`: some element passes the test.
   pub any_in : (p : A → Bool) (xs : List A) → T (any p xs) ↔ ((x : A) × In x xs × T (p x))
-  any_in p xs = (any_there p xs, λ r. any-back p xs r.0 r.1 r.2)
+  any_in p xs = (any_there p xs, λ r. any_back p r.0 xs r.1 r.2)
 
   -- `all`: the first element passes the test, and all the others do.
   pub all_cons : (p : A → Bool) (x : A) (xs : List A) → T (all p (x ∷ xs)) ↔ (T (p x) × T (all p xs))
@@ -80,8 +80,11 @@ module _ {A : Type 0} where
 
   -- So every element does.
   pub all_in : (p : A → Bool) (xs : List A) → T (all p xs) → (x : A) → In x xs → T (p x)
-  all_in p xs t x (first {xs = ys}) = ((all_cons p x ys).0 t).0
-  all_in p xs t x (later {y} {xs = ys} h) = all_in p ys ((all_cons p y ys).0 t).1 x h
+  all_in p xs t x h = go x xs h t
+    where
+      go : (x : A) (xs : List A) → In x xs → T (all p xs) → T (p x)
+      go x xs (first {xs = ys}) t = ((all_cons p x ys).0 t).0
+      go x xs (later {y} {xs = ys} h) t = go x ys h ((all_cons p y ys).0 t).1
 
   -- Element n, where there is one, stands in the list.
   pub in_at : (xs : List A) (n : ℕ) (a : A) → n < length xs → In (get_or xs n a) xs
@@ -122,13 +125,13 @@ module _ {A : Type 0} where
       go true e = rw (e, select) (later h)
       go false e = rw (e, select) h
 
-  select-back : (p : A → Bool) (xs : List A) (x : A) → In x xs → T (p x) → In x (select p xs)
-  select-back p xs x (first {xs = ys}) t = select_first p x ys t
-  select-back p xs x (later {y} {xs = ys} h) t = select_later p x y ys (select-back p ys x h t)
+  select_back : (p : A → Bool) (x : A) (xs : List A) → In x xs → T (p x) → In x (select p xs)
+  select_back p x xs (first {xs = ys}) t = select_first p x ys t
+  select_back p x xs (later {y} {xs = ys} h) t = select_later p x y ys (select_back p x ys h t)
 
   -- `select`: the elements that pass the test.
   pub select_in : (p : A → Bool) (xs : List A) (x : A) → In x (select p xs) ↔ (In x xs × T (p x))
-  select_in p xs x = (select_there p xs x, λ r. select-back p xs x r.0 r.1)
+  select_in p xs x = (select_there p xs x, λ r. select_back p x xs r.0 r.1)
 
 -- `is_in`: a number stands in a list.
 pub is_in_in : (x : ℕ) (xs : Words) → T (is_in x xs) ↔ In x xs
