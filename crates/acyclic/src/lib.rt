@@ -1,5 +1,7 @@
 // Checks 9 and 13: no type of a table reaches itself. A table takes time linear in its nodes and cells: each node is finished once,
 // and the first way down of as many steps as there are nodes ends the walk. Calls nest no deeper than the table has nodes.
+#![tactic(auto)]
+
 ghost use Rattle.std.specs.Prelude.{◌≡◌, ◌+◌, ◌<◌, ◌≤◌, T, length, set};
 ghost use Rattle.rules.specs.Sheet.{at, chain};
 ghost use Rattle.rules.specs.Layout.{question_table};

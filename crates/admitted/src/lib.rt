@@ -1,5 +1,7 @@
 // `find_impl_candidates`: the sets that a question's candidates come from, and the candidates one after the other, by id.
 // The sets of the source stand in the workspace (`candidates::build`).
+#![tactic(auto)]
+
 ghost use Rattle.std.specs.Prelude.{◌≡◌, map, ◌+◌, ◌*◌, ◌≤◌, ◌<◌, length};
 ghost use Rattle.rules.specs.Transfer.{type_of_word};
 ghost use Rattle.rules.specs.Search.{inherent_mods};
@@ -17,7 +19,7 @@ const UNKNOWN: u32 = 18;
 const ERROR: u32 = 19;
 
 // Where candidates come from: the sets of the first n of six nodes, for a trait? and a basic flag; or a refusal, where the number is not 0.
-#[derive(Drop)]
+#[derive(Clone, Copy)]
 pub struct Found {
     pub number: u32,
     pub tr: u32,
@@ -27,14 +29,14 @@ pub struct Found {
 }
 
 // A candidate, or none is left.
-#[derive(Drop)]
+#[derive(Clone, Copy)]
 pub enum Candidate {
     Impl { id: usize },
     End,
 }
 
 // So many nodes are written, or a refusal.
-#[derive(Drop)]
+#[derive(Clone, Copy)]
 pub enum Nodes {
     Written { n: usize },
     Refused { number: u32 },

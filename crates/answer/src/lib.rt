@@ -1,4 +1,6 @@
 // The answer's words: trees, types and flags of a call, written into a lent answer buffer.
+#![tactic(auto)]
+
 ghost use Rattle.std.specs.Prelude.{◌≡◌, [], ◌∷◌, ◌+◌, ◌-◌, ◌*◌, ◌<◌, ◌≤◌, min, length};
 ghost use Rattle.rules.specs.Sheet.{at};
 ghost use Rattle.rules.specs.Limits.{limit_answer, limit_nodes, limit_tree_nodes};

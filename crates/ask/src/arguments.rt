@@ -7,7 +7,7 @@ use libc::STDERR_FILENO;
 pub const FIRST: usize = 6;
 
 // The numbers of a sitting; `raw` asks for the answers' words too.
-#[derive(Drop)]
+#[derive(Clone, Copy)]
 pub struct Numbers {
     pub source: u32,
     pub generics: u32,
@@ -16,14 +16,14 @@ pub struct Numbers {
 }
 
 // Which call a question is for; a flex call has no basic flag.
-#[derive(Drop)]
+#[derive(Clone, Copy)]
 pub struct Form {
     pub flex: bool,
     pub basic: u32,
 }
 
 // What is asked for: one question, or those of the arguments from FIRST up to an end.
-#[derive(Drop)]
+#[derive(Clone, Copy)]
 pub enum Given {
     One { numbers: Numbers, form: Form },
     Several { numbers: Numbers, end: usize },
@@ -31,7 +31,7 @@ pub enum Given {
 }
 
 // A question of a sitting among the arguments: `impl QUESTION BASIC` or `flex QUESTION`.
-#[derive(Drop)]
+#[derive(Clone, Copy)]
 pub enum Turn {
     Question { form: Form },
     Wrong,
@@ -95,7 +95,7 @@ fn number_arg(k: usize) -> notation::read::Parsed {
     notation::read::number(&arg[..n])
 }
 
-#[derive(Drop)]
+#[derive(Clone, Copy)]
 enum Three {
     Numbers { numbers: Numbers },
     Wrong,

@@ -3,7 +3,7 @@ use libc::STDERR_FILENO;
 use notation::read::Reading;
 
 // What came of one read of a file.
-#[derive(Drop)]
+#[derive(Clone, Copy)]
 enum Part {
     More { r: Reading },
     End { r: Reading },
@@ -11,7 +11,7 @@ enum Part {
 }
 
 // The words of a file, so many in the caller's buffer; or a message was written.
-#[derive(Drop)]
+#[derive(Clone, Copy)]
 pub enum File {
     Words { count: usize },
     Unread,

@@ -5,6 +5,8 @@
 //     ask sitting SHEET SOURCE GENERICS COUNT (impl QUESTION BASIC | flex QUESTION).. [raw]
 //
 // Every question is asked in a sitting, by the spent count that it lends: it goes on from one question to the next. The workspace is lent from main's own frame.
+#![tactic(auto)]
+
 mod arguments;
 mod files;
 mod print;

@@ -1,5 +1,7 @@
 // The impl call behind its checks (`try_find_impl` of the Rust): the question is loaded and exported, searched for, and what the search comes to is closed.
 // The tables that this needs beside the workspace stand in its own frames.
+#![tactic(auto)]
+
 ghost use Rattle.std.specs.Prelude.{◌≡◌, ◌≤◌, ◌<◌, eqb, ltb, length};
 ghost use Rattle.rules.specs.Limits.{limit_answer};
 ghost use Rattle.rules.specs.Calls.{question_types, impl_query, impl_within};

@@ -1,4 +1,6 @@
 // Built-in fork and drop, `find_auto_impls` of the Rust: what Fn, Default and closures have of themselves.
+#![tactic(auto)]
+
 ghost use Rattle.std.specs.Prelude.{◌≡◌, map, ◌/◌, ◌<◌};
 ghost use Rattle.rules.specs.Types.{kind, xor as xor-of};
 ghost use Rattle.rules.specs.Transfer.{type_of_word};
@@ -9,7 +11,7 @@ ghost use Rattle.auto.specs.Built.{leaves, set_leaf, own_leaf, auto_of};
 use chart::layout;
 
 // A tree without children, or none.
-#[derive(Drop)]
+#[derive(Clone, Copy)]
 pub enum Auto {
     Nothing,
     Leaf { kind: u32, id: u32 },

@@ -4,7 +4,7 @@
 pub const MARK: u32 = 2863311530;
 
 // The end of a call as it is stored: its number (0 answered), its count, and how many words its answer has.
-#[derive(Drop)]
+#[derive(Clone, Copy)]
 pub struct Stored {
     pub number: u32,
     pub count: u32,

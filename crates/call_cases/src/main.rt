@@ -2,6 +2,8 @@
 // call, on buffers full of marks. For each sitting it prints the spent count after each call; for each file how many calls there
 // are and how many are wrong in number, count, answer, or in what the buffers hold after, and how many calls got each number (0 for
 // an answer).
+#![tactic(auto)]
+
 mod compare;
 mod counts;
 mod reading;

@@ -3,14 +3,14 @@ use crate::compare::Stored;
 use crate::{compare, counts, reading};
 
 // Who asks in a sitting.
-#[derive(Drop)]
+#[derive(Clone, Copy)]
 struct Asker {
     source: u32,
     generics: u32,
 }
 
 // What a call came to: its number, and whether it is what is stored.
-#[derive(Drop)]
+#[derive(Clone, Copy)]
 struct Seen {
     number: u32,
     right: bool,

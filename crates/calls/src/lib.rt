@@ -1,5 +1,7 @@
 // The two calls of document 01, `try_find_impl` and `find_flex`, for every sheet, question, id, flag, count and buffer: entry checks first, which touch nothing;
 // then the checks of sheet and question, the search and the answer, in the workspace's first WORKSPACE words, which are zero at the end.
+#![tactic(auto)]
+
 ghost use Rattle.std.specs.Prelude.{◌≡◌, ◌≤◌, ◌<◌, eqb, ltb, length};
 ghost use Rattle.rules.specs.Limits.{limit_answer, limit_workspace, limit_steps};
 ghost use Rattle.rules.specs.Check.{refusal, impl_checks, flex_checks};
@@ -14,7 +16,7 @@ use closing::Ended;
 use steps::Finder;
 
 // What a call comes to: answered, or refused with a number of document 01; with the count of steps after it.
-#[derive(Drop)]
+#[derive(Clone, Copy)]
 pub enum Outcome {
     Answered { count: u32 },
     Refused { number: u32, count: u32 },

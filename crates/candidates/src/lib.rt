@@ -1,5 +1,7 @@
 // Which impls the sets of candidates admit for a source: nodes and edges, components, what a set admits (`finder/candidates.rs`).
 // `build` fills the part of the workspace that belongs to a source (34,948 words); `find::next_candidate` and `find::next_admitted` read it.
+#![tactic(auto)]
+
 ghost use Rattle.std.specs.Prelude.{◌≡◌, ◌*◌, ◌≤◌, ◌<◌, length};
 ghost use Rattle.rules.specs.Layout.{header_definitions};
 ghost use Rattle.rules.specs.Sheet.{many};

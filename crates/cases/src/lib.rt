@@ -1,4 +1,6 @@
 // Stored cases: little-endian words read from a descriptor, a case at a time. oracle/stored/README.md says how they are laid out.
+#![tactic(auto)]
+
 ghost use Rattle.std.specs.Prelude.{◌<◌};
 
 // A word of four bytes, the lowest first.

@@ -2,6 +2,8 @@
 // Plane k of a slice of n words is the n words of the workspace from k * n on. A walk marks the records that it passes with 1 in the plane
 // of their kind, so that a later walk stops where it meets one: 0 cells and the like, 1 type nodes, 2 impl parameters, 3 and 4 other
 // records of three and of four words. Definitions, generics and impls have one head each, in the header, and no marks.
+#![tactic(auto)]
+
 ghost use Rattle.std.specs.Prelude.{◌≡◌, ◌+◌, ◌*◌, ◌≤◌, ◌<◌, length};
 ghost use Rattle.rules.specs.Layout.{header_length, header_definitions, header_generics, header_impls, binding_length, member_length, definition_length, generics_length, impl_length};
 ghost use Rattle.rules.specs.Sheet.{at};

@@ -1,5 +1,7 @@
 // A sheet's fields by name, as document 01 and the Rust call them, each equal to its rule in crates/rules for every slice of
 // words and every id; and an index of the records of a chain, after which one read gives a record's place.
+#![tactic(auto)]
+
 ghost use Rattle.std.specs.Prelude.{◌≡◌, ◌+◌, ◌<◌, ◌≤◌, length};
 ghost use Rattle.rules.specs.Sheet.{at, chain, many, field, impl_flag};
 ghost use Rattle.rules.specs.Layout.{header_definitions, header_generics, header_traits, header_impls, header_opaques, header_structs, header_enums, header_unions, header_closures, header_imports, definition_parent, definition_trait_vis, definition_trait, definition_bindings, definition_named, definition_implicit, import_definition, generics_type_params, generics_table, generics_impl_params, trait_definition, trait_arity, trait_inherent, impl_generics, impl_flags, impl_trait, impl_table, impl_args, owner_definition, owner_self_dual, closure_flex};

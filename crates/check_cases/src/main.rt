@@ -1,4 +1,6 @@
 // Replays the stored cases of the files that its arguments name, and prints for each file how many cases it has, how many get each number from checks 1 to 13 (0 for those that pass), and how many get another than is stored.
+#![tactic(auto)]
+
 ghost use Rattle.std.specs.Prelude.{◌≤◌};
 
 use libc::STDOUT_FILENO;

@@ -1,4 +1,6 @@
 // Checks 1 to 13 in their order: the number of the first that refuses, 0 for none.
+#![tactic(auto)]
+
 ghost use Rattle.std.specs.Prelude.{◌≡◌, ◌<◌, ◌≤◌, not, [], ◌∷◌, ◌++◌, T, length};
 ghost use Rattle.rules.specs.Layout.{question_table};
 ghost use Rattle.rules.specs.Sheet.{at};

@@ -8,6 +8,8 @@
 // and otherwise those that were not linked to each other already. Walks are noted too: a type below which `cycles` found nothing is passed over by later walks.
 // Whatever the notes hold, a clash that is found is one, as what is passed over says nothing;
 // but a clash may be missed by them. So once a candidate for which one was used did not unify, the next are tested without notes, as long as that finds a clash.
+#![tactic(auto)]
+
 ghost use Rattle.std.specs.Prelude.{◌≡◌, ◌+◌, ◌-◌, ◌*◌, ◌/◌, ◌%◌, ◌<◌, ◌≤◌, ◌≢◌, false, length};
 ghost use Rattle.rules.specs.Sheet.{at, field, many};
 ghost use Rattle.rules.specs.Layout.{header_generics, header_impls, generics_table};

@@ -1,5 +1,7 @@
 // A call after its search: the last import of a result into the caller's types, the closing join, and the answer's words.
 // A result stands in a slot of a lent slice, a table and its trees; the caller's types in a table of their own.
+#![tactic(auto)]
+
 ghost use Rattle.std.specs.Prelude.{◌≡◌, ◌+◌, ◌≤◌, ◌||◌, map as map-list, length, drop, take};
 ghost use Rattle.std.proofs.Math.Option.{none};
 ghost use Rattle.rules.specs.Limits.{limit_answer, limit_tree_nodes};
@@ -28,7 +30,7 @@ use slots::Asked;
 use unify::UnifyResult;
 
 // What a call comes to behind its checks: 0 where it is answered, or the number of its refusal; and the count after.
-#[derive(Drop)]
+#[derive(Clone, Copy)]
 pub struct Ended {
     pub number: u32,
     pub count: u32,

@@ -1,4 +1,6 @@
 // A question and its sub-questions (`Finder` of the Rust) in one lent slice. A part of the slice has the table that is asked about in slot 0 and the results in slots 1 to 4.
+#![tactic(auto)]
+
 ghost use Rattle.std.specs.Prelude.{◌≡◌, ◌+◌, ◌-◌, ◌*◌, ◌<◌, ◌≤◌, eqb, ltb, length, drop};
 ghost use Rattle.rules.specs.Layout.{header_impls};
 ghost use Rattle.rules.specs.Sheet.{at, many};
@@ -52,7 +54,7 @@ const NODE: usize = 4;
 const STEPS: usize = 25;
 
 // Sub-questions in words.
-#[derive(Drop)]
+#[derive(Clone, Copy)]
 struct QueryRow {
     words: [u32; 25],
 }

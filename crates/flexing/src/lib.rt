@@ -1,5 +1,7 @@
 // The flex call behind its checks: 22 and 23, its four searches in turn, and what their results come to.
 // A search lends its part of the slice; the first result of each is kept aside, in a slot of its own.
+#![tactic(auto)]
+
 ghost use Rattle.std.specs.Prelude.{◌≡◌, false, ◌||◌, [], ◌∷◌, ◌/◌, ◌<◌, ◌≤◌, ltb, length, drop};
 ghost use Rattle.rules.specs.Limits.{limit_answer, limit_count};
 ghost use Rattle.rules.specs.Layout.{header_fork, question_type};
@@ -26,7 +28,7 @@ use steps::Finder;
 const DEPTH: usize = 16;
 
 // One of the four searches: the number that ends the call, or 0 and how many results there are; and the count after it.
-#[derive(Drop)]
+#[derive(Clone, Copy)]
 struct Turn {
     stop: u32,
     n: usize,

@@ -1,4 +1,6 @@
 // The lines of the listing program, as bytes: numbers in decimal, and for a source the impls that its general set admits.
+#![tactic(auto)]
+
 ghost use Rattle.std.specs.Prelude.{◌≡◌, [], ◌∷◌, ◌+◌, ◌≤◌, ◌<◌, length};
 ghost use Rattle.rules.specs.Listing.{decimal};
 ghost use Rattle.rules.specs.Layout.{header_definitions, header_impls};

@@ -1,5 +1,7 @@
 // The listing program: a sheet's little-endian words on standard input, and for each definition a line with the impls that its general set admits.
 // A refused sheet prints its number alone; bytes that are no whole words, or too many, print 1.
+#![tactic(auto)]
+
 ghost use Rattle.std.specs.Prelude.{◌≡◌, ◌≤◌, ◌<◌, length};
 ghost use Rattle.rules.specs.CheckLaws.{Checked};
 ghost use Rattle.candidates.specs.Layout.{candidates_length};

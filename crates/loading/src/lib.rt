@@ -1,4 +1,6 @@
 // A question before its search: its table packed into words, node by node, and what is asked in a table of its own.
+#![tactic(auto)]
+
 ghost use Rattle.std.specs.Prelude.{◌/◌, ◌≤◌, ◌<◌, [], ◌∷◌, ◌++◌, length};
 ghost use Rattle.rules.specs.Limits.{limit_nodes};
 ghost use Rattle.rules.specs.Sheet.{chain};

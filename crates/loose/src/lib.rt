@@ -1,6 +1,8 @@
 // Whether an unknown that meets its own inverse stays free: then the signature and the question do not unify.
 // `labels` has for each ref 0, which is not set, or 1 and the ref that stands for its class. At first they are what the links have; the others are set, once, as their parents are tested.
 // They are tested to be closed: known refs of one label have children of one label each; where they are not nothing is said.
+#![tactic(auto)]
+
 ghost use Rattle.std.specs.Prelude.{◌≡◌, ◌+◌, ◌%◌, ◌<◌, ◌≤◌, length};
 ghost use Rattle.rules.specs.Sheet.{at};
 ghost use Rattle.table.specs.Packing.{Packed};

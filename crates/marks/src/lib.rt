@@ -1,4 +1,6 @@
 // The chain rule for one record, wherever it stands.
+#![tactic(auto)]
+
 ghost use Rattle.std.specs.Prelude.{◌≡◌};
 ghost use Rattle.rules.specs.Chains.{record_keeps};
 

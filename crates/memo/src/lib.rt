@@ -2,6 +2,8 @@
 // It stands in a lent slice behind the marks of the walks, 256 for `occurs` and 256 for `self_inverse`: how many pairs there are, whether the table stands since the pair in hand was begun,
 // for each pair its place in the row, and the row. Nothing is asked of the places: a pair counts only where the row has it.
 // A slice may be short: what would lie past its end is not kept.
+#![tactic(auto)]
+
 ghost use Rattle.std.specs.Prelude.{◌≡◌, ◌+◌, ◌*◌, ◌<◌, set};
 ghost use Rattle.rules.specs.Sheet.{at};
 ghost use Rattle.memo.specs.Memo.{memo_count, memo_same, entry, Forgets, Starts, Recalls, Adds, Keeps, Ends};

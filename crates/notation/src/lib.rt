@@ -1,5 +1,7 @@
 // Words as text for a person, both ways: decimal words read from bytes (`read`), and what a call gave written as bytes into
 // a lent buffer (`tree`, `types`, `meaning`). Every function is total: what a full buffer has no room for is left out.
+#![tactic(auto)]
+
 pub mod meaning;
 pub mod read;
 pub mod tree;

@@ -2,7 +2,7 @@
 ghost use Rattle.std.specs.Prelude.{◌≤◌, length};
 
 // Where a reader stands: between words, in a word with its value so far, in a comment, or behind something that is no word.
-#[derive(Drop)]
+#[derive(Clone, Copy)]
 pub enum State {
     Between,
     Digits(u32),
@@ -11,7 +11,7 @@ pub enum State {
 }
 
 // A reader: where it stands, how many words it has, and its line, from 1.
-#[derive(Drop)]
+#[derive(Clone, Copy)]
 pub struct Reading {
     pub state: State,
     pub count: usize,
@@ -178,7 +178,7 @@ pub fn is_right(r: Reading) -> bool {
 }
 
 // A text that is one word, or is not.
-#[derive(Drop)]
+#[derive(Clone, Copy)]
 pub enum Parsed {
     Word(u32),
     Not,

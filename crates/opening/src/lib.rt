@@ -1,5 +1,7 @@
 // What a question does with one candidate impl before its sub-questions, and with one impl parameter: fresh unknowns, imports from the sheet, and the join
 // with the question. It is work on one lent type table; `places` and `map` are lent for the time of a call.
+#![tactic(auto)]
+
 ghost use Rattle.std.specs.Prelude.{◌≡◌, true, map as map-list, ◌+◌, ◌*◌, ◌<◌, ◌≤◌, length};
 ghost use Rattle.std.proofs.Math.Option.{none, some};
 ghost use Rattle.rules.specs.Layout.{header_generics, header_impls};
@@ -30,7 +32,7 @@ use chart::layout;
 use queries::{Queries, Query};
 
 // What an import and the join with the question come to: the table would pass its limit, they do not unify, or they do.
-#[derive(Drop)]
+#[derive(Clone, Copy)]
 pub enum Signed {
     Full,
     Unfit,

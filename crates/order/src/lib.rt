@@ -2,6 +2,8 @@
 // Types and refs are told in `refs`. `m` has four times 2,048 words, for each ref: its link, 0 for a root, or 1 and the type that the ref is; what was added to the size of a root's class;
 // where a root has its state from, 0 for itself, or 1 and a type; and a mark, if it was found to be its own inverse.
 // What a step comes to: 0, the rule fails; 1, it goes on, and `m` is of the table that is left; 2, nothing is said.
+#![tactic(auto)]
+
 ghost use Rattle.std.specs.Prelude.{◌≡◌, ◌≢◌, true, false, map, ◌+◌, ◌/◌, ◌%◌, ◌<◌, ◌≤◌, length};
 ghost use Rattle.rules.specs.Sheet.{at};
 ghost use Rattle.table.specs.Packing.{Packed};

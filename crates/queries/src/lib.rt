@@ -1,4 +1,6 @@
 // Questions in the code's words: one with its type words, and the sub-questions of a candidate.
+#![tactic(auto)]
+
 ghost use Rattle.std.specs.Prelude.{◌≡◌, ◌+◌, ◌<◌, ◌≤◌, length};
 ghost use Rattle.rules.specs.Sheet.{chain};
 ghost use Rattle.rules.specs.Transfer.{cell_types};
@@ -11,7 +13,7 @@ ghost use Rattle.queries.specs.Rows.{Put, Rowed, Cut, Unrowed};
 use chart::layout;
 
 // `ImplType`: a trait? and the first n of four type words.
-#[derive(Drop)]
+#[derive(Clone, Copy)]
 pub struct Query {
     pub tr: u32,
     pub n: usize,
@@ -19,7 +21,7 @@ pub struct Query {
 }
 
 // The first n of four sub-questions: trait?, how many type words, and four places for them.
-#[derive(Drop)]
+#[derive(Clone, Copy)]
 pub struct Queries {
     pub n: usize,
     pub trs: [u32; 4],

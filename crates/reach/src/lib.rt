@@ -1,6 +1,8 @@
 // How many nodes the import of a signature, or of an impl parameter of the caller's generics, adds to a table: counted once a call.
 // The nodes that the import makes are those that the arguments reach. They are marked and queued, from the arguments on: word n of `places` is the place of node n's record, and 0 once
 // the node is marked; the queue has the places of the records of marked nodes, and the number of marks is its end. A Param that is given is left out: the import makes no node for it.
+#![tactic(auto)]
+
 ghost use Rattle.std.specs.Prelude.{◌≡◌, ◌+◌, ◌*◌, ◌<◌, ◌≤◌, length};
 ghost use Rattle.rules.specs.Sheet.{at, chain};
 ghost use Rattle.queries.specs.Takes.{Taken};

@@ -1,6 +1,8 @@
 // Types of the question and of a signature, of a candidate or an impl parameter, by their refs: what is read of a ref, and links between types that are the same.
 // A type is twice a ref, and one more if it is inverted. Refs are read modulo 2,048: up to 255 roots of the question's table, from 256 on type parameters, from 1,024 on nodes of the signature's table by their records.
 // `links` has for each ref 0, or 1 and the type that the ref is, of the same class.
+#![tactic(auto)]
+
 ghost use Rattle.std.specs.Prelude.{◌≡◌, ◌+◌, ◌%◌};
 ghost use Rattle.table.specs.Packing.{Packed};
 ghost use Rattle.refs.specs.Refs.{place, KindOf, IdOf, side_of, type_side, apart as Apart-of, Bit, Alike};

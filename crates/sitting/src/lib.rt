@@ -1,4 +1,6 @@
 // A sitting: the steps spent so far, lent by `&mut` to each call; it stands for one `Finder` of the Rust. Two thin functions over the calls of `calls`, and the C interface with the count behind a pointer.
+#![tactic(auto)]
+
 ghost use Rattle.std.specs.Prelude.{◌≡◌, length};
 ghost use Rattle.rules.specs.Limits.{limit_steps};
 ghost use Rattle.rules.specs.Calls.{try_find_impl, find_flex};
@@ -8,13 +10,13 @@ ghost use Rattle.sitting.specs.Sits.{tally, tally_of, Sits};
 use calls::Outcome;
 
 #[repr(C)]
-#[derive(Drop)]
+#[derive(Clone, Copy)]
 pub struct Sitting {
     pub spent: u32,
 }
 
 // What a call comes to as two numbers: 0 where it is answered, and the count after it.
-#[derive(Drop)]
+#[derive(Clone, Copy)]
 pub struct Tally {
     pub number: u32,
     pub count: u32,

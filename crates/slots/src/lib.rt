@@ -1,5 +1,7 @@
 // Results of a search (`TypeCtx` of the Rust) in slots of one lent slice: a slot holds a type table and, behind it, trees of impls.
 // A question's part of the slice has the table that is asked about in slot 0 and its results in slots 1 to 4.
+#![tactic(auto)]
+
 ghost use Rattle.std.specs.Prelude.{◌≡◌, ◌+◌, ◌*◌, ◌<◌, ◌≤◌, length, drop};
 ghost use Rattle.rules.specs.Sheet.{at};
 ghost use Rattle.rules.specs.Search.{end, leaf};
@@ -22,14 +24,14 @@ const NODES: usize = 256;
 const RESULTS: usize = 4;
 
 // A result is added to those of a question, or refused with 16 or 17.
-#[derive(Drop)]
+#[derive(Clone, Copy)]
 pub enum Adding {
     Added,
     Refused { number: u32 },
 }
 
 // What a search answers: so many results, or a refusal; with the count of steps.
-#[derive(Drop)]
+#[derive(Clone, Copy)]
 pub enum Asked {
     Found { count: u32, n: usize },
     Refused { number: u32, count: u32 },

@@ -1,5 +1,7 @@
 // What a question does outside the cycle of the search: built-in fork and drop, the generics' impl parameters, its candidates one by one, and a candidate's sub-questions.
 // A question's part of the lent slice has the table that is asked about in slot 0 and its results in slots 1 to 4; behind slot 4 is room for one table more, and for sub-questions.
+#![tactic(auto)]
+
 ghost use Rattle.std.specs.Prelude.{◌≡◌, true, [], ◌+◌, ◌<◌, ◌≤◌, eqb, length, drop};
 ghost use Rattle.rules.specs.Layout.{header_impls};
 ghost use Rattle.rules.specs.Sheet.{at, many};
@@ -28,7 +30,7 @@ use queries::{Queries, Query};
 use slots::{Adding, Asked};
 
 // What a search keeps: its source and generics, and the step limit.
-#[derive(Drop)]
+#[derive(Clone, Copy)]
 pub struct Finder {
     pub source: usize,
     pub generics: usize,

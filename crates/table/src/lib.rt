@@ -1,5 +1,7 @@
 // A type table (`Types` of the Rust) in a lent slice of words. Only the functions of this file know where its words stand.
 // Types cross functions as type words: 2 * node, plus 1 if inverted.
+#![tactic(auto)]
+
 ghost use Rattle.std.specs.Prelude.{◌≡◌, false, ◌+◌, ◌*◌, ◌/◌, ◌%◌, ◌<◌, ◌≤◌, length, get_or, set, [], map, ◌≢◌, eqb};
 ghost use Rattle.rules.specs.Sheet.{at};
 ghost use Rattle.rules.specs.Lists.{bit};
@@ -163,7 +165,7 @@ pub fn child(ws: &[u32], n: u32, j: usize) -> u32
 }
 
 // The first n of eight types; n is 9 where they are not told.
-#[derive(Drop)]
+#[derive(Clone, Copy)]
 pub struct Row {
     pub n: usize,
     pub types: [u32; 8],

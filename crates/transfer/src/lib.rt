@@ -1,6 +1,8 @@
 // `TypeTransfer` of the Rust: types moved from one table to another, with all that they reach.
 // The source is packed words or the records of a chain (source.rt); the table that is filled is packed. The mapping has a word for each node
 // of the source: 0, or 1 and the type word of what it became. Where parameters are given (`with`), a Param is the type in its place.
+#![tactic(auto)]
+
 ghost use Rattle.std.specs.Prelude.{true, false, map as map-list, suc, ◌+◌, ◌*◌, ◌/◌, ◌<◌, ◌≤◌, length, take};
 ghost use Rattle.rules.specs.Sheet.{at};
 ghost use Rattle.rules.specs.Slim.{Slim};

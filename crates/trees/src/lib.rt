@@ -1,5 +1,7 @@
 // Trees of impls (`TirImpl` of the Rust) in a lent slice of words, for the results of a search: a count of nodes, and a word for each, in pre-order.
 // Only the functions of this file know where the words stand.
+#![tactic(auto)]
+
 ghost use Rattle.std.specs.Prelude.{◌≡◌, ◌+◌, ◌*◌, ◌<◌, ◌≤◌, length};
 ghost use Rattle.rules.specs.Sheet.{at};
 ghost use Rattle.rules.specs.Limits.{limit_tree_nodes};

@@ -1,5 +1,7 @@
 // Replays the stored cases of the file that its argument names, steps on two type tables, and prints how many cases it has, how many steps give something else than
 // the Rust gave, and how many steps there are of each kind.
+#![tactic(auto)]
+
 ghost use Rattle.std.specs.Prelude.{◌≤◌, length};
 ghost use Rattle.type_cases.specs.Sound.{Sound};
 

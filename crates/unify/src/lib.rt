@@ -1,5 +1,7 @@
 // `unify` of the Rust, over a type table in words. All pairs of children are tried, even after a failure (`whole`), with a memo of those that did not succeed;
 // or, where only success counts, none after the first that does not succeed. Layers as in the rules: roots, then what they are, then two known types, then their children.
+#![tactic(auto)]
+
 ghost use Rattle.std.specs.Prelude.{◌≡◌, true, false, not, ◌&&◌, ◌||◌, List, [], ◌∷◌, map, suc, ◌/◌, ◌<◌, ◌≤◌, eqb, length, get_or};
 ghost use Rattle.rules.specs.Sheet.{kind_flag, row_may_meet};
 ghost use Rattle.rules.specs.Types.{invert_if, occurs, self_inverse as inverse-of, success, last_of, state_at, and as and-of, from_bool, unify_each as each_of, unify_children as children_of, bind_unknown as bind-of, join_on_success as success-of, unify_states as states-of, unify_roots as roots-of, unify_in, unify_types as types-unified, unify as unify-of, unify_impl_type as impl-type-unified, approx_eq as approx-of, Ty};
@@ -16,7 +18,7 @@ ghost use Rattle.unify.specs.Trying.{Ready, Fuelled, Noted, Binds, Met, Went, Le
 
 use chart::{kinds, layout};
 
-#[derive(Drop)]
+#[derive(Clone, Copy)]
 pub enum UnifyResult {
     Success,
     Failure,

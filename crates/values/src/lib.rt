@@ -1,6 +1,8 @@
 // 8 and 12: every value of every record is in range and within its limit, in time that goes with the slice's length whatever chains share.
 // Planes of the workspace hold what is noted of the chain from each place (limits::PLANE words each): its length, and the most that its
 // records ask for. A test of a whole chain is then one read.
+#![tactic(auto)]
+
 ghost use Rattle.std.specs.Prelude.{◌≡◌, ◌≤◌, T, length};
 ghost use Rattle.rules.specs.Limits.{limit_sheet};
 ghost use Rattle.rules.specs.Chains.{sheet_keeps, impl_question_keeps, flex_question_keeps};

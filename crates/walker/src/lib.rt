@@ -1,9 +1,11 @@
 // A walker: it stands on one record of a chain and carries the sheet with it. Each function over it is thin: it takes the walker apart, and a covered function on the slice and the place does the work.
 // Every reader is total, as in `words`: past the end a word is 0 and a record is empty.
+#![tactic(auto)]
+
 ghost use Rattle.std.specs.Prelude.{◌≡◌, ◌+◌, eqb};
 ghost use Rattle.rules.specs.Sheet.{at as word_at, record_words, chain};
 
-#[derive(Drop)]
+#[derive(Clone, Copy)]
 pub struct Walker<'a> {
     pub sheet: &'a [u32],
     pub at: usize,

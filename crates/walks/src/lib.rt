@@ -1,4 +1,6 @@
 // Walks down a type table: `occurs`, `self_inverse` and `get_mod`. The first two visit a shared node once: a node that is finished is marked, in a lent word of its own.
+#![tactic(auto)]
+
 ghost use Rattle.std.specs.Prelude.{◌≡◌, ◌/◌, ◌<◌, ◌≤◌, length};
 ghost use Rattle.rules.specs.Types.{occurs as occurs-of, self_inverse};
 ghost use Rattle.rules.specs.Transfer.{type_of_word};
@@ -162,7 +164,7 @@ pub fn self_inverse(s: &[u32], ws: &[u32], marks: &mut [u32], t: u32) -> bool
 }
 
 // What `get_mod` comes to: no module, a module by its definition, or an Error type (19).
-#[derive(Drop)]
+#[derive(Clone, Copy)]
 pub enum Module {
     Nowhere,
     Within(usize),

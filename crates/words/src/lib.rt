@@ -1,5 +1,7 @@
 // Words of a lent slice: the word at a place, a record as a part of the slice, the records of a chain by their position,
 // clearing and copying. Every reader is total: past the end a word is 0 and a record is empty.
+#![tactic(auto)]
+
 ghost use Rattle.std.specs.Prelude.{◌≡◌, ◌+◌, length};
 ghost use Rattle.rules.specs.Sheet.{at, record_words, chain};
 ghost use Rattle.rules.specs.Layout.{node_length};
