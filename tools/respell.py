@@ -123,6 +123,21 @@ def turned(text, rows):
     return '\n'.join(out)
 
 
+def own(text, rows):
+    """The rows for a file: not those of a name that it brings from a library, and those of the names that it gives itself."""
+    brought = set()
+    for module, items in re.findall(r'use (\S+?)\.\{([^}]*)\}', text):
+        crate = re.match(r'Rattle\.(\w+)', module)
+        if not crate or not os.path.isdir(f'crates/{crate[1]}'):
+            brought.update(item.strip().split(' as ')[0] for item in items.split(','))
+    rows = {a: b for a, b in rows.items() if a not in brought}
+    for items in re.findall(r'use \S+?\.\{([^}]*)\}', text):
+        for alias in re.findall(rf' as ({WORD})', items):
+            if '-' in alias:
+                rows[alias] = alias.replace('-', '_')
+    return rows
+
+
 def source(text, rows):
     """A source file: its ghost imports, clauses and ghost members alone."""
     spans = []
@@ -237,13 +252,13 @@ def main():
         glob.glob('crates/*/proofs/**/*.antt', recursive=True)
     ):
         text = read(path)
-        new = turned(text, rows)
+        new = turned(text, own(text, rows))
         if new != text:
             with open(path, 'w', encoding='utf-8') as f:
                 f.write(new)
     for path in sorted(glob.glob('crates/*/src/**/*.rt', recursive=True)):
         text = read(path)
-        new = source(text, rows)
+        new = source(text, own(text, rows))
         if new != text:
             with open(path, 'w', encoding='utf-8') as f:
                 f.write(new)

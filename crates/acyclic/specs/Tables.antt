@@ -1,6 +1,6 @@
 -- Whole tables: the places of a table's nodes in a buffer, the walks down from each node, the tables of a chain, of a sheet and of a question; and what of a buffer a check may change.
 use Rattle.std.specs.Prelude.{ℕ, zero, suc, ◌+◌, ◌-◌, ◌≤◌, ◌<◌, ◌≡◌, refl, Bool, true, false, List, [], ◌∷◌, ◌++◌, ◌≢◌, T, set, take}
-use Rattle.std.proofs.Common.{sym, ◌∙◌, ap, subst, append_assoc, append_nil, inr, ⊎_elim, not-suc-le-zero, le_of_suc-le-suc, add-one, length-take-le, take-suc-set, get_or-take, below_more}
+use Rattle.std.proofs.Common.{sym, ◌∙◌, ap, subst, append_assoc, append-nil, inr, ⊎_elim, not-suc-le-zero, le_of_suc-le-suc, add-one, length-take-le, take-suc-set, get_or-take, below_more}
 use Rattle.std.proofs.Math.Nat.{sub-zero}
 use native.Mathlib.Omega.{arith}
 use Rattle.std.proofs.Math.ListN.{length}
@@ -29,7 +29,7 @@ list_start s ws h = ap (λ k. chain_of k s h) (sub-zero (length s))
 module _ (s : Words) (h : ℕ) (ws₀ ws : Words) (n p : ℕ) where
   list_done : n ≤ length s → length s ≤ length ws₀ → length ws ≡ length ws₀ → chain_of (length s - n) s p ≡ [] → take n ws ++ chain_of (length s - n) s p ≡ chain s h → Listed s h ws n
   list_done l k q e v =
-      let z : take n ws ≡ chain s h = sym (append_nil (take n ws)) ∙ ap (λ us. take n ws ++ us) (sym e) ∙ v in
+      let z : take n ws ≡ chain s h = sym (append-nil (take n ws)) ∙ ap (λ us. take n ws ++ us) (sym e) ∙ v in
       record { count = sym (length-take-le n ws (omega arith)) ∙ ap length z; room = omega arith; places = z }
 
   pub list_end : n ≤ length s → length s ≤ length ws₀ → length ws ≡ length ws₀ → p ≡ 0 → take n ws ++ chain_of (length s - n) s p ≡ chain s h → Listed s h ws n

@@ -1,9 +1,9 @@
 -- A walk down a table. Word n of its buffer is the place of node n until the node is finished, and 0 from then on; a node is finished after its children.
 use Rattle.std.specs.Prelude.{ℕ, zero, suc, ◌-◌, ◌≤◌, ◌<◌, ◌≡◌, refl, Bool, true, false, [], ◌∷◌, ◌⊎◌, ◌≢◌, eqb, length, set}
-use Rattle.std.proofs.Common.{sym, ◌∙◌, ap, subst, inl, inr, ⊎_elim, arith, length-set, get_or-set_same, get_or-set_other, eqb_true}
+use Rattle.std.proofs.Common.{sym, ◌∙◌, ap, subst, inl, inr, ⊎_elim, arith, length-set, get_or-set_same, get_or-set_other, eqb-true}
 use Rattle.std.proofs.Math.Nat.{suc-sub-suc, sub-zero}
 use Rattle.std.proofs.Math.Seq.{set_out}
-use Rattle.std.proofs.lemmas.Bool.{eqb_false}
+use Rattle.std.proofs.lemmas.Bool.{eqb-false}
 use Rattle.rules.specs.Lists.{Words}
 use Rattle.rules.specs.Sheet.{at, chain, chain_of}
 use Rattle.rules.specs.Transfer.{table}
@@ -37,8 +37,8 @@ same_or : (m n : ℕ) → (m ≡ n) ⊎ (m ≢ n)
 same_or m n = go (eqb m n) refl
   where
     go : (b : Bool) → eqb m n ≡ b → (m ≡ n) ⊎ (m ≢ n)
-    go true e = inl (eqb_true m n e)
-    go false e = inr (eqb_false m n e)
+    go true e = inl (eqb-true m n e)
+    go false e = inr (eqb-false m n e)
 
 pub no_more : (left : ℕ) (s : Words) → chain_of left s 0 ≡ []
 unfolding chain_of

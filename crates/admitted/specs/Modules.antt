@@ -1,7 +1,7 @@
 -- The modules of the inherent arguments, as nodes that are written one behind the other. A node that is none of the sheet's is left out: no set is its own.
 use Rattle.std.specs.Prelude.{ℕ, zero, suc, ◌+◌, ◌*◌, ◌/◌, ◌≤◌, ◌<◌, ◌≡◌, Bool, true, false, ◌≢◌, List, [], ◌∷◌, ◌++◌, map, ltb, length, get_or, set, take, drop}
 use Rattle.std.proofs.Math.Path.{refl, sym, ap}
-use Rattle.std.proofs.Common.{◌∙◌, subst, append_assoc, append_nil, add-one, arith, drop_of_length-le, take_all, take_at, length-take-le, drop-cons, lt-ltb, le-ltb}
+use Rattle.std.proofs.Common.{◌∙◌, subst, append_assoc, append-nil, add-one, arith, drop_of_length-le, take_all, take_at, length-take-le, drop-cons, lt-ltb, le-ltb}
 use Rattle.std.proofs.Math.Seq.{take-length}
 use Rattle.std.proofs.lemmas.List.{set_split}
 use Rattle.rules.specs.Lists.{Words, select}
@@ -70,7 +70,7 @@ put_in count d n v ws h l e = record {
 
 pub put_past : (count d n : ℕ) (ws : Words) → count ≤ d → Puts count d n ws ws n
 unfolding kept select
-put_past count d n ws h = record { row = sym (append_nil (take n ws)) ∙ ap (λ (xs : Words). take n ws ++ xs) (sym (kept-none count (within_def d) [] (omega arith))); up = omega arith }
+put_past count d n ws h = record { row = sym (append-nil (take n ws)) ∙ ap (λ (xs : Words). take n ws ++ xs) (sym (kept-none count (within_def d) [] (omega arith))); up = omega arith }
 
 -- The module of an inherent argument; an unknown one is 18.
 unfoldable pub inherent_mod : Words → Types → Ty → Run Words
@@ -140,7 +140,7 @@ module _ (s ws : Words) (t k root : ℕ) (er : root ≡ rep (types_of ws) (t / 2
 
     pub module_nowhere : m ≡ Nowhere → Gathers (inherent_mod s (types_of ws) (type_of_word t)) count 1 n ns ns (Written n)
     unfolding nodes_run behind ◌>>=◌ module_of kept select
-    module_nowhere e = record { is = ap {B = Run Words} done (sym (append_nil (take n ns))) ∙ ap (behind count (take n ns)) (comes Nowhere e); few = λ j q. omega (arith, written_same q); real = λ j q. absurd (not_refused q) }
+    module_nowhere e = record { is = ap {B = Run Words} done (sym (append-nil (take n ns))) ∙ ap (behind count (take n ns)) (comes Nowhere e); few = λ j q. omega (arith, written_same q); real = λ j q. absurd (not_refused q) }
 
     pub module_within : (d r : ℕ) (us : Words) → m ≡ Within d → Puts count d n ns us r → Gathers (inherent_mod s (types_of ws) (type_of_word t)) count 1 n ns us (Written r)
     unfolding nodes_run behind ◌>>=◌ module_of
@@ -238,7 +238,7 @@ module _ (s : Words) (ts : Types) (args : Words) (count n₀ n k : ℕ) (ws us v
 pub gather_end : (s : Words) (ts : Types) (args : Words) (count n₀ n k : ℕ) (ws us : Words) → Gathering s ts args count n₀ n k ws us → length args ≤ k → k ≤ length args → Gathers (inherent_mods s ts (map type_of_word args)) count (length args) n₀ ws us (Written n)
 unfolding nodes_run behind inherent_mods ◌>>=◌ kept select
 gather_end s ts args count n₀ n k ws us g h u = record {
-  is = ap {B = Run Words} done (sym (append_nil (take n us))) ∙ sym (g.rest ∙ ap (λ (l : Words). behind count (take n us) (inherent_mods s ts (map type_of_word l))) (drop_of_length-le args h));
+  is = ap {B = Run Words} done (sym (append-nil (take n us))) ∙ sym (g.rest ∙ ap (λ (l : Words). behind count (take n us) (inherent_mods s ts (map type_of_word l))) (drop_of_length-le args h));
   few = λ m e. omega (arith, written_same e, g.few);
   real = λ j q. absurd (not_refused q);
 }

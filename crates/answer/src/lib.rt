@@ -4,7 +4,7 @@
 ghost use Rattle.std.specs.Prelude.{◌≡◌, [], ◌∷◌, ◌+◌, ◌-◌, ◌*◌, ◌<◌, ◌≤◌, min, length};
 ghost use Rattle.rules.specs.Sheet.{at};
 ghost use Rattle.rules.specs.Limits.{limit_answer, limit_nodes, limit_tree_nodes};
-ghost use Rattle.rules.specs.Lists.{bit as bit-of};
+ghost use Rattle.rules.specs.Lists.{bit as bit_of};
 ghost use Rattle.rules.specs.AcyclicLaws.{children_at};
 ghost use Rattle.rules.specs.Answer.{pack_cells};
 ghost use Rattle.table.specs.Packing.{types_of, kind_at, inverted_at, id_at};
@@ -61,7 +61,7 @@ fn put_node(out: &mut [u32], p: usize, next: u32, kind: u32, inverted: u32, id: 
 
 // A flag as a word.
 fn bit(b: bool) -> u32
-    ensures { result ≡ bit-of b }
+    ensures { result ≡ bit_of b }
 {
     if b { 1 } else { 0 }
 }
@@ -101,7 +101,7 @@ fn pack_cells(table: &[u32], n: u32, out: &mut [u32], p: usize)
 // Writes the record of node n, with a next and a child head.
 fn put_state(table: &[u32], n: u32, next: u32, child: u32, out: &mut [u32], p: usize)
     requires { p + 5 ≤ length out.old }
-    ensures { Wrote out.old out.new p (next ∷ kind_at (types_of table.now) n ∷ bit-of (inverted_at (types_of table.now) n) ∷ id_at (types_of table.now) n ∷ child ∷ []) }
+    ensures { Wrote out.old out.new p (next ∷ kind_at (types_of table.now) n ∷ bit_of (inverted_at (types_of table.now) n) ∷ id_at (types_of table.now) n ∷ child ∷ []) }
 {
     let kind = table::kind_of(table, n);
     let inverted = table::inverted_of(table, n);
@@ -114,7 +114,7 @@ fn put_record(table: &[u32], n: u32, left: usize, k: usize, out: &mut [u32], p: 
     requires p_in_bounds { p + 21 ≤ length out.old }
     requires p_bound { p < 16384 }
     requires k_bound { k ≤ 8 }
-    ensures { Wrote out.old out.new p (link_of left (p + 5 + 2 * k) ∷ kind_at (types_of table.now) n ∷ bit-of (inverted_at (types_of table.now) n) ∷ id_at (types_of table.now) n ∷ link_of k (p + 5) ∷ []) }
+    ensures { Wrote out.old out.new p (link_of left (p + 5 + 2 * k) ∷ kind_at (types_of table.now) n ∷ bit_of (inverted_at (types_of table.now) n) ∷ id_at (types_of table.now) n ∷ link_of k (p + 5) ∷ []) }
 {
     let cells = p + layout::NODE_LENGTH;
     let next = link(left, cells + layout::CELL_LENGTH * k);

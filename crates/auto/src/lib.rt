@@ -2,7 +2,7 @@
 #![tactic(auto)]
 
 ghost use Rattle.std.specs.Prelude.{◌≡◌, map, ◌/◌, ◌<◌};
-ghost use Rattle.rules.specs.Types.{kind, xor as xor-of};
+ghost use Rattle.rules.specs.Types.{kind, xor as xor_of};
 ghost use Rattle.rules.specs.Transfer.{type_of_word};
 ghost use Rattle.rules.specs.Search.{find_auto_impl, find_auto_impls};
 ghost use Rattle.table.specs.Packing.{types_of, inverted_at};
@@ -79,7 +79,7 @@ fn auto_of(s: &[u32], h: usize, bit: usize, tree: u32, kind: u32, inverted: bool
 
 // Whether what the root of a type is, is inverted in the type.
 fn inversion(table: &[u32], u: u32) -> bool
-    ensures { result ≡ xor-of (type_of_word u).0 (inverted_at (types_of table.now) (u / 2)) }
+    ensures { result ≡ xor_of (type_of_word u).0 (inverted_at (types_of table.now) (u / 2)) }
 {
     let flipped = table::is_inverted(u);
     let inverted = table::inverted_of(table, u / 2);

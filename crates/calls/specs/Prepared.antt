@@ -1,6 +1,6 @@
 -- What a call that passed its checks prepares for its search: the candidate sets of its source, and behind them what imports take.
 use Rattle.std.specs.Prelude.{ℕ, ◌-◌, ◌≤◌, ◌<◌, ◌≡◌, [], ◌++◌, take, drop, replicate}
-use Rattle.std.proofs.Common.{sym, ◌∙◌, ap, append_nil, le_refl, arith, drop_of_length-le, length-drop, length-take-le, take_at, drop_at}
+use Rattle.std.proofs.Common.{sym, ◌∙◌, ap, append-nil, le_refl, arith, drop_of_length-le, length-drop, length-take-le, take_at, drop_at}
 use Rattle.std.proofs.Math.Path.{subst}
 use Rattle.std.proofs.Math.ListN.{length}
 use Rattle.std.proofs.lemmas.List.{length-replicate}
@@ -62,7 +62,7 @@ module _ (n : ℕ) (xs zs : Words) (h : n ≤ length xs) where
   none = let few : length (drop n xs) ≤ length xs - n = omega (arith, length-drop n xs) in drop_of_length-le (drop n xs) few
 
   rest_is : drop n (put_mid n (length xs - n) xs zs) ≡ zs
-  rest_is = drop_at (take n xs) (zs ++ post_of n (length xs - n) xs) n (length-take-le n xs h) ∙ ap (λ (l : Words). zs ++ l) none ∙ append_nil zs
+  rest_is = drop_at (take n xs) (zs ++ post_of n (length xs - n) xs) n (length-take-le n xs h) ∙ ap (λ (l : Words). zs ++ l) none ∙ append-nil zs
 
   rest_long : length zs ≡ length (mid_of n (length xs - n) xs) → length (put_mid n (length xs - n) xs zs) ≡ length xs
   rest_long e = same_len_mid n (length xs - n) xs zs e

@@ -1,11 +1,11 @@
 -- The whole calls: turned away at entry, or what they come to behind it.
 use Rattle.std.specs.Prelude.{ℕ, ◌+◌, ◌-◌, ◌≤◌, ◌<◌, ◌≡◌, refl, Bool, true, false, not, ◌||◌, ◌≢◌, List, [], ◌∷◌, ◌++◌, T, eqb, ltb, leb, length, get_or, take, drop, replicate}
 use Rattle.std.proofs.Math.Path.{sym, ap}
-use Rattle.std.proofs.Common.{◌∙◌, subst, append_nil, append_assoc, drop_of_length-le, length-take-le, eq-eqb, ne_eqb, eqb_true}
+use Rattle.std.proofs.Common.{◌∙◌, subst, append-nil, append_assoc, drop_of_length-le, length-take-le, eq-eqb, ne_eqb, eqb-true}
 use Rattle.std.proofs.Math.Option.{Option, none, some}
 use native.Mathlib.Omega.{arith}
 use Rattle.std.proofs.Math.Dec.{nltb→le}
-use Rattle.std.proofs.lemmas.Bool.{eqb_false}
+use Rattle.std.proofs.lemmas.Bool.{eqb-false}
 use borrow.Rule.Slice.PartMut.{put_mid, post_of}
 use Rattle.rules.specs.Lists.{Words}
 use Rattle.rules.specs.Limits.{limit_sheet, limit_question, limit_answer, limit_workspace, limit_count, limit_steps}
@@ -39,7 +39,7 @@ ended_refused r e = sym (rw (ne_eqb r.number 0 e, ended_of) refl)
 -- What is put back before the rest of the workspace.
 pub put_back : (n : ℕ) (work ys zs : Words) → n ≤ length work → length ys ≡ n → zs ≡ cleared n ys → put_mid 0 n work zs ≡ replicate n 0 ++ drop n work
 put_back n work ys zs h l e =
-    ap (λ (x : Words). x ++ post_of 0 n work) (e ∙ cleared_front n ys (omega arith) ∙ ap (λ (x : Words). replicate n 0 ++ x) (let few : length ys ≤ n = omega arith in drop_of_length-le ys few) ∙ append_nil (replicate n 0))
+    ap (λ (x : Words). x ++ post_of 0 n work) (e ∙ cleared_front n ys (omega arith) ∙ ap (λ (x : Words). replicate n 0 ++ x) (let few : length ys ≤ n = omega arith in drop_of_length-le ys few) ∙ append-nil (replicate n 0))
 
 -- The outcome of a call behind its checks is that of the rules.
 ended_is : (o : Out Words × ℕ) (buf out : Words) (r : Ended) → Ends o buf out r → ended_of r ≡ outcome_of o
@@ -52,9 +52,9 @@ ended_is o buf out r x = go (eqb r.number 0) refl
         rw (e, ended_of) (ap Ok x.count ∙ sym (ap (λ (y : Out Words). outcome_of (y, o.1)) a.is))
       where
         eqb_so : eqb r.number 0 ≡ true → r.number ≡ 0
-        eqb_so p = eqb_true r.number 0 p
+        eqb_so p = eqb-true r.number 0 p
     go false e =
-        let z = x.closed.refuses (eqb_false r.number 0 e) in
+        let z = x.closed.refuses (eqb-false r.number 0 e) in
         rw (e, ended_of) (ap (λ c. Refused r.number c) x.count ∙ sym (ap (λ (y : Out Words). outcome_of (y, o.1)) z))
 
 module _ (s q : Words) (source generics basic : ℕ) (buf work : Words) (count n : ℕ) (e : n ≡ number (entry s q (length buf) (length work) count)) where

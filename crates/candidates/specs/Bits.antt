@@ -1,13 +1,13 @@
 -- Bits of words, and rows of bits: bit j of the row at place p is bit j % 32 of word p + j / 32. What setting a bit and joining two rows make of a buffer.
 use Rattle.std.specs.Prelude.{ℕ, zero, suc, ◌+◌, ◌*◌, ◌-◌, ◌/◌, ◌%◌, ◌^◌, ◌≤◌, ◌<◌, max, ◌≡◌, refl, Bool, true, false, not, ◌||◌, List, [], ◌∷◌, ◌⊎◌, ◌≢◌, T, eqb, length, get_or, set}
-use Rattle.std.proofs.Common.{sym, ◌∙◌, ap, ap₂, subst, inl, inr, ⊎_elim, add-one, le_refl, not-suc-le-zero, le_of_suc-le-suc, zero-lt-suc, mod-lt, one-mul, mod-eq_of_lt, pow-suc, arith, length-set, pow_pos, pow-add, Fits, eq-eqb, ne_eqb, eqb_true}
+use Rattle.std.proofs.Common.{sym, ◌∙◌, ap, ap₂, subst, inl, inr, ⊎_elim, add-one, le_refl, not-suc-le-zero, le_of_suc-le-suc, zero-lt-suc, mod-lt, one-mul, mod-eq_of_lt, pow-suc, arith, length-set, pow_pos, pow-add, Fits, eq-eqb, ne_eqb, eqb-true}
 use Rattle.std.proofs.Math.Nat.{div-eq_of_lt}
 use Rattle.std.specs.Int.Bits.{bit_or, or_step, or_add_and}
 use Rattle.std.proofs.lemmas.Nat.{or_shr, or_lt, and_le_r, shl-shr}
 use Rattle.std.proofs.Math.Pow.{pow-lt}
 use Rattle.std.proofs.lemmas.List.{set-get_or}
 use Rattle.std.specs.Int.{w32}
-use Rattle.std.proofs.lemmas.Bool.{eqb_false}
+use Rattle.std.proofs.lemmas.Bool.{eqb-false}
 use Rattle.rules.specs.Lists.{Words}
 use Rattle.rules.specs.Sheet.{at}
 
@@ -137,10 +137,10 @@ moved_more ws us changed p x h f g m = go changed (eqb new old) refl m
     new = bit_or (at us p) x
 
     same : eqb new old ≡ true → set us p new ≡ us
-    same e = ap (λ v. set us p v) (eqb_true new old e) ∙ set-get_or us p 0
+    same e = ap (λ v. set us p v) (eqb-true new old e) ∙ set-get_or us p 0
 
     lower : eqb new old ≡ false → slack (set us p new) < slack us
-    lower e = slack-set us p new h (omega (arith, or_grows old x, eqb_false new old e)) (or_lt 32 old x f.fits g.fits)
+    lower e = slack-set us p new h (omega (arith, or_grows old x, eqb-false new old e)) (or_lt 32 old x f.fits g.fits)
 
     go : (r b : Bool) → eqb new old ≡ b → Moved ws us r → Moved ws (set us p new) (r || not b)
     go true true e k = record { still = λ z. absurd (subst T z tt); fell = λ z. subst (λ l. slack l < slack ws) (sym (same e)) (k.fell refl) }

@@ -1,8 +1,8 @@
 -- Candidates by id from the sets that stand in the workspace. The ids that are found one after the other are the lists of the rules.
 use Rattle.std.specs.Prelude.{ℕ, zero, suc, ◌+◌, ◌*◌, ◌-◌, ◌/◌, ◌%◌, ◌≤◌, ◌<◌, ◌≡◌, refl, Bool, true, false, not, ◌||◌, ◌&&◌, List, [], ◌∷◌, ◌⊎◌, ◌↔◌, ◌≢◌, T, eqb, leb, length, get_or, drop}
-use Rattle.std.proofs.Common.{sym, ◌∙◌, ap, ap₂, subst, inl, inr, ⊎_elim, not-suc-le-zero, le_of_suc-le-suc, add-one, arith, leb→le, le→leb, eqb→eq, drop_of_length-le, drop-cons, eqb_true, eq-eqb, ne_eqb}
+use Rattle.std.proofs.Common.{sym, ◌∙◌, ap, ap₂, subst, inl, inr, ⊎_elim, not-suc-le-zero, le_of_suc-le-suc, add-one, arith, leb→le, le→leb, eqb→eq, drop_of_length-le, drop-cons, eqb-true, eq-eqb, ne_eqb}
 use Rattle.std.proofs.Math.Dec.{eqb_refl}
-use Rattle.std.proofs.lemmas.Bool.{eqb_false}
+use Rattle.std.proofs.lemmas.Bool.{eqb-false}
 use Rattle.rules.specs.Lists.{Words, any, select, is_in}
 use Rattle.rules.specs.Layout.{header_definitions, header_impls, flag_basic}
 use Rattle.rules.specs.Limits.{limit_impls}
@@ -263,8 +263,8 @@ looking_on : (f : ℕ → Bool) (from i : ℕ) (r : Bool) → r ≡ f i → r �
 looking_on f from i r e g l = record { up = omega (arith, l.up); none = λ k h j. go k h j (eqb k i) refl }
   where
     go : (k : ℕ) → from ≤ k → k < i + 1 → (b : Bool) → eqb k i ≡ b → f k ≡ false
-    go k h j true q = ap f (eqb_true k i q) ∙ sym e ∙ g
-    go k h j false q = l.none k h (omega (arith, eqb_false k i q))
+    go k h j true q = ap f (eqb-true k i q) ∙ sym e ∙ g
+    go k h j false q = l.none k h (omega (arith, eqb-false k i q))
 
 looking_found : (f : ℕ → Bool) (from n i : ℕ) (r : Bool) → r ≡ f i → r ≡ true → Looking f from i → First f from n i
 looking_found f from n i r e g l = record { up = l.up; below = λ k h j m. l.none k h j; here = λ h. sym e ∙ g }

@@ -1,9 +1,9 @@
 -- The index of a chain in the workspace: at its base the count of the chain's records, then the place of each.
 use Rattle.std.specs.Prelude.{ℕ, zero, suc, ◌+◌, ◌*◌, ◌-◌, ◌≤◌, ◌<◌, ◌≡◌, refl, Bool, true, false, List, [], ◌∷◌, ◌⊎◌, ◌≢◌, T, ltb, eqb, length, set}
-use Rattle.std.proofs.Common.{sym, ◌∙◌, ap, ap₂, subst, inl, inr, ⊎_elim, not-suc-le-zero, le_refl, zero-add, add-zero, add-one, arith, length-set, get_or-set_same, get_or-set_other, lt-ltb, le-ltb, ltb-true, ltb-false, eqb_true}
+use Rattle.std.proofs.Common.{sym, ◌∙◌, ap, ap₂, subst, inl, inr, ⊎_elim, not-suc-le-zero, le_refl, zero-add, add-zero, add-one, arith, length-set, get_or-set_same, get_or-set_other, lt-ltb, le-ltb, ltb-true, ltb-false, eqb-true}
 use Rattle.std.proofs.Math.Nat.{sub-zero}
 use Rattle.std.proofs.Math.ListN.{get_or-eq_default}
-use Rattle.std.proofs.lemmas.Bool.{eqb_false}
+use Rattle.std.proofs.lemmas.Bool.{eqb-false}
 use Rattle.rules.specs.Lists.{Words}
 use Rattle.rules.specs.Layout.{header_definitions, header_traits, header_impls, header_imports}
 use Rattle.rules.specs.ChainLaws.{chain_short}
@@ -62,10 +62,10 @@ listed_more s head base k i j v ws us hi h fits f e₀ l = record {
       where
         go : (b : Bool) → eqb d k ≡ b → at (set us (base + k) i) (base + d) ≡ at (chain s head) d
         go true q =
-            let r : d ≡ k = eqb_true d k q in
+            let r : d ≡ k = eqb-true d k q in
             ap (λ z. at (set us (base + k) i) (base + z)) r ∙ get_or-set_same us (base + k) i 0 (omega arith)
             ∙ sym (ap (λ z. at z 0) cons) ∙ l.rest 0 ∙ ap (at (chain s head)) (let z : k + 0 ≡ d = omega arith in z)
-        go false q = get_or-set_other us (base + k) (base + d) i 0 (λ z. eqb_false d k q (omega arith)) ∙ l.places d (omega (arith, eqb_false d k q))
+        go false q = get_or-set_other us (base + k) (base + d) i 0 (λ z. eqb-false d k q (omega arith)) ∙ l.places d (omega (arith, eqb-false d k q))
 
     rest : (d : ℕ) → at (chain_of (length s - (k + 1)) s j) d ≡ at (chain s head) (k + 1 + d)
     rest d = ap (λ z. at (chain_of (length s - (k + 1)) s z) d) e ∙ sym (ap (λ z. at z (suc d)) cons) ∙ l.rest (suc d) ∙ ap (at (chain s head)) (let z : k + suc d ≡ k + 1 + d = omega arith in z)

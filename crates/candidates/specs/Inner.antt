@@ -1,8 +1,8 @@
 -- Rows of what reaches what, from the nodes themselves on, and edges that are opened where their end reaches their start.
 use Rattle.std.specs.Prelude.{ℕ, zero, suc, ◌+◌, ◌*◌, ◌-◌, ◌/◌, ◌%◌, ◌≤◌, ◌<◌, ◌≡◌, refl, Bool, true, false, ◌||◌, ◌&&◌, List, [], ◌∷◌, ◌⊎◌, ◌≢◌, T, eqb, length}
-use Rattle.std.proofs.Common.{sym, ◌∙◌, ap₂, subst, inl, inr, ⊎_elim, not-suc-le-zero, arith, eqb_true, eq-eqb, ne_eqb}
+use Rattle.std.proofs.Common.{sym, ◌∙◌, ap₂, subst, inl, inr, ⊎_elim, not-suc-le-zero, arith, eqb-true, eq-eqb, ne_eqb}
 use Rattle.std.proofs.Math.Path.{ap}
-use Rattle.std.proofs.lemmas.Bool.{eqb_false}
+use Rattle.std.proofs.lemmas.Bool.{eqb-false}
 use Rattle.rules.specs.Lists.{Words}
 use Rattle.rules.specs.Sheet.{at}
 use Rattle.candidates.specs.Layout.{rows_links, rows_open, rows_reach, rows_sets, rows_end}
@@ -22,8 +22,8 @@ equal_or : (z x : ℕ) → (z ≡ x) ⊎ (z ≢ x)
 equal_or z x = go (eqb z x) refl
   where
     go : (b : Bool) → eqb z x ≡ b → (z ≡ x) ⊎ (z ≢ x)
-    go true e = inl (eqb_true z x e)
-    go false e = inr (eqb_false z x e)
+    go true e = inl (eqb-true z x e)
+    go false e = inr (eqb-false z x e)
 
 -- The nodes below n have their own bit in the rows of reach; nothing else was changed.
 pub record Selves (n : ℕ) (ws us : Words) : Type 0 where

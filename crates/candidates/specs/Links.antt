@@ -2,7 +2,7 @@
 use Prim.Native.Nat.{ℕ, zero, suc, ◌+◌, ◌*◌, ◌-◌, ◌/◌, ◌%◌, ◌^◌, ◌≤◌, ◌<◌}
 use Rattle.std.specs.Prelude.{◌≡◌, Bool, true, false, ◌||◌, ◌&&◌, ◌⊎◌, ◌≢◌, T, ltb, eqb, length, get_or, set}
 use Rattle.std.proofs.Math.Path.{refl, sym, ap, subst}
-use Rattle.std.proofs.Common.{◌∙◌, ap₂, inl, inr, not-suc-le-zero, one-mul, mod-eq_of_lt, arith, get_or-set_same, ltb-true, eqb_true, eq-eqb, ne_eqb}
+use Rattle.std.proofs.Common.{◌∙◌, ap₂, inl, inr, not-suc-le-zero, one-mul, mod-eq_of_lt, arith, get_or-set_same, ltb-true, eqb-true, eq-eqb, ne_eqb}
 use mathlib.Core.List.{List, [], ◌∷◌, ◌++◌, map}
 use Rattle.std.proofs.Math.Logic.{⊎_elim}
 use Rattle.std.proofs.Math.Option.{none, some}
@@ -10,7 +10,7 @@ use Rattle.std.proofs.Math.Nat.{zero-div, suc-sub-suc, sub-zero}
 use Rattle.std.specs.Int.Bits.{bit_or}
 use Rattle.std.proofs.Math.Pow.{pow-lt}
 use Rattle.std.proofs.Math.Seq.{get_or-set_other}
-use Rattle.std.proofs.lemmas.Bool.{eqb_false}
+use Rattle.std.proofs.lemmas.Bool.{eqb-false}
 use Rattle.rules.specs.Lists.{Words, any, concat_map, optional, optional_list}
 use Rattle.rules.specs.Layout.{header_definitions, header_prelude, header_impls, flag_named, impl_flags, impl_trait, member_vis, member_import, member_id, binding_vis, binding_impl}
 use Rattle.rules.specs.Sheet.{at, chain, chain_of, field, parent, trait_vis, def_trait, bindings, named_members, implicit_members, trait_def, import_def, impl_flag, impl_trait_lem}
@@ -45,17 +45,17 @@ module _ (ws : Words) (p j : ℕ) (h : p + j / 32 < length ws) where
       digit q = same (eqb k j) refl
         where
           same : (b : Bool) → eqb k j ≡ b → eqb (k % 32) (j % 32) ≡ b
-          same true e = eq-eqb (k % 32) (j % 32) (ap (λ x. x % 32) (eqb_true k j e))
-          same false e = ne_eqb (k % 32) (j % 32) (λ z. eqb_false k j e (omega arith))
+          same true e = eq-eqb (k % 32) (j % 32) (ap (λ x. x % 32) (eqb-true k j e))
+          same false e = ne_eqb (k % 32) (j % 32) (λ z. eqb-false k j e (omega arith))
 
       go : (b : Bool) → eqb (k / 32) (j / 32) ≡ b → bit (at (set ws (p + j / 32) new) (p + k / 32)) (k % 32) ≡ (bit (at ws (p + k / 32)) (k % 32) || eqb k j)
       go true e =
-          let q : k / 32 ≡ j / 32 = eqb_true (k / 32) (j / 32) e in
+          let q : k / 32 ≡ j / 32 = eqb-true (k / 32) (j / 32) e in
           ap (λ x. bit x (k % 32)) (ap (λ c. at (set ws (p + j / 32) new) (p + c)) q ∙ get_or-set_same ws (p + j / 32) new 0 h ∙ ap (λ x. bit_or (at ws (p + j / 32)) x) power)
           ∙ bit-bit_or (at ws (p + j / 32)) (2 ^ (j % 32)) (k % 32)
           ∙ ap₂ (λ a b. a || b) (ap (λ c. bit (at ws (p + c)) (k % 32)) (sym q)) (bit_power (j % 32) (k % 32) ∙ digit q)
       go false e =
-          let n = eqb_false (k / 32) (j / 32) e in
+          let n = eqb-false (k / 32) (j / 32) e in
           ap (λ x. bit x (k % 32)) (get_or-set_other ws (p + j / 32) (p + k / 32) new 0 (λ z. n (omega arith)))
           ∙ or_false (bit (at ws (p + k / 32)) (k % 32)) ∙ ap (λ b. bit (at ws (p + k / 32)) (k % 32) || b) (sym (ne_eqb k j (λ z. n (ap (λ x. x / 32) z))))
 
@@ -176,8 +176,8 @@ eqb_sym : (a b : ℕ) → eqb a b ≡ eqb b a
 eqb_sym a b = go (eqb b a) refl
   where
     go : (c : Bool) → eqb b a ≡ c → eqb a b ≡ c
-    go true e = eq-eqb a b (sym (eqb_true b a e))
-    go false e = ne_eqb a b (λ z. eqb_false b a e (sym z))
+    go true e = eq-eqb a b (sym (eqb-true b a e))
+    go false e = ne_eqb a b (λ z. eqb-false b a e (sym z))
 
 and_true : (b : Bool) → (b && true) ≡ b
 and_true true = refl
@@ -286,8 +286,8 @@ binding_none s x m named i j w ws l e f g h =
     differ q = go (eqb named 1) refl
       where
         go : (b : Bool) → eqb named 1 ≡ b → ⊥
-        go true k = h (omega (arith, eqb_true (w / 8 % 2) 1 (q ∙ k), eqb_true named 1 k))
-        go false k = h (omega (arith, eqb_false (w / 8 % 2) 1 (q ∙ k), eqb_false named 1 k))
+        go true k = h (omega (arith, eqb-true (w / 8 % 2) 1 (q ∙ k), eqb-true named 1 k))
+        go false k = h (omega (arith, eqb-false (w / 8 % 2) 1 (q ∙ k), eqb-false named 1 k))
 
 pub binding_some : (s : Words) (x m named i j w v t u : ℕ) (ws us : Words) → i ≡ at s (m + 2) → j ≡ i → w ≡ field s header_impls j 2 → w / 8 % 2 ≡ named → v ≡ at s (m + 1) → t ≡ field s header_impls j 3 → u ≡ t
     → Adds x (trait_edges s v u) ws us → Adds x (binding_edges s (eqb named 1) m) ws us
@@ -454,17 +454,17 @@ built-node s n ws us vs h b a = record {
 
     links : (x y : ℕ) → y < 384 → (c : Bool) → eqb x n ≡ c → x < suc n → on vs (rows_links + 12 * x) y ≡ to (edges s x) y
     links x y j true e k =
-        subst (λ z. on vs (rows_links + 12 * z) y ≡ to (edges s z) y) (sym (eqb_true x n e)) (a.links y j ∙ ap (λ c. c || to (edges s n) y) (b.fresh_links n y (omega arith) h j))
+        subst (λ z. on vs (rows_links + 12 * z) y ≡ to (edges s z) y) (sym (eqb-true x n e)) (a.links y j ∙ ap (λ c. c || to (edges s n) y) (b.fresh_links n y (omega arith) h j))
     links x y j false e k =
-        let ne = eqb_false x n e in
+        let ne = eqb-false x n e in
         ap (λ w. bit w (y % 32)) (a.others (rows_links + 12 * x + y / 32) (row_off n x y h (omega arith) j ne)) ∙ b.links x y (omega (arith, ne)) j
 
     opens : (x y : ℕ) → y < 384 → (c : Bool) → eqb x n ≡ c → x < suc n → on vs (rows_open + 12 * x) y ≡ lets (seen ws) (edges s x) y
     opens x y j true e k =
-        subst (λ z. on vs (rows_open + 12 * z) y ≡ lets (seen ws) (edges s z) y) (sym (eqb_true x n e))
+        subst (λ z. on vs (rows_open + 12 * z) y ≡ lets (seen ws) (edges s z) y) (sym (eqb-true x n e))
         (a.opens y j ∙ ap₂ (λ c d. c || d) (b.fresh_opens n y (omega arith) h j) (lets-same (seen us) (seen ws) (edges s n) y marks))
     opens x y j false e k =
-        let ne = eqb_false x n e in
+        let ne = eqb-false x n e in
         ap (λ w. bit w (y % 32)) (a.others (rows_open + 12 * x + y / 32) (open_off n x y h (omega arith) j ne)) ∙ b.opens x y (omega (arith, ne)) j
 
 -- One definition more.

@@ -7,7 +7,7 @@ use Rattle.std.proofs.Math.Bool.{true, false, not}
 use Rattle.std.proofs.Math.Logic.{⊎_elim}
 use Rattle.std.proofs.Math.Nat.{suc-sub-suc, sub-zero}
 use Rattle.std.proofs.Math.Dec.{eqb}
-use borrow.Author.Tests.{eqb_true, eqb_false, eq-eqb, ne_eqb}
+use borrow.Author.Tests.{eqb-true, eqb-false, eq-eqb, ne_eqb}
 use Rattle.rules.specs.Lists.{Words, any}
 use Rattle.rules.specs.Layout.{header_definitions, header_impls, binding_vis, binding_impl, flag_manual, flag_unsafe, flag_named}
 use Rattle.rules.specs.Sheet.{at, chain, chain_of, field, bindings, impl_flag, impl_trait_lem}
@@ -55,8 +55,8 @@ equal_or : (z x : ℕ) → (z ≡ x) ⊎ (z ≢ x)
 equal_or z x = go (eqb z x) refl
   where
     go : (b : Bool) → eqb z x ≡ b → (z ≡ x) ⊎ (z ≢ x)
-    go true e = inl (eqb_true z x e)
-    go false e = inr (eqb_false z x e)
+    go true e = inl (eqb-true z x e)
+    go false e = inr (eqb-false z x e)
 
 -- "Manual, unsafe and Error impls never enter."
 module _ (s : Words) (i w : ℕ) (e : w ≡ field s header_impls i 2) where
@@ -120,7 +120,7 @@ module _ (s : Words) (d b j i : ℕ) (ws : Words) (e : j ≡ at s (b + 2)) (f : 
     where
       go : (x k : ℕ) (c : Bool) → eqb i k ≡ c → entry s (seen ws) d b x k ≡ false
       go x k true q =
-          ap (λ c. ((eqb (at s (b + 2)) k && seen ws (at s (b + 1))) && c) && eqb x (binding_node (impl_flag s flag_named k) d)) (ap (may_enter s) (sym (eqb_true i k q)) ∙ sym g ∙ z)
+          ap (λ c. ((eqb (at s (b + 2)) k && seen ws (at s (b + 1))) && c) && eqb x (binding_node (impl_flag s flag_named k) d)) (ap (may_enter s) (sym (eqb-true i k q)) ∙ sym g ∙ z)
           ∙ ap (λ c. c && eqb x (binding_node (impl_flag s flag_named k) d)) (and_false (eqb (at s (b + 2)) k && seen ws (at s (b + 1))))
       go x k false q = ap (λ c. ((c && seen ws (at s (b + 1))) && may_enter s k) && eqb x (binding_node (impl_flag s flag_named k) d)) (impl_is k ∙ q)
 
@@ -137,15 +137,15 @@ module _ (s : Words) (d b j i : ℕ) (ws : Words) (e : j ≡ at s (b + 2)) (f : 
 
       same : (x c : ℕ) (q : Bool) → eqb i c ≡ q → eqb x y ≡ true → eqb c i ≡ entry s (seen ws) d b x c
       same x c true q h =
-          eq-eqb c i (sym (eqb_true i c q))
+          eq-eqb c i (sym (eqb-true i c q))
           ∙ sym (ap₂ (λ a w. ((a && w) && may_enter s c) && eqb x (binding_node (impl_flag s flag_named c) d)) (impl_is c ∙ q) (ap (seen ws) (sym g) ∙ sym o ∙ z)
-          ∙ ap₂ (λ a w. a && w) (ap (may_enter s) (sym (eqb_true i c q)) ∙ sym n ∙ t) (ap (λ w. eqb x w) (ap (λ w. binding_node (impl_flag s flag_named w) d) (sym (eqb_true i c q)) ∙ sym k) ∙ h))
+          ∙ ap₂ (λ a w. a && w) (ap (may_enter s) (sym (eqb-true i c q)) ∙ sym n ∙ t) (ap (λ w. eqb x w) (ap (λ w. binding_node (impl_flag s flag_named w) d) (sym (eqb-true i c q)) ∙ sym k) ∙ h))
       same x c false q h =
-          ne_eqb c i (λ a. eqb_false i c q (sym a)) ∙ sym (ap (λ a. ((a && seen ws (at s (b + 1))) && may_enter s c) && eqb x (binding_node (impl_flag s flag_named c) d)) (impl_is c ∙ q))
+          ne_eqb c i (λ a. eqb-false i c q (sym a)) ∙ sym (ap (λ a. ((a && seen ws (at s (b + 1))) && may_enter s c) && eqb x (binding_node (impl_flag s flag_named c) d)) (impl_is c ∙ q))
 
       other : (x c : ℕ) (q : Bool) → eqb i c ≡ q → eqb x y ≡ false → false ≡ entry s (seen ws) d b x c
       other x c true q h =
-          sym (ap (λ w. ((eqb (at s (b + 2)) c && seen ws (at s (b + 1))) && may_enter s c) && w) (ap (λ w. eqb x w) (ap (λ w. binding_node (impl_flag s flag_named w) d) (sym (eqb_true i c q)) ∙ sym k) ∙ h)
+          sym (ap (λ w. ((eqb (at s (b + 2)) c && seen ws (at s (b + 1))) && may_enter s c) && w) (ap (λ w. eqb x w) (ap (λ w. binding_node (impl_flag s flag_named w) d) (sym (eqb-true i c q)) ∙ sym k) ∙ h)
           ∙ and_false ((eqb (at s (b + 2)) c && seen ws (at s (b + 1))) && may_enter s c))
       other x c false q h = sym (ap (λ a. ((a && seen ws (at s (b + 1))) && may_enter s c) && eqb x (binding_node (impl_flag s flag_named c) d)) (impl_is c ∙ q))
 

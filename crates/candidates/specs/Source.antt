@@ -2,12 +2,12 @@
 use Prim.Native.Nat.{ℕ, zero, suc, ◌+◌, ◌*◌, ◌-◌, ◌≤◌, ◌<◌}
 use Rattle.std.specs.Prelude.{◌≡◌, refl, true, false, ◌||◌, List, [], ◌∷◌, ◌⊎◌, ◌≢◌, T, ltb, length, set}
 use Rattle.std.proofs.Math.Path.{sym, ap, ap₂}
-use Rattle.std.proofs.Common.{◌∙◌, subst, inl, inr, ⊎_elim, not-suc-le-zero, le_of_suc-le-suc, arith, get_or-set_same, get_or-set_other, lt-ltb, le-ltb, ltb-true, ltb-false, eqb_true, eq-eqb, ne_eqb}
+use Rattle.std.proofs.Common.{◌∙◌, subst, inl, inr, ⊎_elim, not-suc-le-zero, le_of_suc-le-suc, arith, get_or-set_same, get_or-set_other, lt-ltb, le-ltb, ltb-true, ltb-false, eqb-true, eq-eqb, ne_eqb}
 use Rattle.std.proofs.Math.Bool.{Bool}
 use Rattle.std.proofs.Math.Option.{none, some}
 use Rattle.std.proofs.Math.Nat.{suc-sub-suc, sub-zero}
 use Rattle.std.proofs.Math.Dec.{eqb}
-use Rattle.std.proofs.lemmas.Bool.{eqb_false}
+use Rattle.std.proofs.lemmas.Bool.{eqb-false}
 use Rattle.rules.specs.Lists.{Words, any, optional, is_in}
 use Rattle.rules.specs.Layout.{header_definitions, definition_parent}
 use Rattle.rules.specs.Limits.{limit_definitions}
@@ -47,8 +47,8 @@ pub marked_here : (ws : Words) (d : ℕ) → d < 128 → 128 ≤ length ws → M
 marked_here ws d h l = record { marks = λ a k. go a (eqb a d) refl; others = λ p k. get_or-set_other ws d p 1 0 (λ e. omega (arith, e)) }
   where
     go : (a : ℕ) (b : Bool) → eqb a d ≡ b → eqb (at (set ws d 1) a) 1 ≡ (eqb (at ws a) 1 || eqb a d)
-    go a true e = ap (λ x. eqb x 1) (ap (at (set ws d 1)) (eqb_true a d e) ∙ get_or-set_same ws d 1 0 (omega arith)) ∙ or_true (eqb (at ws a) 1) ∙ ap (λ b. eqb (at ws a) 1 || b) (sym e)
-    go a false e = ap (λ x. eqb x 1) (get_or-set_other ws d a 1 0 (eqb_false a d e)) ∙ or_false (eqb (at ws a) 1) ∙ ap (λ b. eqb (at ws a) 1 || b) (sym e)
+    go a true e = ap (λ x. eqb x 1) (ap (at (set ws d 1)) (eqb-true a d e) ∙ get_or-set_same ws d 1 0 (omega arith)) ∙ or_true (eqb (at ws a) 1) ∙ ap (λ b. eqb (at ws a) 1 || b) (sym e)
+    go a false e = ap (λ x. eqb x 1) (get_or-set_other ws d a 1 0 (eqb-false a d e)) ∙ or_false (eqb (at ws a) 1) ∙ ap (λ b. eqb (at ws a) 1 || b) (sym e)
 
 pub marked_past : (ws : Words) (d : ℕ) → 128 ≤ d → Marked ws ws d
 marked_past ws d h = record { marks = λ a k. or_false (eqb (at ws a) 1) ∙ ap (λ b. eqb (at ws a) 1 || b) (sym (ne_eqb a d (λ e. omega arith))); others = λ p k. refl }

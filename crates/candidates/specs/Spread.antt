@@ -3,14 +3,14 @@
 use Prim.Native.Nat.{ℕ, zero, suc, ◌+◌, ◌*◌, ◌-◌, ◌/◌, ◌%◌, ◌^◌, ◌≤◌, ◌<◌}
 use Rattle.std.specs.Prelude.{◌≡◌, Bool, true, false, not, ◌||◌, List, [], ◌∷◌, ◌⊎◌, ◌↔◌, ◌≢◌, T, eqb, length, set}
 use Rattle.std.proofs.Math.Path.{refl, ap}
-use Rattle.std.proofs.Common.{sym, ◌∙◌, ap₂, subst, not-suc-le-zero, le_of_suc-le-suc, div-one, add-one, arith, eqb→eq, shr-shr, get_or-set_same, eqb_true, eq-eqb, ne_eqb}
+use Rattle.std.proofs.Common.{sym, ◌∙◌, ap₂, subst, not-suc-le-zero, le_of_suc-le-suc, div-one, add-one, arith, eqb→eq, shr-shr, get_or-set_same, eqb-true, eq-eqb, ne_eqb}
 use Rattle.std.proofs.Math.Logic.{inl, inr, ⊎_elim}
 use Rattle.std.proofs.Math.Nat.{pow-succ', div-div-eq-div-mul}
 use Rattle.std.specs.Int.Bits.{bit_or}
 use Rattle.std.specs.Int.Count.{count_trailing_zeros, under}
 use Rattle.std.proofs.Math.ListN.{length-set}
 use Rattle.std.proofs.Math.Seq.{get_or-set_other}
-use Rattle.std.proofs.lemmas.Bool.{eqb_false}
+use Rattle.std.proofs.lemmas.Bool.{eqb-false}
 use Rattle.rules.specs.Lists.{Words}
 use Rattle.rules.specs.Sheet.{at}
 use Rattle.candidates.specs.Layout.{rows_links, rows_open, rows_reach, rows_sets, rows_end, rows_behind}
@@ -133,8 +133,8 @@ equal_or : (z x : ℕ) → (z ≡ x) ⊎ (z ≢ x)
 equal_or z x = go (eqb z x) refl
   where
     go : (b : Bool) → eqb z x ≡ b → (z ≡ x) ⊎ (z ≢ x)
-    go true e = inl (eqb_true z x e)
-    go false e = inr (eqb_false z x e)
+    go true e = inl (eqb-true z x e)
+    go false e = inr (eqb-false z x e)
 
 -- Row x joined with row y, to which a walk leads from x.
 module _ (n m x y : ℕ) (ws us : Words) (l : n ≤ 384) (hx : x < n) (hy : y < n) (ne : y ≢ x) (fits : m + rows_behind + 12 * n ≤ length ws) (walk : Walk (leads m ws) n x y) where

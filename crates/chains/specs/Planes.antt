@@ -2,7 +2,7 @@
 use Rattle.std.specs.Prelude.{ℕ, zero, suc, ◌+◌, ◌*◌, ◌≤◌, ◌<◌, ◌≡◌, refl, Bool, true, false, not, [], ◌∷◌, length, set}
 use Rattle.std.proofs.Common.{sym, ◌∙◌, le_of_suc-le-suc, not-suc-le-zero, arith, get_or-set_other}
 use Rattle.std.proofs.Math.Path.{ap}
-use Rattle.std.proofs.lemmas.Bool.{not_true, not_false}
+use Rattle.std.proofs.lemmas.Bool.{not-true, not-false}
 use Rattle.rules.specs.Lists.{Words}
 use Rattle.rules.specs.Layout.{header_length, binding_length, member_length, impl_param_args, impl_param_length, node_children, node_length, cell_length}
 use Rattle.rules.specs.Sheet.{at}
@@ -29,13 +29,13 @@ module _ (lo : ℕ) (s : Words) (len off b p : ℕ) (ws : Words) (k : Bool) (e :
     heads_is = w.is ∙ ap (head_keeps lo s cell_length no_heads) q
 
     pub celled_low : not r ≡ true → Tested (Cells s) (length s) s len (over_cells lo s off) b p ws us false
-    celled_low g = record { is = ok_yes s len (over_cells lo s off) p k e f false (sym (not_true r g) ∙ heads_is); rest = never; others = never }
+    celled_low g = record { is = ok_yes s len (over_cells lo s off) p k e f false (sym (not-true r g) ∙ heads_is); rest = never; others = never }
 
     pub celled_yes : length s ≤ b → not r ≡ false → Tested (Cells s) (length s) s len (over_cells lo s off) b p ws (set us (b + p) 1) true
     celled_yes l g = record {
-      is = ok_yes s len (over_cells lo s off) p k e f true (sym (not_false r g) ∙ heads_is);
-      rest = λ t. record { is = λ v i m. (w.kept (not_false r g)).is v i (sym (get_or-set_other us (b + p) (0 + v) 1 0 (λ z. absurd (omega arith))) ∙ m) };
-      others = λ t j i d. get_or-set_other us (b + p) j 1 0 d ∙ (w.apart (not_false r g)).above j (omega arith) (omega arith);
+      is = ok_yes s len (over_cells lo s off) p k e f true (sym (not-false r g) ∙ heads_is);
+      rest = λ t. record { is = λ v i m. (w.kept (not-false r g)).is v i (sym (get_or-set_other us (b + p) (0 + v) 1 0 (λ z. absurd (omega arith))) ∙ m) };
+      others = λ t j i d. get_or-set_other us (b + p) j 1 0 d ∙ (w.apart (not-false r g)).above j (omega arith) (omega arith);
     }
 
 -- All planes.

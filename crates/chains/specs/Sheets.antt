@@ -3,7 +3,7 @@ use Rattle.std.specs.Prelude.{ℕ, ◌+◌, ◌<◌, ◌≡◌, Bool, not, ◌&&
 use Rattle.std.proofs.Math.Path.{refl}
 use Rattle.std.proofs.Common.{sym, ◌∙◌, ap}
 use Rattle.std.proofs.Math.Bool.{true, false}
-use borrow.Author.Tests.{not_true, not_false}
+use borrow.Author.Tests.{not-true, not-false}
 use Rattle.rules.specs.Lists.{Words, holds}
 use Rattle.rules.specs.Layout.{header_length, header_definitions, header_generics, header_traits, header_impls, header_opaques, header_structs, header_enums, header_unions, header_closures, header_imports, definition_bindings, definition_named, definition_implicit, definition_length, binding_length, member_length, trait_length, struct_length, union_length, generics_table, generics_impl_params, generics_length, impl_table, impl_args, impl_length, question_table, question_args, question_length}
 use Rattle.rules.specs.Sheet.{at}
@@ -29,18 +29,18 @@ pub record Run (lo : ℕ) (s : Words) (ts : List Bool) (ws : Words) (r : Bool) :
 
 module _ {lo : ℕ} {s : Words} where
   pub goes_planes : {t r : Bool} {us : Words} → Goes lo s t us r → not r ≡ false → Planes lo s us
-  goes_planes {r} g f = g.planes (not_false r f)
+  goes_planes {r} g f = g.planes (not-false r f)
 
   pub run_planes : {ts : List Bool} {r : Bool} {us : Words} → Run lo s ts us r → not r ≡ false → Planes lo s us
-  run_planes {r} g f = g.planes (not_false r f)
+  run_planes {r} g f = g.planes (not-false r f)
 
   pub run_no : {t r : Bool} {ts : List Bool} {us : Words} → Goes lo s t us r → not r ≡ true → Run lo s (t ∷ ts) us false
   unfolding holds
-  run_no {r} g f = record { is = rw (sym g.is ∙ not_true r f, holds); planes = never }
+  run_no {r} g f = record { is = rw (sym g.is ∙ not-true r f, holds); planes = never }
 
   pub run_on : {t q r : Bool} {ts : List Bool} {vs us : Words} → Goes lo s t vs q → not q ≡ false → Run lo s ts us r → Run lo s (t ∷ ts) us r
   unfolding holds
-  run_on {q} g f h = record { is = rw (sym g.is ∙ not_false q f, holds) h.is; planes = h.planes }
+  run_on {q} g f h = record { is = rw (sym g.is ∙ not-false q f, holds) h.is; planes = h.planes }
 
   pub run-last : {t r : Bool} {us : Words} → Goes lo s t us r → Run lo s (t ∷ []) us r
   unfolding holds
@@ -89,13 +89,13 @@ module _ (lo : ℕ) (s : Words) (len : ℕ) (heads : ℕ → Bool) (h w : ℕ) (
     along_end n = record { is = head_yes lo s len heads h z e f true (sym (a.same ∙ ap (chain_keeps s len heads) n ∙ runs_end s len long heads)) ∙ ap (head_keeps lo s len heads) x; planes = λ t. a.planes }
 
     pub along_broken : (r : Bool) (us : Words) → p ≢ 0 → Goes lo s (ok_at s len heads p) us r → not r ≡ true → Goes lo s (head_keeps lo s len heads w) us false
-    along_broken r us n g t = record { is = head_yes lo s len heads h z e f false (sym (a.same ∙ breaks s len heads p long some n (sym g.is ∙ not_true r t))) ∙ ap (head_keeps lo s len heads) x; planes = never }
+    along_broken r us n g t = record { is = head_yes lo s len heads h z e f false (sym (a.same ∙ breaks s len heads p long some n (sym g.is ∙ not-true r t))) ∙ ap (head_keeps lo s len heads) x; planes = never }
 
 pub along_start : (lo : ℕ) (s : Words) (len : ℕ) (heads : ℕ → Bool) (h : ℕ) (ws : Words) → Planes lo s ws → Along lo s len heads h h ws
 along_start lo s len heads h ws a = record { same = refl; planes = a }
 
 pub along_on : (lo : ℕ) (s : Words) (len : ℕ) (heads : ℕ → Bool) (h p q : ℕ) (ws us : Words) (r : Bool) → 0 < len → 0 < length s → Along lo s len heads h p ws → p ≢ 0 → Goes lo s (ok_at s len heads p) us r → not r ≡ false → q ≡ at s p → Along lo s len heads h q us
-along_on lo s len heads h p q ws us r long some a n g f m = record { same = a.same ∙ goes_on s len heads p long some n (sym g.is ∙ not_false r f) ∙ ap (chain_keeps s len heads) (sym m); planes = g.planes (not_false r f) }
+along_on lo s len heads h p q ws us r long some a n g f m = record { same = a.same ∙ goes_on s len heads p long some n (sym g.is ∙ not-false r f) ∙ ap (chain_keeps s len heads) (sym m); planes = g.planes (not-false r f) }
 
 -- The header, in two halves.
 abbrev pub first_chains : Words → List Bool
@@ -120,20 +120,20 @@ both_halves s = holds_ten _ _ _ _ _ _ _ _ _ _
 -- 7.
 module _ (lo : ℕ) (s us : Words) (a : Bool) (g : Run lo s (first_chains s) us a) where
   pub sheet_first : not a ≡ true → false ≡ sheet_keeps s
-  sheet_first f = ap (λ x. elim x as (λ x. Bool) [ true ↦ holds (last_chains s) | false ↦ false ]) (sym (not_true a f) ∙ g.is) ∙ both_halves s
+  sheet_first f = ap (λ x. elim x as (λ x. Bool) [ true ↦ holds (last_chains s) | false ↦ false ]) (sym (not-true a f) ∙ g.is) ∙ both_halves s
 
   pub sheet_last : (vs : Words) (r : Bool) → not a ≡ false → Run lo s (last_chains s) vs r → r ≡ sheet_keeps s
-  sheet_last vs r f h = h.is ∙ ap (λ x. elim x as (λ x. Bool) [ true ↦ holds (last_chains s) | false ↦ false ]) (sym (not_false a f) ∙ g.is) ∙ both_halves s
+  sheet_last vs r f h = h.is ∙ ap (λ x. elim x as (λ x. Bool) [ true ↦ holds (last_chains s) | false ↦ false ]) (sym (not-false a f) ∙ g.is) ∙ both_halves s
 
 -- 11.
 module _ (q us : Words) (a : Bool) (g : Goes question_length q (nodes_keep question_length q (at q question_table)) us a) where
   pub table_no : not a ≡ true → false ≡ impl_question_keeps q
   unfolding impl_question_keeps
-  table_no f = λ i. (sym (not_true a f) ∙ g.is) i && cells_keep question_length q (at q question_args)
+  table_no f = λ i. (sym (not-true a f) ∙ g.is) i && cells_keep question_length q (at q question_args)
 
   pub table_args : (vs : Words) (r : Bool) → not a ≡ false → Goes question_length q (cells_keep question_length q (at q question_args)) vs r → r ≡ impl_question_keeps q
   unfolding impl_question_keeps
-  table_args vs r f h = λ i. (sym (not_false a f) ∙ g.is) i && h.is i
+  table_args vs r f h = λ i. (sym (not-false a f) ∙ g.is) i && h.is i
 
   pub table_only : a ≡ flex_question_keeps q
   unfolding flex_question_keeps

@@ -4,7 +4,7 @@ use Rattle.std.proofs.Common.{sym, ◌∙◌, subst, inl, inr, arith, get_or-set
 use Rattle.std.proofs.Math.Path.{ap}
 use Rattle.std.proofs.Math.Bool.{true, false}
 use Rattle.std.proofs.Math.Decide.{ℕ_discrete}
-use borrow.Author.Tests.{eqb_true, not_true, not_false}
+use borrow.Author.Tests.{eqb-true, not-true, not-false}
 use Rattle.std.proofs.Math.ListN.{length}
 use Rattle.rules.specs.Lists.{Words}
 use Rattle.rules.specs.Sheet.{at}
@@ -87,7 +87,7 @@ module _ (s : Words) (len : ℕ) (heads : ℕ → Bool) (p : ℕ) (long : 0 < le
   left_falls r q e f n = go p q pos room.0 (next room.1)
     where
       room : (p + len ≤ length s) × ((at s p ≡ 0) ⊎ (p + len ≤ at s p))
-      room = (sits_in s len p).0 (ok_record s len heads p (sym e ∙ not_false r f))
+      room = (sits_in s len p).0 (ok_record s len heads p (sym e ∙ not-false r f))
 
       next : (at s p ≡ 0) ⊎ (p + len ≤ at s p) → (q ≡ 0) ⊎ (p < q)
       next (inl z) = inl (n ∙ z)
@@ -114,11 +114,11 @@ head_from lo (suc h) d = refl
 module _ (lo : ℕ) (s : Words) (len : ℕ) (heads : ℕ → Bool) (h : ℕ) (z : Bool) (e : z ≡ zero_or_from lo h) where
   pub head_no : not z ≡ true → false ≡ head_keeps lo s len heads h
   unfolding head_keeps
-  head_no f = rw (sym e ∙ not_true z f, head_keeps)
+  head_no f = rw (sym e ∙ not-true z f, head_keeps)
 
   pub head_yes : not z ≡ false → (r : Bool) → r ≡ chain_keeps s len heads h → r ≡ head_keeps lo s len heads h
   unfolding head_keeps
-  head_yes f r q = rw (sym e ∙ not_false z f, head_keeps) q
+  head_yes f r q = rw (sym e ∙ not-false z f, head_keeps) q
 
 -- The plane keeps what it has where others are written.
 pub kept_below : (s : Words) (len : ℕ) (heads : ℕ → Bool) (a c b n : ℕ) (ws us : Words) → Kept s len heads a ws → Apart c b n ws us → c ≤ a → a + length s ≤ b → Kept s len heads a us
@@ -132,21 +132,21 @@ pub known_none : (s : Words) (b p : ℕ) (ws : Words) → Known s b p ws false
 known_none s b p ws = record { inside = never; marked = never }
 
 pub known_read : (s : Words) (b p : ℕ) (ws : Words) → p < length s → Known s b p ws (eqb (at ws (b + p)) 1)
-known_read s b p ws l = record { inside = λ e. l; marked = eqb_true (at ws (b + p)) 1 }
+known_read s b p ws l = record { inside = λ e. l; marked = eqb-true (at ws (b + p)) 1 }
 
 -- A record that keeps the rule ends within the slice.
 pub record_in : (s : Words) (len p : ℕ) (k : Bool) → k ≡ record_keeps s len p → not k ≡ false → p + len ≤ length s
-record_in s len p k e f = ((sits_in s len p).0 (subst T (sym (sym e ∙ not_false k f)) tt)).0
+record_in s len p k e f = ((sits_in s len p).0 (subst T (sym (sym e ∙ not-false k f)) tt)).0
 
 -- The record at p passes or not.
 module _ (s : Words) (len : ℕ) (heads : ℕ → Bool) (p : ℕ) (k : Bool) (e : k ≡ record_keeps s len p) where
   pub ok_no : not k ≡ true → false ≡ ok_at s len heads p
   unfolding ok_at
-  ok_no f = rw (sym e ∙ not_true k f, ok_at)
+  ok_no f = rw (sym e ∙ not-true k f, ok_at)
 
   pub ok_yes : not k ≡ false → (r : Bool) → r ≡ heads p → r ≡ ok_at s len heads p
   unfolding ok_at
-  ok_yes f r q = rw (sym e ∙ not_false k f, ok_at) q
+  ok_yes f r q = rw (sym e ∙ not-false k f, ok_at) q
 
 -- A plain record, tested.
 module _ (s : Words) (len b p : ℕ) (ws : Words) (k : Bool) (e : k ≡ record_keeps s len p) where
@@ -176,7 +176,7 @@ module _ (Q : Words → Type 0) (c lo : ℕ) (s : Words) (len : ℕ) (heads : �
 
     pub walked_broken : (z r : Bool) (vs : Words) → z ≡ zero_or_from lo h → not z ≡ false → p ≢ 0 → Tested Q c s len heads b p us vs r → not r ≡ true → Walked Q c lo s len heads b h ws vs false
     walked_broken z r vs e f n t x = record {
-      is = head_yes lo s len heads h z e f false (sym (g.same ∙ breaks s len heads p long some n (sym t.is ∙ not_true r x)));
+      is = head_yes lo s len heads h z e f false (sym (g.same ∙ breaks s len heads p long some n (sym t.is ∙ not-true r x)));
       rest = never;
       kept = never;
       apart = never;
@@ -195,7 +195,7 @@ module _ (Q : Words → Type 0) (c lo : ℕ) (s : Words) (len : ℕ) (heads : �
     }
       where
         yes' : r ≡ true
-        yes' = not_false r x
+        yes' = not-false r x
 
         fine : ok_at s len heads p ≡ true
         fine = sym t.is ∙ yes'

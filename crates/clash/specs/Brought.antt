@@ -11,7 +11,7 @@ use Rattle.std.proofs.Math.Decide.{ℕ_discrete}
 use native.Mathlib.Omega.{arith}
 use Rattle.std.proofs.Math.Dec.{ltb}
 use Rattle.std.proofs.Math.ListN.{length}
-use borrow.Author.Tests.{ltb-true, eqb_true, lt-ltb, le-ltb, eq-eqb, ne_eqb}
+use borrow.Author.Tests.{ltb-true, eqb-true, lt-ltb, le-ltb, eq-eqb, ne_eqb}
 use Rattle.rules.specs.Lists.{Words}
 use Rattle.rules.specs.Layout.{header_impls, impl_table, impl_args, kind_param}
 use Rattle.rules.specs.Sheet.{at, chain, field, many, type_params, impl_generics_lem, impl_table_lem, impl_args_lem}
@@ -79,7 +79,7 @@ module _ (ts : Types) (n : ℕ) (here : ℕ → Bool) where
   ref_of r e = ⊎_elim (λ l. low l (ltb r (length ts)) refl) (λ l. ⊎_elim (middle l) high (lt_or r 1024)) (lt_or r 256)
     where
       low : r < 256 → (b : Bool) → ltb r (length ts) ≡ b → Ref ts n here r
-      low l true q = root (ltb-true r (length ts) q) (eqb_true (rep ts r) r (rw (lt-ltb r 256 l, q, came_ref) at e))
+      low l true q = root (ltb-true r (length ts) q) (eqb-true (rep ts r) r (rw (lt-ltb r 256 l, q, came_ref) at e))
       low l false q = absurd (holds false (rw (lt-ltb r 256 l, q, came_ref) at e))
 
       middle : 256 ≤ r → r < 1024 → Ref ts n here r

@@ -23,7 +23,7 @@ ghost use Rattle.queries.specs.Queries.{query_of};
 ghost use Rattle.queries.specs.Takes.{SignatureTakes, ParamTakes};
 ghost use Rattle.opening.specs.Sound.{Sound};
 ghost use Rattle.refs.specs.Refs.{KindOf, Bit, Sided};
-ghost use Rattle.refs.specs.Meaning.{turn as turn-of};
+ghost use Rattle.refs.specs.Meaning.{turn as turn_of};
 ghost use Rattle.loose.specs.Loose.{Opposed};
 ghost use Rattle.clash.specs.Meeting.{Aside, Queues, Puts, Decides, Inverts, Meets, Mirrors};
 ghost use Rattle.clash.specs.Pairs.{Goes, Ran, Ends, ArgsMet, RootClash, Clashing};
@@ -689,7 +689,7 @@ fn meet_own(
     end: usize,
     t: u32,
 ) -> usize
-    ensures { Meets sheet.now places.now ws.now links.old queue.old end t (turn-of 1 t) links.new queue.new result }
+    ensures { Meets sheet.now places.now ws.now links.old queue.old end t (turn_of 1 t) links.new queue.new result }
 {
     let x = find(links, t);
     let k = kind(sheet, places, ws, x / 2);

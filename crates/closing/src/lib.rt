@@ -2,11 +2,11 @@
 // A result stands in a slot of a lent slice, a table and its trees; the caller's types in a table of their own.
 #![tactic(auto)]
 
-ghost use Rattle.std.specs.Prelude.{◌≡◌, ◌+◌, ◌≤◌, ◌||◌, map as map-list, length, drop, take};
+ghost use Rattle.std.specs.Prelude.{◌≡◌, ◌+◌, ◌≤◌, ◌||◌, map as map_list, length, drop, take};
 ghost use Rattle.std.proofs.Math.Option.{none};
 ghost use Rattle.rules.specs.Limits.{limit_answer, limit_tree_nodes};
 ghost use Rattle.rules.specs.Sheet.{at};
-ghost use Rattle.rules.specs.Types.{unify_impl_type as impl-type-unified};
+ghost use Rattle.rules.specs.Types.{unify_impl_type as impl_type_unified};
 ghost use Rattle.rules.specs.Solutions.{AllIn};
 ghost use Rattle.rules.specs.Neat.{Neat};
 ghost use Rattle.rules.specs.Transfer.{type_of_word, import_types};
@@ -147,7 +147,7 @@ fn join_query(sheet: &[u32], table: &mut [u32], map: &mut [u32], query: Query, t
     requires packed { Packed table.old }
     requires nodes { Nodes (types_of table.old) ys.now }
     requires in_bounds { 256 ≤ length map.old }
-    ensures { Leaves table.new (impl-type-unified sheet.now (types_of table.old) (query_of query) (tr, map-list type_of_word ys.now)) }
+    ensures { Leaves table.new (impl_type_unified sheet.now (types_of table.old) (query_of query) (tr, map_list type_of_word ys.now)) }
 {
     let args = [query.args[0], query.args[1], query.args[2], query.args[3]];
     let n = query.n;
@@ -201,7 +201,7 @@ fn finish_impl(
     requires in_bounds { 1025 ≤ length out.old }
     requires in_bounds_2 { 256 ≤ length map.old }
     requires limit_answer_in_bounds { limit_answer ≤ length answer.old }
-    ensures { WritesImpl found.now a (impl-type-unified sheet.now (types_of table.old) (query_of query) (tr, map-list type_of_word ys.now)).1 n answer.old answer.new }
+    ensures { WritesImpl found.now a (impl_type_unified sheet.now (types_of table.old) (query_of query) (tr, map_list type_of_word ys.now)).1 n answer.old answer.new }
 {
     join_query(sheet, table, map, query, tr, ys);
     write_impl(found, a, table, n, out, map, answer)

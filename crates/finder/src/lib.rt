@@ -5,7 +5,7 @@ ghost use Rattle.std.specs.Prelude.{◌≡◌, ◌+◌, ◌-◌, ◌*◌, ◌<�
 ghost use Rattle.rules.specs.Layout.{header_impls};
 ghost use Rattle.rules.specs.Sheet.{at, many};
 ghost use Rattle.rules.specs.Run.{within};
-ghost use Rattle.rules.specs.Search.{find_subimpls, try_candidate, question as question-run};
+ghost use Rattle.rules.specs.Search.{find_subimpls, try_candidate, question as question_run};
 ghost use Rattle.table.specs.Packing.{table_length, types_of, Packed};
 ghost use Rattle.slots.specs.Gathering.{Row};
 ghost use Rattle.slots.specs.Turns.{Answers, Stepped};
@@ -387,7 +387,7 @@ pub fn question(
     requires depth_in_bounds { 41024 * depth + 6410 ≤ length ws.old }
     requires basic_bound { basic < 2 }
     requires count_bound { count ≤ 4000000000 }
-    ensures { Answers (within (ltb f.limit) (question-run depth (finder_of sheet.now f) (eqb basic 1) (types_of ws.old) (query_of q)) count) result ws.new }
+    ensures { Answers (within (ltb f.limit) (question_run depth (finder_of sheet.now f) (eqb basic 1) (types_of ws.old) (query_of q)) count) result ws.new }
 {
     if f.limit <= count {
         return Asked::Refused {

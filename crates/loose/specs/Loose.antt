@@ -1,7 +1,7 @@
 -- Labels of refs: where they are closed under children, and alike for the arguments, what has a label that nothing known has is not its own inverse.
 -- A label is 0, which is not set, or one more than the ref that stands for its class. Labels are set while they are tested: what is found of them holds for all in which those that are set stay.
 use Rattle.std.specs.Prelude.{ℕ, zero, suc, ◌+◌, ◌-◌, ◌*◌, ◌/◌, ◌%◌, ◌≤◌, ◌<◌, ◌≡◌, refl, Bool, true, false, not, [], ◌∷◌, ◌≢◌, T, eqb, ltb, length, take, set}
-use Rattle.std.proofs.Common.{sym, ◌∙◌, ap, ap₂, subst, ⊎_elim, le_of_suc-le-suc, not-suc-le-zero, eq-or-lt_of_le, arith, eqb→eq, ltb→lt, get_or-set_other, lt-ltb, le-ltb, eqb_true, eq-eqb}
+use Rattle.std.proofs.Common.{sym, ◌∙◌, ap, ap₂, subst, ⊎_elim, le_of_suc-le-suc, not-suc-le-zero, eq-or-lt_of_le, arith, eqb→eq, ltb→lt, get_or-set_other, lt-ltb, le-ltb, eqb-true, eq-eqb}
 use Rattle.rules.specs.Lists.{Words}
 use Rattle.rules.specs.Sheet.{at}
 use Rattle.rules.specs.Types.{Ty, invert_if, find}
@@ -125,7 +125,7 @@ alike_both ls x y ks is a b k z j = record { fixed = fixed_on ls ks is k.fixed j
   where
     one : eqb a b ≡ true → (js : Words) → Fixed is js → at js (x % 2048) ≡ at js (y % 2048)
     one e js f =
-        let o : at is (x % 2048) ≡ b = sym j.is ∙ eqb_true a b e in
+        let o : at is (x % 2048) ≡ b = sym j.is ∙ eqb-true a b e in
         f.kept (x % 2048) (λ q. z (sym o ∙ q)) ∙ o ∙ k.is ∙ sym ((fixed_on ks is js j.fixed f).kept (y % 2048) (λ q. z (k.is ∙ q)))
 
 -- One label is read, and is b, or is set to b.
@@ -480,7 +480,7 @@ opposite_found ls w x v u f ev eu = record { same = λ e s m l. one e s m l }
     one e s m l = ap (inverse s) it ∙ at_root ∙ sym it
       where
         is : at ls r ≡ 2 * r + 2
-        is = ap (at ls) (sym ev) ∙ sym eu ∙ eqb_true u (2 * r + 2) e
+        is = ap (at ls) (sym ev) ∙ sym eu ∙ eqb-true u (2 * r + 2) e
 
         low : r < 2048
         low = omega arith
@@ -515,7 +515,7 @@ witness_node ps ws w c j x h ec l ej z ex = record {
   node = λ t n.
       let e : 2 * w / 2 ≡ w = omega arith in
       let o : x / 2 ≡ rep (types_of ws) (2 * w / 2) = ap (λ v. v / 2) ex ∙ ap (λ (u : Ty). u.1) (type_word (find (types_of ws) (type_of_word (2 * w)))) in
-      (omega arith, sym ej ∙ z, ap (rep (types_of ws)) (sym e) ∙ sym o ∙ ap (λ v. v / 2) (eqb_true x (2 * w) t) ∙ e);
+      (omega arith, sym ej ∙ z, ap (rep (types_of ws)) (sym e) ∙ sym o ∙ ap (λ v. v / 2) (eqb-true x (2 * w) t) ∙ e);
   own = λ t n. absurd (omega arith);
 }
 

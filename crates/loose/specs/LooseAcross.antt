@@ -4,7 +4,7 @@ use Rattle.std.proofs.Math.Path.{sym, ap, ap₂}
 use Rattle.std.proofs.Common.{◌∙◌, add-one, arith, drop_of_length-le, drop-cons, length-take-le}
 use Rattle.std.proofs.Math.ListN.{drop}
 use Rattle.std.proofs.Math.Seq.{get_or-take}
-use borrow.Author.Tests.{eqb_true}
+use borrow.Author.Tests.{eqb-true}
 use Rattle.rules.specs.Lists.{Words}
 use Rattle.rules.specs.Sheet.{at, chain, chain_of}
 use Rattle.rules.specs.Transfer.{cell_types}
@@ -60,7 +60,7 @@ module _ (s ls : Words) (h : ℕ) (o : Row) (ks : Words) (c j : ℕ) (k : Beside
   beside_end z = record {
     fixed = k.fixed;
     same = λ t js f.
-        let e : j ≡ o.n = eqb_true j o.n t in
+        let e : j ≡ o.n = eqb-true j o.n t in
         k.rest js f (ap (λ (xs : Words). labelled js (map (type_in_cell s) xs)) (cells-none s (length s - j) c z) ∙ sym (ap (labelled js) (drop_of_length-le (take o.n o.types) {i = j} (omega (arith, count, e)))));
   }
 

@@ -1,6 +1,6 @@
 -- Fresh unknowns for the type parameters of a candidate, and the types that stand for these.
 use Rattle.std.specs.Prelude.{ℕ, suc, ◌+◌, ◌-◌, ◌≤◌, ◌<◌, ◌≡◌, Bool, true, false, ◌≢◌, [], ◌∷◌, ◌++◌, length, replicate}
-use Rattle.std.proofs.Common.{sym, ◌∙◌, ap, true≢false, append_assoc, append_nil, add-one, arith, length-append}
+use Rattle.std.proofs.Common.{sym, ◌∙◌, ap, true≢false, append_assoc, append-nil, add-one, arith, length-append}
 use Rattle.rules.specs.Lists.{Words}
 use Rattle.rules.specs.Limits.{limit_nodes}
 use Rattle.rules.specs.Types.{Types, unknown, new_node}
@@ -24,7 +24,7 @@ fresh-one ts n =
 
 fresh-zero : (ts : Types) → with_fresh ts 0 ≡ ts
 unfolding with_fresh new_nodes
-fresh-zero ts = append_nil ts
+fresh-zero ts = append-nil ts
 
 -- On the way: what is left to push makes the same table.
 pub record Freshening (ws us : Words) (n i : ℕ) : Type 0 where

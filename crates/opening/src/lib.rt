@@ -2,7 +2,7 @@
 // with the question. It is work on one lent type table; `places` and `map` are lent for the time of a call.
 #![tactic(auto)]
 
-ghost use Rattle.std.specs.Prelude.{◌≡◌, true, map as map-list, ◌+◌, ◌*◌, ◌<◌, ◌≤◌, length};
+ghost use Rattle.std.specs.Prelude.{◌≡◌, true, map as map_list, ◌+◌, ◌*◌, ◌<◌, ◌≤◌, length};
 ghost use Rattle.std.proofs.Math.Option.{none, some};
 ghost use Rattle.rules.specs.Layout.{header_generics, header_impls};
 ghost use Rattle.rules.specs.Sheet.{field, many};
@@ -109,7 +109,7 @@ fn joins(sheet: &[u32], dst: &mut [u32], marks: &mut [u32], tr: u32, xs: &[u32],
     requires all_in { AllIn (length (types_of dst.old)) (query_of q).1 }
     requires n_bound { q.n ≤ 4 }
     requires in_bounds { 256 ≤ length marks.old }
-    ensures { Joins (unify_impl_type sheet.now (types_of dst.old) (tr, map-list type_of_word xs.now) (query_of q)) dst.new result }
+    ensures { Joins (unify_impl_type sheet.now (types_of dst.old) (tr, map_list type_of_word xs.now) (query_of q)) dst.new result }
 {
     let ys = [q.args[0], q.args[1], q.args[2], q.args[3]];
     let n = q.n;

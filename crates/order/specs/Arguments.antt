@@ -1,7 +1,7 @@
 -- The arguments of a signature and of the question, followed from the table that the signature is brought into.
 use Rattle.std.specs.Prelude.{ℕ, zero, suc, ◌+◌, ◌*◌, ◌/◌, ◌%◌, ◌≤◌, ◌<◌, ◌≡◌, Bool, true, false, List, [], ◌∷◌, map, ◌≢◌, length, take, drop, replicate}
 use Rattle.std.proofs.Math.Path.{refl, ap, ap₂}
-use Rattle.std.proofs.Common.{sym, ◌∙◌, subst, true≢false, ⊎_elim, eqb_true}
+use Rattle.std.proofs.Common.{sym, ◌∙◌, subst, true≢false, ⊎_elim, eqb-true}
 use native.Mathlib.Omega.{arith}
 use Rattle.std.proofs.Math.Dec.{eqb}
 use Rattle.std.proofs.lemmas.List.{length-replicate, get_or-replicate}
@@ -144,4 +144,4 @@ module _ (s ps ws : Words) (p q : Query) (m : Words) (k : ℕ) (o : Asked s ps w
   asked_on m' r f e = record { few = o.few; rest = λ m'' g. here m'' (follows_more s ps ws m a b m' r _ _ m'' 0 f e g) }
 
   pub asked-last : (m' : Words) (r : ℕ) → Follows s ps ws m a b m' r → r ≢ 1 → Fails s ps ws p q (eqb r 0)
-  asked-last m' r f n = record { unfit = λ e. let z : r ≡ 0 = eqb_true r 0 e in here m' (follows_last s ps ws m a b m' 0 _ _ (subst (Follows s ps ws m a b m') z f) (λ y. omega (arith, y))) }
+  asked-last m' r f n = record { unfit = λ e. let z : r ≡ 0 = eqb-true r 0 e in here m' (follows_last s ps ws m a b m' 0 _ _ (subst (Follows s ps ws m a b m') z f) (λ y. omega (arith, y))) }

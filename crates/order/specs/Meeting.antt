@@ -1,8 +1,8 @@
 -- Two different roots, followed by what they are: an unknown is bound, two known types meet in their children, and are joined.
 use Rattle.std.specs.Prelude.{ℕ, suc, ◌/◌, ◌≡◌, refl, Bool, true, false, not, ◌&&◌, ◌||◌, List, [], ◌∷◌, map, ◌≢◌, ◌⊎◌, T, eqb, length}
-use Rattle.std.proofs.Common.{sym, ◌∙◌, subst, true≢false, inl, inr, arith, eqb→eq, eqb_true as eqb_yes}
+use Rattle.std.proofs.Common.{sym, ◌∙◌, subst, true≢false, inl, inr, arith, eqb→eq, eqb-true as eqb_yes}
 use Rattle.std.proofs.Math.Path.{ap, ap₂}
-use Rattle.std.proofs.lemmas.Bool.{eqb_false as eqb_no}
+use Rattle.std.proofs.lemmas.Bool.{eqb-false as eqb_no}
 use Rattle.rules.specs.Lists.{Words}
 use Rattle.rules.specs.Layout.{kind_closure, kind_error}
 use Rattle.rules.specs.Sheet.{at, kind_flag, row_may_meet}

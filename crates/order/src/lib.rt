@@ -8,7 +8,7 @@ ghost use Rattle.std.specs.Prelude.{◌≡◌, ◌≢◌, true, false, map, ◌+
 ghost use Rattle.rules.specs.Sheet.{at};
 ghost use Rattle.table.specs.Packing.{Packed};
 ghost use Rattle.table.specs.ChildTypes.{row_at};
-ghost use Rattle.refs.specs.Meaning.{turn as turn-of};
+ghost use Rattle.refs.specs.Meaning.{turn as turn_of};
 ghost use Rattle.order.specs.Stage.{kind_word, id_word, kids, base};
 ghost use Rattle.order.specs.Mirror.{source, Marks};
 ghost use Rattle.order.specs.Following.{Follows, FollowsAll, Meets, Owns};
@@ -136,7 +136,7 @@ fn shorten(m: &mut [u32; 8192], t: u32, x: u32)
 // The type whose state the type of a root has.
 fn state(m: &[u32; 8192], x: u32) -> u32
     requires { x < 4096 }
-    ensures { result ≡ turn-of x (source m.now (x / 2)) }
+    ensures { result ≡ turn_of x (source m.now (x / 2)) }
 {
     let from = m[STATES + ref_of(x)];
     if from == 0 {
@@ -463,8 +463,8 @@ fn meet_known(
     requires packed { Packed ws.now }
     requires x_bound { x < 4096 }
     requires y_bound { y < 4096 }
-    requires p_value { p ≡ turn-of x (source m.old (x / 2)) }
-    requires q_value { q ≡ turn-of y (source m.old (y / 2)) }
+    requires p_value { p ≡ turn_of x (source m.old (x / 2)) }
+    requires q_value { q ≡ turn_of y (source m.old (y / 2)) }
     requires k_value { k ≡ kind_word sheet.now places.now ws.now (p / 2) }
     requires l_value { l ≡ kind_word sheet.now places.now ws.now (q / 2) }
     requires k_nonzero { k ≢ 0 }
@@ -498,7 +498,7 @@ fn below(
     left: usize,
 ) -> u32
     requires { Packed ws.now }
-    ensures { FollowsAll sheet.now places.now ws.now m.old (kids sheet.now places.now ws.now a) (map (turn-of b) (kids sheet.now places.now ws.now z)) m.new result }
+    ensures { FollowsAll sheet.now places.now ws.now m.old (kids sheet.now places.now ws.now a) (map (turn_of b) (kids sheet.now places.now ws.now z)) m.new result }
 {
     if RECORDS <= a {
         if z < NODES {
@@ -523,7 +523,7 @@ fn across(
     requires packed { Packed ws.now }
     requires le_a { 1024 ≤ a }
     requires z_bound { z < 256 }
-    ensures { FollowsAll sheet.now places.now ws.now m.old (kids sheet.now places.now ws.now a) (map (turn-of b) (kids sheet.now places.now ws.now z)) m.new result }
+    ensures { FollowsAll sheet.now places.now ws.now m.old (kids sheet.now places.now ws.now a) (map (turn_of b) (kids sheet.now places.now ws.now z)) m.new result }
 {
     if sheet.len() <= 8 {
         return STOP;
@@ -636,7 +636,7 @@ fn rows(
     left: usize,
 ) -> u32
     requires { Packed ws.now }
-    ensures { FollowsAll sheet.now places.now ws.now m.old (kids sheet.now places.now ws.now a) (map (turn-of b) (kids sheet.now places.now ws.now z)) m.new result }
+    ensures { FollowsAll sheet.now places.now ws.now m.old (kids sheet.now places.now ws.now a) (map (turn_of b) (kids sheet.now places.now ws.now z)) m.new result }
 {
     let xs = children(sheet, places, ws, a);
     if xs.n == UNTOLD {

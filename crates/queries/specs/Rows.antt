@@ -3,7 +3,7 @@ use Prim.Native.Nat.{ℕ, zero, suc, ◌+◌, ◌*◌, ◌≤◌, ◌<◌}
 use Rattle.std.specs.Prelude.{◌≡◌, refl, Bool, length, drop, set}
 use Rattle.std.proofs.Math.Path.{sym, ap}
 use Rattle.std.proofs.Common.{◌∙◌, ap₂, subst, le_of_suc-le-suc, not-suc-le-zero, zero-add, add-zero, suc-add, add-one, arith, length-append, length-drop, length-set, length-take-le, take-add, take-take, drop-drop, get_or-drop}
-use mathlib.Core.List.{List, [], ◌∷◌, ◌++◌, map, map-append, append_nil, append_assoc}
+use mathlib.Core.List.{List, [], ◌∷◌, ◌++◌, map, map-append, append-nil, append_assoc}
 use Rattle.std.proofs.Math.Option.{Option}
 use Rattle.std.proofs.Math.ListN.{get_or, take}
 use Rattle.std.proofs.lemmas.List.{length-map, take-set-le, drop-set-add}
@@ -138,7 +138,7 @@ rowing_next qs ts us k m r q f g l e p = record {
   room = omega (arith, g.room, p.ends, rowing_few qs ts k m q f g l e);
   is =
       p.is
-      ∙ ap₂ {C = List Ty} (λ (x y : List Ty). x ++ y) g.is (ap (λ (c : Query). (query_of c).1) e ∙ sym (append_nil (query_of (query_in qs k)).1))
+      ∙ ap₂ {C = List Ty} (λ (x y : List Ty). x ++ y) g.is (ap (λ (c : Query). (query_of c).1) e ∙ sym (append-nil (query_of (query_in qs k)).1))
       ∙ sym (row-append (up_to (λ j. query_of (query_in qs j)) k) (query_of (query_in qs k) ∷ []))
       ∙ ap (λ i. row (up_to (λ j. query_of (query_in qs j)) i)) (sym (add-one k));
 }

@@ -1,6 +1,6 @@
 -- The walk that marks what some types reach.
 use Rattle.std.specs.Prelude.{ℕ, zero, suc, ◌+◌, ◌-◌, ◌/◌, ◌≤◌, ◌<◌, ◌≡◌, refl, Bool, true, false, [], ◌∷◌, ◌≢◌, ◌⊎◌, eqb, length, set}
-use Rattle.std.proofs.Common.{sym, ◌∙◌, ap, subst, inl, inr, ⊎_elim, eq-or-lt_of_le, arith, length-set, get_or-set_same, get_or-set_other, eqb_true}
+use Rattle.std.proofs.Common.{sym, ◌∙◌, ap, subst, inl, inr, ⊎_elim, eq-or-lt_of_le, arith, length-set, get_or-set_same, get_or-set_other, eqb-true}
 use Rattle.std.proofs.Math.Nat.{suc-sub-suc, sub-zero}
 use Rattle.std.proofs.Math.Decide.{ℕ_discrete}
 use Rattle.rules.specs.Lists.{Words}
@@ -22,7 +22,7 @@ pub spares_none : (s : Words) (w : Bool) (p : ℕ) → Spares s w p false
 spares_none s w p = record { given = λ e. never e; param = λ e. never e }
 
 pub spares_kind : (s : Words) (w : Bool) (p k : ℕ) → w ≡ true → k ≡ at s (p + 1) → Spares s w p (eqb k 1)
-spares_kind s w p k h e = record { given = λ q. h; param = λ q. sym e ∙ eqb_true k 1 q }
+spares_kind s w p k h e = record { given = λ q. h; param = λ q. sym e ∙ eqb-true k 1 q }
 
 -- A node of a table with records at the places ch that is marked, or a Param that is given.
 abbrev pub Reached : Words → Words → Bool → Words → ℕ → Type 0

@@ -1,6 +1,6 @@
 -- The children of a ref, told as a row of types.
 use Rattle.std.specs.Prelude.{ℕ, zero, suc, ◌+◌, ◌-◌, ◌%◌, ◌≤◌, ◌<◌, ◌≡◌, refl, Bool, [], ◌∷◌, ◌++◌, map, ◌≢◌, length, set, take}
-use Rattle.std.proofs.Common.{sym, ◌∙◌, ap, append_assoc, append_nil, add-one, arith, length-set, take-suc-set}
+use Rattle.std.proofs.Common.{sym, ◌∙◌, ap, append_assoc, append-nil, add-one, arith, length-set, take-suc-set}
 use Rattle.rules.specs.Lists.{Words}
 use Rattle.rules.specs.Sheet.{at, chain, chain_of}
 use Rattle.rules.specs.Types.{Ty}
@@ -59,7 +59,7 @@ cells_more s j zero h q = absurd (q refl)
 cells_more s j (suc i) h q = ap (λ k. chain_of k s (suc i)) (let e : length s - j ≡ suc (length s - (j + 1)) = omega arith in e)
 
 pub walks_end : (s : Words) (h : ℕ) (ns : Words) (c j : ℕ) → Walks s h ns c j → c ≡ 0 → Cells s h (record { n = j; types = ns })
-walks_end s h ns c j w e = record { few = λ z. w.few; long = λ z. omega (arith, w.few, w.long); are = λ z. sym (append_nil (take j ns)) ∙ ap (λ (l : Words). take j ns ++ map (type_in_cell s) l) (sym (cells-none s (length s - j) c e)) ∙ w.rest }
+walks_end s h ns c j w e = record { few = λ z. w.few; long = λ z. omega (arith, w.few, w.long); are = λ z. sym (append-nil (take j ns)) ∙ ap (λ (l : Words). take j ns ++ map (type_in_cell s) l) (sym (cells-none s (length s - j) c e)) ∙ w.rest }
 
 pub walks_on : (s : Words) (h : ℕ) (ns : Words) (c j v x n : ℕ) → Walks s h ns c j → c ≢ 0 → j ≢ 8 → v ≡ at s (c + 1) → x ≡ 2048 + v % 2048 → n ≡ at s c → Walks s h (set ns j x) n (j + 1)
 walks_on s h ns c j v x n w z y ev ex en = record {

@@ -5,8 +5,8 @@
 
 ghost use Rattle.std.specs.Prelude.{◌≡◌, ◌+◌, ◌%◌};
 ghost use Rattle.table.specs.Packing.{Packed};
-ghost use Rattle.refs.specs.Refs.{place, KindOf, IdOf, side_of, type_side, apart as Apart-of, Bit, Alike};
-ghost use Rattle.refs.specs.Meaning.{turn as turn-of, record_side};
+ghost use Rattle.refs.specs.Refs.{place, KindOf, IdOf, side_of, type_side, apart as Apart_of, Bit, Alike};
+ghost use Rattle.refs.specs.Meaning.{turn as turn_of, record_side};
 ghost use Rattle.refs.specs.Links.{Finds, Links, Settles};
 ghost use Rattle.refs.specs.Children.{Cells, Gathers};
 
@@ -98,7 +98,7 @@ fn side(sheet: &[u32], places: &[u32], ws: &[u32], t: u32) -> u32
 
 // Whether two types differ in side: 1 or 0.
 pub fn apart(sheet: &[u32], places: &[u32], ws: &[u32], x: u32, y: u32) -> u32
-    ensures { Bit (Apart-of sheet.now places.now ws.now x y) result }
+    ensures { Bit (Apart_of sheet.now places.now ws.now x y) result }
 {
     let a = side(sheet, places, ws, x);
     let b = side(sheet, places, ws, y);
@@ -107,7 +107,7 @@ pub fn apart(sheet: &[u32], places: &[u32], ws: &[u32], x: u32, y: u32) -> u32
 
 // A type, inverted if b is odd.
 pub fn turn(b: u32, t: u32) -> u32
-    ensures { result ≡ turn-of b t }
+    ensures { result ≡ turn_of b t }
 {
     t / 2 * 2 + (t % 2 + b % 2) % 2
 }

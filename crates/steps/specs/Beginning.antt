@@ -1,6 +1,6 @@
 -- How a question begins: built-in fork and drop, then the generics' impl parameters; a basic one has neither.
 use Rattle.std.specs.Prelude.{ℕ, ◌≤◌, ◌≡◌, refl, true, ◌≢◌, eqb, ltb}
-use Rattle.std.proofs.Common.{sym, ◌∙◌, subst, arith, ne_eqb, eqb_true}
+use Rattle.std.proofs.Common.{sym, ◌∙◌, subst, arith, ne_eqb, eqb-true}
 use Rattle.std.proofs.Math.Path.{ap}
 use mathlib.Core.List.{List, [], ◌∷◌, map}
 use Rattle.rules.specs.Lists.{Words}
@@ -100,5 +100,5 @@ chain-none (w ∷ s) = refl
 pub params_none : (s : Words) (g h : ℕ) → h ≡ field s header_generics g generics_impl_params → (eqb h 0 ≡ true → (impl_params s g).1 ≡ [])
 unfolding params_from
 params_none s g h e t =
-    let z = eqb_true h 0 t in
+    let z = eqb-true h 0 t in
     params_of_generics s g h e ∙ ap (λ (i : ℕ). params_from s i) z ∙ ap (λ (ps : Words). map (param_of s) ps) (chain-none s)

@@ -1,6 +1,6 @@
 -- Children of two nodes that are of one root and side.
 use Rattle.std.specs.Prelude.{ℕ, ◌+◌, ◌/◌, ◌%◌, ◌*◌, ◌≤◌, ◌<◌, ◌≡◌, refl, Bool, true, false, not, ◌≢◌, eqb, length, get_or}
-use Rattle.std.proofs.Common.{sym, ◌∙◌, ap, ap₂, subst, true≢false, arith, eqb_true}
+use Rattle.std.proofs.Common.{sym, ◌∙◌, ap, ap₂, subst, true≢false, arith, eqb-true}
 use Rattle.std.proofs.Math.Decide.{ℕ_discrete}
 use Rattle.rules.specs.Lists.{Words}
 use Rattle.rules.specs.Sheet.{at}
@@ -84,7 +84,7 @@ module _ (ws : Words) (x y m : ℕ) (b : Bool) (k : Matched (types_of ws) x y m)
     low = omega (arith, p.low);
     most = λ l. omega arith;
     same = λ n l g. elim (ℕ_discrete n j) [
-      | yes o ↦ subst (λ (v : ℕ). find (types_of ws) (get_or (children_at (types_of ws) x) v (false, 0)) ≡ find (types_of ws) (invert_if b (get_or (children_at (types_of ws) y) v (false, 0)))) (sym o) (alike_pair j _ _ h refl refl (eqb_true _ _ (sym q ∙ yes_of e z)))
+      | yes o ↦ subst (λ (v : ℕ). find (types_of ws) (get_or (children_at (types_of ws) x) v (false, 0)) ≡ find (types_of ws) (invert_if b (get_or (children_at (types_of ws) y) v (false, 0)))) (sym o) (alike_pair j _ _ h refl refl (eqb-true _ _ (sym q ∙ yes_of e z)))
       | no o ↦ p.same n l (omega arith)
     ];
   }

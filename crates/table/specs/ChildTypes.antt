@@ -1,10 +1,10 @@
 -- The types of roots that a known node's children are, read from its words.
 use Rattle.std.specs.Prelude.{ℕ, zero, suc, ◌+◌, ◌*◌, ◌/◌, ◌%◌, ◌≤◌, ◌<◌, ◌≡◌, Bool, true, false, List, [], ◌∷◌, map, ◌≢◌, eqb}
 use Rattle.std.proofs.Math.Path.{refl, sym, ap, subst}
-use Rattle.std.proofs.Common.{◌∙◌, eq-eqb, ne_eqb, eqb_true}
+use Rattle.std.proofs.Common.{◌∙◌, eq-eqb, ne_eqb, eqb-true}
 use native.Mathlib.Omega.{arith}
 use Rattle.std.proofs.Math.ListN.{length, take}
-use Rattle.std.proofs.lemmas.Bool.{eqb_false}
+use Rattle.std.proofs.lemmas.Bool.{eqb-false}
 use Rattle.rules.specs.Lists.{Words, bit}
 use Rattle.rules.specs.Sheet.{at}
 use Rattle.rules.specs.Types.{Ty, TypeNode, xor, invert_if, find}
@@ -31,17 +31,17 @@ pub odd-sum : (a b : ℕ) → xor (eqb (a % 2) 1) (eqb (b % 2) 1) ≡ eqb ((a + 
 odd-sum a b = go (eqb (a % 2) 1) (eqb (b % 2) 1) refl refl
   where
     go : (x y : Bool) → eqb (a % 2) 1 ≡ x → eqb (b % 2) 1 ≡ y → xor x y ≡ eqb ((a + b) % 2) 1
-    go true true p q = sym (ne_eqb ((a + b) % 2) 1 (λ z. omega (arith, eqb_true (a % 2) 1 p, eqb_true (b % 2) 1 q)))
-    go true false p q = sym (eq-eqb ((a + b) % 2) 1 (let n : b % 2 ≢ 1 = eqb_false (b % 2) 1 q in omega (arith, eqb_true (a % 2) 1 p)))
-    go false true p q = sym (eq-eqb ((a + b) % 2) 1 (let n : a % 2 ≢ 1 = eqb_false (a % 2) 1 p in omega (arith, eqb_true (b % 2) 1 q)))
-    go false false p q = sym (ne_eqb ((a + b) % 2) 1 (λ z. let n : a % 2 ≢ 1 = eqb_false (a % 2) 1 p in let m : b % 2 ≢ 1 = eqb_false (b % 2) 1 q in omega arith))
+    go true true p q = sym (ne_eqb ((a + b) % 2) 1 (λ z. omega (arith, eqb-true (a % 2) 1 p, eqb-true (b % 2) 1 q)))
+    go true false p q = sym (eq-eqb ((a + b) % 2) 1 (let n : b % 2 ≢ 1 = eqb-false (b % 2) 1 q in omega (arith, eqb-true (a % 2) 1 p)))
+    go false true p q = sym (eq-eqb ((a + b) % 2) 1 (let n : a % 2 ≢ 1 = eqb-false (a % 2) 1 p in omega (arith, eqb-true (b % 2) 1 q)))
+    go false false p q = sym (ne_eqb ((a + b) % 2) 1 (λ z. let n : a % 2 ≢ 1 = eqb-false (a % 2) 1 p in let m : b % 2 ≢ 1 = eqb-false (b % 2) 1 q in omega arith))
 
 odd-bit : (n : ℕ) → bit (eqb (n % 2) 1) ≡ n % 2
 odd-bit n = go (eqb (n % 2) 1) refl
   where
     go : (x : Bool) → eqb (n % 2) 1 ≡ x → bit (eqb (n % 2) 1) ≡ n % 2
-    go true p = rw p (sym (eqb_true (n % 2) 1 p))
-    go false p = let z : n % 2 ≢ 1 = eqb_false (n % 2) 1 p in rw p (omega arith)
+    go true p = rw p (sym (eqb-true (n % 2) 1 p))
+    go false p = let z : n % 2 ≢ 1 = eqb-false (n % 2) 1 p in rw p (omega arith)
 
 turned_word : (u t : ℕ) → u / 2 * 2 + (u + t) % 2 ≡ word_of_type (invert_if (eqb (t % 2) 1) (type_of_word u))
 unfolding word_of_type invert_if type_of_word

@@ -1,10 +1,10 @@
 -- Laws of lists counted up, of type words, and of the nodes of a table by the words that they stand in.
 use Rattle.std.specs.Prelude.{ℕ, zero, suc, ◌+◌, ◌*◌, ◌/◌, ◌%◌, ◌≤◌, ◌<◌, min, ◌≡◌, refl, Bool, true, false, [], ◌∷◌, ◌≢◌, ◌⊎◌, eqb, length, get_or, set}
-use Rattle.std.proofs.Common.{sym, ◌∙◌, ap₂, ⊎_elim, eq-or-lt_of_le, arith, length-set, length-append, ext_get_or, get_or-set_same, get_or-set_other, eq-eqb, ne_eqb, eqb_true}
+use Rattle.std.proofs.Common.{sym, ◌∙◌, ap₂, ⊎_elim, eq-or-lt_of_le, arith, length-set, length-append, ext_get_or, get_or-set_same, get_or-set_other, eq-eqb, ne_eqb, eqb-true}
 use Rattle.std.proofs.Math.Decide.{ℕ_discrete}
 use Rattle.std.proofs.Math.ListN.{get_or-append, get_or-eq_default}
 use Rattle.std.proofs.lemmas.List.{get_or_at}
-use Rattle.std.proofs.lemmas.Bool.{eqb_false}
+use Rattle.std.proofs.lemmas.Bool.{eqb-false}
 use Rattle.rules.specs.Lists.{Words, bit}
 use Rattle.rules.specs.Limits.{limit_nodes}
 use Rattle.rules.specs.Sheet.{at}
@@ -49,8 +49,8 @@ unfolding word_of_type type_of_word
 word_type w = go (eqb (w % 2) 1) refl
   where
     go : (b : Bool) → eqb (w % 2) 1 ≡ b → 2 * (w / 2) + bit (eqb (w % 2) 1) ≡ w
-    go true e = rw e (omega (arith, eqb_true (w % 2) 1 e))
-    go false e = let n : w % 2 ≢ 1 = eqb_false (w % 2) 1 e in rw e (omega arith)
+    go true e = rw e (omega (arith, eqb-true (w % 2) 1 e))
+    go false e = let n : w % 2 ≢ 1 = eqb-false (w % 2) 1 e in rw e (omega arith)
 
 pub type_word : (t : Ty) → type_of_word (word_of_type t) ≡ t
 unfolding word_of_type type_of_word

@@ -5,7 +5,7 @@
 ghost use Rattle.std.specs.Prelude.{◌≡◌, false, ◌+◌, ◌*◌, ◌/◌, ◌%◌, ◌<◌, ◌≤◌, length, get_or, set, [], map, ◌≢◌, eqb};
 ghost use Rattle.rules.specs.Sheet.{at};
 ghost use Rattle.rules.specs.Lists.{bit};
-ghost use Rattle.rules.specs.Types.{unknown, known, new_node, node_at, xor as xor-of, invert_if, invert_state, find as find-in, state_at, size_at, relabel, or_else, hang as hang-in, join as join-in};
+ghost use Rattle.rules.specs.Types.{unknown, known, new_node, node_at, xor as xor_of, invert_if, invert_state, find as find_in, state_at, size_at, relabel, or_else, hang as hang_in, join as join_in};
 ghost use Rattle.rules.specs.Solutions.{rep};
 ghost use Rattle.rules.specs.AcyclicLaws.{children_at};
 ghost use Rattle.rules.specs.Transfer.{type_of_word};
@@ -297,7 +297,7 @@ pub fn next_apart(ws: &[u32], x: u32, y: u32, i: usize, m: usize, inverted: bool
 
 // `find`: the type of a root that a type is.
 pub fn find(ws: &[u32], t: u32) -> u32
-    ensures { result ≡ word_of_type (find-in (types_of ws.now) (type_of_word t)) }
+    ensures { result ≡ word_of_type (find_in (types_of ws.now) (type_of_word t)) }
 {
     invert_if(is_inverted(t), up_of(ws, t / 2))
 }
@@ -475,7 +475,7 @@ pub fn clear_table(ws: &mut [u32])
 }
 
 pub fn xor(a: bool, b: bool) -> bool
-    ensures { result ≡ xor-of a b }
+    ensures { result ≡ xor_of a b }
 {
     if a { !b } else { b }
 }
@@ -567,7 +567,7 @@ fn relabel_members(ws: &mut [u32], lo: u32, t: u32)
 fn root_head(h: u32, n: u32, size: u32, inverted: bool) -> u32
     requires n_lt_limit_nodes { n < limit_nodes }
     requires size_bound { size < 512 }
-    ensures { Head result (h % 16) (2 * n) size (h / 32 % 16) (xor-of inverted (eqb (h / 16 % 2) 1)) }
+    ensures { Head result (h % 16) (2 * n) size (h / 32 % 16) (xor_of inverted (eqb (h / 16 % 2) 1)) }
 {
     let i = bit_of(xor(inverted, h / 16 % 2 == 1));
     head(h % 16, i, h / 32 % 16, 2 * n, size)
@@ -624,7 +624,7 @@ fn sizes(ws: &[u32], lo: u32, hi: u32) -> u32
 
 // Whether two types are inverted to each other.
 pub fn opposed(a: u32, b: u32) -> bool
-    ensures { result ≡ xor-of (type_of_word a).0 (type_of_word b).0 }
+    ensures { result ≡ xor_of (type_of_word a).0 (type_of_word b).0 }
 {
     xor(is_inverted(a), is_inverted(b))
 }
@@ -633,7 +633,7 @@ pub fn opposed(a: u32, b: u32) -> bool
 fn hang(ws: &mut [u32], lo: u32, hi: u32)
     requires packed { Packed ws.old }
     requires roots { Roots (types_of ws.old) (type_of_word lo) (type_of_word hi) }
-    ensures { Becomes ws.new (hang-in (types_of ws.old) (type_of_word lo) (type_of_word hi)) }
+    ensures { Becomes ws.new (hang_in (types_of ws.old) (type_of_word lo) (type_of_word hi)) }
 {
     let size = sizes(ws, lo, hi);
     let b = opposed(hi, lo);
@@ -646,7 +646,7 @@ fn hang(ws: &mut [u32], lo: u32, hi: u32)
 pub fn join(ws: &mut [u32], a: u32, b: u32)
     requires packed { Packed ws.old }
     requires roots { Roots (types_of ws.old) (type_of_word a) (type_of_word b) }
-    ensures { Becomes ws.new (join-in (types_of ws.old) (type_of_word a) (type_of_word b)) }
+    ensures { Becomes ws.new (join_in (types_of ws.old) (type_of_word a) (type_of_word b)) }
 {
     if size_of(ws, b / 2) < size_of(ws, a / 2) {
         hang(ws, b, a);

@@ -1,7 +1,7 @@
 -- The children of a record, read from its cells one after the other.
 use Prim.Native.Nat.{ℕ, zero, suc, ◌+◌, ◌-◌, ◌≤◌, ◌<◌}
 use Rattle.std.specs.Prelude.{◌≡◌, refl, ◌≢◌, Bool, false, List, [], ◌∷◌, ◌++◌, map, set, take}
-use Rattle.std.proofs.Common.{sym, ◌∙◌, subst, append_assoc, append_nil, add-one, length-set, take-suc-set}
+use Rattle.std.proofs.Common.{sym, ◌∙◌, subst, append_assoc, append-nil, add-one, length-set, take-suc-set}
 use Rattle.std.proofs.Math.Path.{ap}
 use Rattle.std.proofs.lemmas.List.{map-append}
 use native.Mathlib.Omega.{arith}
@@ -77,7 +77,7 @@ module _ (s : Words) (h : ℕ) (cs : Words) (c j : ℕ) (w : Walks s h cs c j) w
 
   -- At 0, and past as many cells as there are words, there is none.
   ended : j ≡ length (cell_types s h) → chain_of (length s - j) s c ≡ [] → Gathered s h cs j
-  ended e q = record { long = w.long; count = e; is = sym (append_nil (map type_of_word (take j cs))) ∙ ap (λ (x : Words). map type_of_word (take j cs) ++ map (type_in_cell s) x) (sym q) ∙ w.rest }
+  ended e q = record { long = w.long; count = e; is = sym (append-nil (map type_of_word (take j cs))) ∙ ap (λ (x : Words). map type_of_word (take j cs) ++ map (type_in_cell s) x) (sym q) ∙ w.rest }
 
   none_left : (ps : Words) → j + length ps ≡ length (cell_types s h) → j ≡ length (cell_types s h) → ps ≡ []
   none_left [] e q = refl

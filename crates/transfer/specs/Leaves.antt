@@ -1,13 +1,13 @@
 -- Laws of the functions that a transfer calls and that call none: parameters, the mapping, a new node, the children of a source's node.
 use Rattle.std.specs.Prelude.{ℕ, zero, suc, ◌+◌, ◌-◌, ◌*◌, ◌/◌, ◌%◌, ◌≤◌, ◌<◌, min, ◌≡◌, ◌≢◌, Bool, eqb, length, get_or, set, take}
 use Rattle.std.proofs.Math.Path.{refl, sym, subst}
-use Rattle.std.proofs.Common.{◌∙◌, ap, ap₂, not-suc-le-zero, add-one, arith, Fits, length-set, length-take, get_or-set_same, get_or-set_other, get_or-take, ext_get_or, eq-eqb, ne_eqb, eqb_true}
+use Rattle.std.proofs.Common.{◌∙◌, ap, ap₂, not-suc-le-zero, add-one, arith, Fits, length-set, length-take, get_or-set_same, get_or-set_other, get_or-take, ext_get_or, eq-eqb, ne_eqb, eqb-true}
 use Rattle.std.proofs.Math.Bool.{true, false}
 use mathlib.Core.List.{List, [], ◌∷◌, map}
 use Rattle.std.proofs.Math.Option.{Option, none, some}
 use Rattle.std.proofs.Math.Decide.{ℕ_discrete}
 use Rattle.std.specs.Int.{w32}
-use Rattle.std.proofs.lemmas.Bool.{eqb_false}
+use Rattle.std.proofs.lemmas.Bool.{eqb-false}
 use Rattle.rules.specs.Lists.{Words, bit}
 use Rattle.rules.specs.Sheet.{at}
 use Rattle.rules.specs.Types.{Ty, TypeState, unknown, known, Types, new_node, xor, invert_if, state_at}
@@ -168,8 +168,8 @@ typed r n h = record {
 }
   where
     go : (b : Bool) → eqb (r % 2) 1 ≡ b → 2 * n + r % 2 ≡ word_of_type (eqb (r % 2) 1, n)
-    go true e = rw e (omega (arith, eqb_true (r % 2) 1 e, turned true n))
-    go false e = let z : r % 2 ≢ 1 = eqb_false (r % 2) 1 e in rw e (omega (arith, turned false n))
+    go true e = rw e (omega (arith, eqb-true (r % 2) 1 e, turned true n))
+    go false e = let z : r % 2 ≢ 1 = eqb-false (r % 2) 1 e in rw e (omega (arith, turned false n))
 
 -- No node has over 8 children.
 pub few_children : (src : Types) (n : ℕ) → Slim src → length (children_at src n) ≤ 8

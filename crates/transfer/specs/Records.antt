@@ -7,7 +7,7 @@ use mathlib.Core.List.{List, [], ◌∷◌, map}
 use native.Mathlib.Omega.{arith}
 use Rattle.std.proofs.Math.Dec.{eqb}
 use Rattle.std.proofs.Math.ListN.{length, get_or-eq_default}
-use borrow.Author.Tests.{eq-eqb, ne_eqb, eqb_true, eqb_false}
+use borrow.Author.Tests.{eq-eqb, ne_eqb, eqb-true, eqb-false}
 use Rattle.rules.specs.Lists.{Words, bit}
 use Rattle.rules.specs.Sheet.{at, chain}
 use Rattle.rules.specs.Types.{Ty, TypeState, unknown, known, TypeNode, new_node, node_at, xor, invert_if, find, state_at}
@@ -18,7 +18,7 @@ use Rattle.rules.specs.Transfer.{type_of_word, cell_types, node_state, new_nodes
 use Rattle.rules.specs.Answer.{word_of_type}
 use Rattle.table.specs.Packing.{kind_in, inverted_in, id_in, kind_at, inverted_at, id_at}
 use Rattle.table.specs.Nodes.{word_type, node_past}
-use Rattle.table.specs.Reads.{unknown_here as packed-unknown}
+use Rattle.table.specs.Reads.{unknown_here as packed_unknown}
 use Rattle.transfer.specs.Source.{indexed, source}
 
 pub mapped-length : {A B : Type 0} (f : A → B) (l : List A) → length (map f l) ≡ length l
@@ -88,8 +88,8 @@ module _ (s places : Words) (t w : ℕ) (ew : w ≡ t / 2) where
   find_past h = sym (ap (λ (nd : TypeNode). word_of_type (invert_if (eqb (t % 2) 1) nd.up)) (indexed_past s places (t / 2) (omega arith)) ∙ go (eqb (t % 2) 1) refl)
     where
       go : (b : Bool) → eqb (t % 2) 1 ≡ b → 2 * 0 + bit (xor b false) ≡ t % 2
-      go true e = sym (eqb_true (t % 2) 1 e)
-      go false e = let n : t % 2 ≢ 1 = eqb_false (t % 2) 1 e in omega arith
+      go true e = sym (eqb-true (t % 2) 1 e)
+      go false e = let n : t % 2 ≢ 1 = eqb-false (t % 2) 1 e in omega arith
 
 -- What a record is, by its kind.
 record_unknown : (s : Words) (p : ℕ) → at s (p + 1) ≡ 0 → node_state s p ≡ unknown
@@ -105,7 +105,7 @@ unfolding node_state kind_in
 record_kind s p = go (eqb (at s (p + 1)) 0) refl
   where
     go : (b : Bool) → eqb (at s (p + 1)) 0 ≡ b → kind_in (node_state s p) ≡ at s (p + 1)
-    go true e = rw (e, node_state) (sym (eqb_true (at s (p + 1)) 0 e))
+    go true e = rw (e, node_state) (sym (eqb-true (at s (p + 1)) 0 e))
     go false e = rw (e, node_state)
 
 module _ (s places : Words) (n : ℕ) where
@@ -180,5 +180,5 @@ module _ (s places : Words) (n : ℕ) where
 -- A node of either source whose kind is 0 is unknown.
 pub source_unknown : (b : Bool) (s places : Words) (n k : ℕ) → k ≡ kind_at (source b s places) n → k ≡ 0 → state_at (source b s places) n ≡ unknown
 unfolding source
-source_unknown true s places n k e z = packed-unknown s n k e z
+source_unknown true s places n k e z = packed_unknown s n k e z
 source_unknown false s places n k e z = unknown_here s places n k e z

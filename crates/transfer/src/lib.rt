@@ -3,7 +3,7 @@
 // of the source: 0, or 1 and the type word of what it became. Where parameters are given (`with`), a Param is the type in its place.
 #![tactic(auto)]
 
-ghost use Rattle.std.specs.Prelude.{true, false, map as map-list, suc, ◌+◌, ◌*◌, ◌/◌, ◌<◌, ◌≤◌, length, take};
+ghost use Rattle.std.specs.Prelude.{true, false, map as map_list, suc, ◌+◌, ◌*◌, ◌/◌, ◌<◌, ◌≤◌, length, take};
 ghost use Rattle.rules.specs.Sheet.{at};
 ghost use Rattle.rules.specs.Slim.{Slim};
 ghost use Rattle.rules.specs.Neat.{Neat};
@@ -258,7 +258,7 @@ fn transfer_each(
     requires mapping { Mapping (length (source_of packed s.now places.now)) map.old }
     requires m_in_bounds { m ≤ length ts.old }
     requires levels { Levels (source_of packed s.now places.now) (take m ts.old) left }
-    ensures { TransfersAll (source_of packed s.now places.now) (transfer_each (transfer_in left (source_of packed s.now places.now) (params_of with ps.now)) (map-list type_of_word (take m ts.old))) dst.old map.old dst.new map.new ts.old ts.new m result }
+    ensures { TransfersAll (source_of packed s.now places.now) (transfer_each (transfer_in left (source_of packed s.now places.now) (params_of with ps.now)) (map_list type_of_word (take m ts.old))) dst.old map.old dst.new map.new ts.old ts.new m result }
 {
     let mut i = 0;
     while i < m {

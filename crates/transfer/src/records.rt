@@ -1,7 +1,7 @@
 // A table as the records of a chain: node n is the record at places[n], its own root.
 ghost use Rattle.std.specs.Prelude.{◌≡◌, false, ◌+◌, ◌≤◌, length, get_or};
 ghost use Rattle.rules.specs.Sheet.{at};
-ghost use Rattle.rules.specs.Types.{find as find-in};
+ghost use Rattle.rules.specs.Types.{find as find_in};
 ghost use Rattle.rules.specs.AcyclicLaws.{children_at};
 ghost use Rattle.rules.specs.Slim.{Slim};
 ghost use Rattle.rules.specs.Transfer.{type_of_word, cell_types};
@@ -37,7 +37,7 @@ fn place(places: &[u32], n: u32) -> usize
 
 // `find`: every node is its own root.
 pub fn find(s: &[u32], places: &[u32], t: u32) -> u32
-    ensures { result ≡ word_of_type (find-in (indexed s.now places.now) (type_of_word t)) }
+    ensures { result ≡ word_of_type (find_in (indexed s.now places.now) (type_of_word t)) }
 {
     if words::wide(t / 2) < places.len() {
         t

@@ -1,6 +1,6 @@
 // A table to read from, in either of two forms: packed words, or the records of a chain, by their places.
 ghost use Rattle.std.specs.Prelude.{◌≡◌, false, length, get_or};
-ghost use Rattle.rules.specs.Types.{find as find-in};
+ghost use Rattle.rules.specs.Types.{find as find_in};
 ghost use Rattle.rules.specs.AcyclicLaws.{children_at};
 ghost use Rattle.rules.specs.Transfer.{type_of_word};
 ghost use Rattle.rules.specs.Answer.{word_of_type};
@@ -22,7 +22,7 @@ pub fn count(packed: bool, s: &[u32], places: &[u32]) -> usize
 
 // `find`: the type of a root that a type is.
 pub fn find(packed: bool, s: &[u32], places: &[u32], t: u32) -> u32
-    ensures { result ≡ word_of_type (find-in (source packed s.now places.now) (type_of_word t)) }
+    ensures { result ≡ word_of_type (find_in (source packed s.now places.now) (type_of_word t)) }
 {
     if packed {
         table::find(s, t)

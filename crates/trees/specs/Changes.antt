@@ -1,6 +1,6 @@
 -- Laws of the changes of a buffer of trees: what it holds after each, and that what lies outside it is as it was.
 use Rattle.std.specs.Prelude.{ℕ, zero, suc, ◌+◌, ◌-◌, ◌≤◌, ◌<◌, ◌≡◌, refl, ◌∷◌, ◌++◌, ◌≢◌, ◌⊎◌, length, set, drop}
-use Rattle.std.proofs.Common.{sym, ◌∙◌, ap, append_nil, inl, inr, ⊎_elim, arith, length-set, length-append, get_or-set_same, get_or-set_other, get_or-append-add, get_or-drop}
+use Rattle.std.proofs.Common.{sym, ◌∙◌, ap, append-nil, inl, inr, ⊎_elim, arith, length-set, length-append, get_or-set_same, get_or-set_other, get_or-append-add, get_or-drop}
 use Rattle.std.proofs.Math.ListN.{get_or-append}
 use Rattle.rules.specs.Lists.{Words}
 use Rattle.rules.specs.Layout.{tree_def}
@@ -31,7 +31,7 @@ words_size (tree k i c n) = ap suc (length-append (tree_words c) (tree_words n) 
 -- One tree before others.
 pub words-before : (r u : Trees) → Single r → tree_words (before r u) ≡ tree_words r ++ tree_words u
 unfolding tree_words before
-words-before r u s = rw s.is (ap (λ (l : Words). node_word s.kind s.id (tree_size s.children) ∷ (l ++ tree_words u)) (sym (append_nil (tree_words s.children))))
+words-before r u s = rw s.is (ap (λ (l : Words). node_word s.kind s.id (tree_size s.children) ∷ (l ++ tree_words u)) (sym (append-nil (tree_words s.children))))
 
 pub size-before : (r u : Trees) → Single r → tree_size (before r u) ≡ tree_size r + tree_size u
 unfolding tree_size before
@@ -144,7 +144,7 @@ wrapped ws us b n i w en few hi room c ew = record {
         ∙ ap (at us) (let z : b + 1 + suc j ≡ b + 2 + j = omega arith in z)
         ∙ c.there j (omega (arith, h.count))
         ∙ h.lies.there j (omega arith)
-        ∙ sym (ap (λ (l : Words). at l j) (append_nil (tree_words ts)))
+        ∙ sym (ap (λ (l : Words). at l j) (append-nil (tree_words ts)))
 
 -- Trees behind trees: n and then m.
 pub appended : (src ws us : Words) (a b n m : ℕ) → n ≡ at ws b → m ≡ at src a → at ws b + at src a ≤ 256 → b + 257 ≤ length ws → Carries src ws us (a + 1) (b + 1 + n) m → Appends src ws (set us b (n + m)) a b

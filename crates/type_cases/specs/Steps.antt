@@ -1,6 +1,6 @@
 -- Laws of the steps, as their tests and calls ask for them.
 use Rattle.std.specs.Prelude.{ℕ, ◌+◌, ◌/◌, ◌≤◌, ◌<◌, ◌≡◌, refl, Bool, true, false, not, List, map, ◌≢◌, eqb, length, take}
-use Rattle.std.proofs.Common.{sym, ◌∙◌, ap, subst, true≢false, ⊎_elim, not-suc-le-zero, eq-or-lt_of_le, arith, length-take-le, eqb_true}
+use Rattle.std.proofs.Common.{sym, ◌∙◌, ap, subst, true≢false, ⊎_elim, not-suc-le-zero, eq-or-lt_of_le, arith, length-take-le, eqb-true}
 use Rattle.rules.specs.Lists.{Words}
 use Rattle.rules.specs.Sheet.{at}
 use Rattle.rules.specs.Types.{known, unify_impl_type}
@@ -55,7 +55,7 @@ pub id_low : (k d n : ℕ) → k < 16 → d < 4096 → IdFits k d n true
 id_low k d n h l = record { at = λ e. (h, λ p. l, λ p. l) }
 
 pub id_free : (k d n : ℕ) → k < 16 → k ≢ 8 → IdFits k d n (eqb n 0)
-id_free k d n h z = record { at = λ e. (h, λ p. absurd (z p), λ p. absurd (omega (arith, eqb_true n 0 e))) }
+id_free k d n h z = record { at = λ e. (h, λ p. absurd (z p), λ p. absurd (omega (arith, eqb-true n 0 e))) }
 
 module _ (k d n : ℕ) (b : Bool) (t : IdFits k d n b) (z : not b ≡ false) where
   pub fits_kind : k < 16

@@ -2,11 +2,11 @@
 use Prim.Native.Nat.{ℕ, suc, ◌-◌, ◌/◌, ◌%◌, ◌<◌}
 use Rattle.std.specs.Prelude.{◌≡◌, Bool, false, not, ◌||◌, ◌≢◌, [], ◌∷◌, eqb}
 use Rattle.std.proofs.Math.Path.{refl, sym, ap, ap₂, subst}
-use Rattle.std.proofs.Common.{◌∙◌, inl, inr, eq-eqb, ne_eqb, eqb_true}
+use Rattle.std.proofs.Common.{◌∙◌, inl, inr, eq-eqb, ne_eqb, eqb-true}
 use Rattle.std.proofs.Math.Bool.{true}
 use native.Mathlib.Omega.{arith}
 use Rattle.std.proofs.Math.ListN.{length}
-use Rattle.std.proofs.lemmas.Bool.{eqb_false}
+use Rattle.std.proofs.lemmas.Bool.{eqb-false}
 use Rattle.rules.specs.Lists.{Words}
 use Rattle.rules.specs.Types.{Ty, TypeState, unknown, known, Types, xor, invert_if, find, state_at, self_inverse, from_bool, success, failure, indeterminate, join, Unified, unify_known, join_on_success, bind_unknown, unify_states, unify_roots, unify_in}
 use Rattle.rules.specs.Types as rules
@@ -20,7 +20,7 @@ use Rattle.rules.specs.UnifyKeeps.{StaysAcyclic, unify_in-acyclic}
 use Rattle.rules.specs.UnifyEnds.{Enough, root_enough}
 use Rattle.rules.specs.OwnInverse.{Later}
 use Rattle.rules.specs.RootRank.{rank}
-use Rattle.rules.specs.MostGeneral.{Won, unify_in_right, states_right as rules-right}
+use Rattle.rules.specs.MostGeneral.{Won, unify_in_right, states_right as rules_right}
 use Rattle.table.specs.Packing.{types_of, kind_in, inverted_in, id_in, kind_at, inverted_at, id_at, Roots, Good}
 use Rattle.table.specs.Nodes.{type_word}
 use Rattle.table.specs.Reads.{unknown_here}
@@ -80,10 +80,10 @@ unfolding type_of_word
 parity x y e q = go (eqb (x % 2) 1) refl (eqb (y % 2) 1) refl q
   where
     go : (b : Bool) → eqb (x % 2) 1 ≡ b → (c : Bool) → eqb (y % 2) 1 ≡ c → eqb (x % 2) 1 ≡ eqb (y % 2) 1 → x ≡ y
-    go true p true r z = omega (arith, eqb_true (x % 2) 1 p, eqb_true (y % 2) 1 r)
+    go true p true r z = omega (arith, eqb-true (x % 2) 1 p, eqb-true (y % 2) 1 r)
     go true p false r z = let n : ◌≡◌ {A = ℕ} 0 1 = cc in absurd (omega arith)
     go false p true r z = let n : ◌≡◌ {A = ℕ} 0 1 = cc in absurd (omega arith)
-    go false p false r z = let n : x % 2 ≢ 1 = eqb_false (x % 2) 1 p in let m : y % 2 ≢ 1 = eqb_false (y % 2) 1 r in omega arith
+    go false p false r z = let n : x % 2 ≢ 1 = eqb-false (x % 2) 1 p in let m : y % 2 ≢ 1 = eqb-false (y % 2) 1 r in omega arith
 
 -- Two roots.
 module _ (f : Types → Ty → Ty → Unified) (s ws : Words) (x y : ℕ) where
@@ -137,7 +137,7 @@ module _ (left : ℕ) (s ws : Words) (x y k : ℕ) (ek : k ≡ kind_at (types_of
   states_later : (us : Types) → Good ws → Roots (types_of ws) (type_of_word x) (type_of_word y) → ◌≡◌ {A = Unified} (success, us) (unify_states (unify_in left s) s (types_of ws) (type_of_word x) (type_of_word y) (state_at (types_of ws) (x / 2)) (state_at (types_of ws) (y / 2))) → Later (types_of ws) us
   unfolding type_of_word
   states_later us g r e =
-      let z = rules-right (unify_in left s) (unify_in_right left s) s (types_of ws) (type_of_word x) (type_of_word y) g.formed r.left_in r.right_in r.left_root r.right_root r.apart _ _ refl refl (ranked_readable (types_of ws) g.formed (rank (types_of ws)) g.acyclic) (subst Won (ap (λ (q : Unified). q.0) e) tt) in
+      let z = rules_right (unify_in left s) (unify_in_right left s) s (types_of ws) (type_of_word x) (type_of_word y) g.formed r.left_in r.right_in r.left_root r.right_root r.apart _ _ refl refl (ranked_readable (types_of ws) g.formed (rank (types_of ws)) g.acyclic) (subst Won (ap (λ (q : Unified). q.0) e) tt) in
       subst (Later (types_of ws)) (sym (ap (λ (q : Unified). q.1) e)) (record { before = g.formed; len = z.0.len; formed = z.0.formed; solution = z.1.0; free = z.1.1; out = z.0.out })
 
   pub states_left : (w : Bool) (ms us ns : Words) (v : UnifyResult) → k ≡ 0 → Good ws → Roots (types_of ws) (type_of_word x) (type_of_word y) → Ready s (types_of ws) ms → Binds (types_of ws) ms us ns v (bind_unknown (types_of ws) (type_of_word x) (type_of_word y)) → Met w s (types_of ws) ms us ns v (unify_states (unify_in left s) s (types_of ws) (type_of_word x) (type_of_word y) (state_at (types_of ws) (x / 2)) (state_at (types_of ws) (y / 2)))

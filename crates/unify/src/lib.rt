@@ -4,7 +4,7 @@
 
 ghost use Rattle.std.specs.Prelude.{◌≡◌, true, false, not, ◌&&◌, ◌||◌, List, [], ◌∷◌, map, suc, ◌/◌, ◌<◌, ◌≤◌, eqb, length, get_or};
 ghost use Rattle.rules.specs.Sheet.{kind_flag, row_may_meet};
-ghost use Rattle.rules.specs.Types.{invert_if, occurs, self_inverse as inverse-of, success, last_of, state_at, and as and-of, from_bool, unify_each as each_of, unify_children as children_of, bind_unknown as bind-of, join_on_success as success-of, unify_states as states-of, unify_roots as roots-of, unify_in, unify_types as types-unified, unify as unify-of, unify_impl_type as impl-type-unified, approx_eq as approx-of, Ty};
+ghost use Rattle.rules.specs.Types.{invert_if, occurs, self_inverse as inverse_of, success, last_of, state_at, and as and_of, from_bool, unify_each as each_of, unify_children as children_of, bind_unknown as bind_of, join_on_success as success_of, unify_states as states_of, unify_roots as roots_of, unify_in, unify_types as types_unified, unify as unify_of, unify_impl_type as impl_type_unified, approx_eq as approx_of, Ty};
 ghost use Rattle.rules.specs.AcyclicLaws.{children_at};
 ghost use Rattle.rules.specs.Transfer.{type_of_word};
 ghost use Rattle.rules.specs.Answer.{word_of_type};
@@ -40,7 +40,7 @@ fn kind(ws: &[u32], n: u32) -> usize
 
 // `UnifyResult::and`.
 fn and(a: UnifyResult, b: UnifyResult) -> UnifyResult
-    ensures { result_of result ≡ and-of (result_of a) (result_of b) }
+    ensures { result_of result ≡ and_of (result_of a) (result_of b) }
 {
     match a {
         UnifyResult::Success => b,
@@ -102,7 +102,7 @@ fn own_inverse_anew(s: &[u32], ws: &[u32], marks: &mut [u32], t: u32) -> bool
     requires good { Good ws.now }
     requires t_in_bounds { t / 2 < length (types_of ws.now) }
     requires in_bounds { 256 ≤ length marks.old }
-    ensures is { result ≡ inverse-of s.now (types_of ws.now) (type_of_word t) }
+    ensures is { result ≡ inverse_of s.now (types_of ws.now) (type_of_word t) }
     ensures aside { Aside marks.old marks.new }
 {
     walks::self_inverse(s, ws, &mut marks[..memo::MARKS], t)
@@ -114,7 +114,7 @@ fn own_inverse_kept(s: &[u32], ws: &[u32], marks: &mut [u32], t: u32) -> bool
     requires t_in_bounds { t / 2 < length (types_of ws.now) }
     requires ready { Ready s.now (types_of ws.now) marks.old }
     requires in_bounds { 512 ≤ length marks.old }
-    ensures is { result ≡ inverse-of s.now (types_of ws.now) (type_of_word t) }
+    ensures is { result ≡ inverse_of s.now (types_of ws.now) (type_of_word t) }
     ensures noted { Noted s.now (types_of ws.now) marks.old (types_of ws.now) marks.new }
 {
     walks::self_inverse_in(s, ws, &mut marks[memo::MARKS..memo::ALL_MARKS], t)
@@ -125,7 +125,7 @@ fn own_inverse(s: &[u32], ws: &[u32], marks: &mut [u32], t: u32) -> bool
     requires good { Good ws.now }
     requires t_in_bounds { t / 2 < length (types_of ws.now) }
     requires ready { Ready s.now (types_of ws.now) marks.old }
-    ensures is { result ≡ inverse-of s.now (types_of ws.now) (type_of_word t) }
+    ensures is { result ≡ inverse_of s.now (types_of ws.now) (type_of_word t) }
     ensures noted { Noted s.now (types_of ws.now) marks.old (types_of ws.now) marks.new }
 {
     if marks.len() < memo::ALL_MARKS {
@@ -153,7 +153,7 @@ fn bind_unknown(ws: &mut [u32], marks: &mut [u32], x: u32, y: u32) -> UnifyResul
     requires good { Good ws.old }
     requires roots { Roots (types_of ws.old) (type_of_word x) (type_of_word y) }
     requires in_bounds { 256 ≤ length marks.old }
-    ensures { Binds (types_of ws.old) marks.old ws.new marks.new result (bind-of (types_of ws.old) (type_of_word x) (type_of_word y)) }
+    ensures { Binds (types_of ws.old) marks.old ws.new marks.new result (bind_of (types_of ws.old) (type_of_word x) (type_of_word y)) }
 {
     if occurs_either(ws, marks, x, y) {
         return UnifyResult::Failure;
@@ -167,7 +167,7 @@ fn bind_unknown(ws: &mut [u32], marks: &mut [u32], x: u32, y: u32) -> UnifyResul
 fn join_on_success(ws: &mut [u32], marks: &mut [u32], v: UnifyResult, x: u32, y: u32) -> UnifyResult
     requires packed { Packed ws.old }
     requires roots { result_of v ≡ success → Roots (types_of ws.old) (type_of_word x) (type_of_word y) }
-    ensures { Binds (types_of ws.old) marks.old ws.new marks.new result (success-of (result_of v, types_of ws.old) (type_of_word x) (type_of_word y)) }
+    ensures { Binds (types_of ws.old) marks.old ws.new marks.new result (success_of (result_of v, types_of ws.old) (type_of_word x) (type_of_word y)) }
 {
     match v {
         UnifyResult::Success => {
@@ -257,7 +257,7 @@ fn unify_noted(
     requires two_roots { TwoRoots (types_of ws.old) (type_of_word x) (type_of_word y) }
     requires ready { Ready s.now (types_of ws.old) marks.old }
     requires fuelled { Fuelled (suc left) (types_of ws.old) (type_of_word x ∷ []) }
-    ensures { Met true s.now (types_of ws.old) marks.old ws.new marks.new result (roots-of (unify_in left s.now) s.now (types_of ws.old) (type_of_word x) (type_of_word y)) }
+    ensures { Met true s.now (types_of ws.old) marks.old ws.new marks.new result (roots_of (unify_in left s.now) s.now (types_of ws.old) (type_of_word x) (type_of_word y)) }
 {
     let kept = memo::recall(marks, x, y);
     if kept == 1 {
@@ -288,7 +288,7 @@ fn unify_roots(
     requires two_roots { TwoRoots (types_of ws.old) (type_of_word x) (type_of_word y) }
     requires ready { Ready s.now (types_of ws.old) marks.old }
     requires fuelled { Fuelled (suc left) (types_of ws.old) (type_of_word x ∷ []) }
-    ensures { Met whole s.now (types_of ws.old) marks.old ws.new marks.new result (roots-of (unify_in left s.now) s.now (types_of ws.old) (type_of_word x) (type_of_word y)) }
+    ensures { Met whole s.now (types_of ws.old) marks.old ws.new marks.new result (roots_of (unify_in left s.now) s.now (types_of ws.old) (type_of_word x) (type_of_word y)) }
 {
     if x / 2 != y / 2 {
         return unify_states(s, ws, marks, whole, x, y, left);
@@ -314,7 +314,7 @@ fn unify_states(
     requires roots { Roots (types_of ws.old) (type_of_word x) (type_of_word y) }
     requires ready { Ready s.now (types_of ws.old) marks.old }
     requires fuelled { Fuelled (suc left) (types_of ws.old) (type_of_word x ∷ []) }
-    ensures { Met whole s.now (types_of ws.old) marks.old ws.new marks.new result (states-of (unify_in left s.now) s.now (types_of ws.old) (type_of_word x) (type_of_word y) (state_at (types_of ws.old) (x / 2)) (state_at (types_of ws.old) (y / 2))) }
+    ensures { Met whole s.now (types_of ws.old) marks.old ws.new marks.new result (states_of (unify_in left s.now) s.now (types_of ws.old) (type_of_word x) (type_of_word y) (state_at (types_of ws.old) (x / 2)) (state_at (types_of ws.old) (y / 2))) }
 {
     if kind(ws, x / 2) == layout::KIND_UNKNOWN {
         return bind_unknown(ws, marks, x, y);
@@ -478,7 +478,7 @@ fn unify_one(
     requires a_in_bounds { a / 2 < length (types_of ws.old) }
     requires b_in_bounds { b / 2 < length (types_of ws.old) }
     requires in_bounds { 256 ≤ length marks.old }
-    ensures { Joined whole ws.new result (unify-of s.now (types_of ws.old) (type_of_word a) (type_of_word b)) }
+    ensures { Joined whole ws.new result (unify_of s.now (types_of ws.old) (type_of_word a) (type_of_word b)) }
 {
     memo::start(marks);
     let n = table::count(ws);
@@ -491,7 +491,7 @@ pub fn unify(s: &[u32], ws: &mut [u32], marks: &mut [u32], a: u32, b: u32) -> Un
     requires a_in_bounds { a / 2 < length (types_of ws.old) }
     requires b_in_bounds { b / 2 < length (types_of ws.old) }
     requires in_bounds { 256 ≤ length marks.old }
-    ensures { Unifies ws.new result (unify-of s.now (types_of ws.old) (type_of_word a) (type_of_word b)) }
+    ensures { Unifies ws.new result (unify_of s.now (types_of ws.old) (type_of_word a) (type_of_word b)) }
 {
     unify_one(s, ws, marks, true, a, b)
 }
@@ -509,7 +509,7 @@ fn unify_types(
     requires nodes { Nodes (types_of ws.old) xs.now }
     requires nodes_2 { Nodes (types_of ws.old) ys.now }
     requires in_bounds { 256 ≤ length marks.old }
-    ensures { Joined whole ws.new result (types-unified (unify-of s.now) (types_of ws.old) (map type_of_word xs.now) (map type_of_word ys.now)) }
+    ensures { Joined whole ws.new result (types_unified (unify_of s.now) (types_of ws.old) (map type_of_word xs.now) (map type_of_word ys.now)) }
 {
     if xs.len() != ys.len() {
         return UnifyResult::Failure;
@@ -544,7 +544,7 @@ fn unify_impl_types(
     requires nodes { Nodes (types_of ws.old) xs.now }
     requires nodes_2 { Nodes (types_of ws.old) ys.now }
     requires in_bounds { 256 ≤ length marks.old }
-    ensures { Joined whole ws.new result (impl-type-unified s.now (types_of ws.old) (a, map type_of_word xs.now) (b, map type_of_word ys.now)) }
+    ensures { Joined whole ws.new result (impl_type_unified s.now (types_of ws.old) (a, map type_of_word xs.now) (b, map type_of_word ys.now)) }
 {
     if a == 0 {
         return UnifyResult::Indeterminate;
@@ -572,7 +572,7 @@ pub fn unify_impl_type(
     requires nodes { Nodes (types_of ws.old) xs.now }
     requires nodes_2 { Nodes (types_of ws.old) ys.now }
     requires in_bounds { 256 ≤ length marks.old }
-    ensures { Unifies ws.new result (impl-type-unified s.now (types_of ws.old) (a, map type_of_word xs.now) (b, map type_of_word ys.now)) }
+    ensures { Unifies ws.new result (impl_type_unified s.now (types_of ws.old) (a, map type_of_word xs.now) (b, map type_of_word ys.now)) }
 {
     unify_impl_types(s, ws, marks, true, a, xs, b, ys)
 }
@@ -591,7 +591,7 @@ pub fn join_impl_type(
     requires nodes { Nodes (types_of ws.old) xs.now }
     requires nodes_2 { Nodes (types_of ws.old) ys.now }
     requires in_bounds { 256 ≤ length marks.old }
-    ensures { Joins (impl-type-unified s.now (types_of ws.old) (a, map type_of_word xs.now) (b, map type_of_word ys.now)) ws.new result }
+    ensures { Joins (impl_type_unified s.now (types_of ws.old) (a, map type_of_word xs.now) (b, map type_of_word ys.now)) ws.new result }
 {
     let v = unify_impl_types(s, ws, marks, false, a, xs, b, ys);
     match v {
@@ -603,7 +603,7 @@ pub fn join_impl_type(
 
 // `approx_eq`: the same trait, and none is Error. Arguments are not looked at.
 pub fn approx_eq(a: u32, b: u32) -> bool
-    ensures { (xs ys : List Ty) → result ≡ approx-of (a, xs) (b, ys) }
+    ensures { (xs ys : List Ty) → result ≡ approx_of (a, xs) (b, ys) }
 {
     if a == 0 {
         return false;

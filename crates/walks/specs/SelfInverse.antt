@@ -4,7 +4,7 @@ use Rattle.std.specs.Prelude.{◌≡◌, Bool, true, false, not, ◌&&◌, ◌�
 use Rattle.std.proofs.Math.Path.{refl, sym, ap, ap₂}
 use Rattle.std.proofs.Common.{◌∙◌, ⊎_elim, add-one, drop_of_length-le, drop-cons}
 use native.Mathlib.Omega.{arith}
-use Rattle.std.proofs.lemmas.Bool.{not_true, not_false}
+use Rattle.std.proofs.lemmas.Bool.{not-true, not-false}
 use Rattle.rules.specs.Lists.{Words, all}
 use Rattle.rules.specs.Sheet.{kind_flag, row_own_inverse}
 use Rattle.rules.specs.Types.{Ty, TypeState, unknown, known, Types, invert_if, invert_state, find, state_at, kind, self_inverse_in, self_inverse}
@@ -89,13 +89,13 @@ module _ (s ws : Words) (t n : ℕ) (g : Good ws) (h : t / 2 < length (types_of 
   inverted_marked ms b k eb q = record { is = sym (sym same_root ∙ k.all_own n (root_in ws t n g h e) (sym eb ∙ q)); own = k }
 
   pub inverted_not : (ms : Words) (b : Bool) → Own s (types_of ws) ms → b ≡ own_inverse s (types_of ws) n → not b ≡ true → Inverted s (types_of ws) t ms false
-  inverted_not ms b k eb q = record { is = sym (at_root ∙ ap (λ (x : Bool). x && all (self_inverse s (types_of ws)) (children_at (types_of ws) n)) (sym eb ∙ not_true b q)); own = k }
+  inverted_not ms b k eb q = record { is = sym (at_root ∙ ap (λ (x : Bool). x && all (self_inverse s (types_of ws)) (children_at (types_of ws) n)) (sym eb ∙ not-true b q)); own = k }
 
   below : (b : Bool) → b ≡ own_inverse s (types_of ws) n → b ≡ true → self_inverse s (types_of ws) (type_of_word t) ≡ all (self_inverse s (types_of ws)) (children_at (types_of ws) n)
   below b eb q = at_root ∙ ap (λ (x : Bool). x && all (self_inverse s (types_of ws)) (children_at (types_of ws) n)) (sym eb ∙ q)
 
   pub inverted_within : (ms : Words) (b c : Bool) → b ≡ own_inverse s (types_of ws) n → not b ≡ false → AllInverted s (types_of ws) n ms c → not c ≡ true → Inverted s (types_of ws) t ms false
-  inverted_within ms b c eb q a ec = record { is = sym (below b eb (not_false b q) ∙ sym a.is ∙ not_true c ec); own = a.own }
+  inverted_within ms b c eb q a ec = record { is = sym (below b eb (not-false b q) ∙ sym a.is ∙ not-true c ec); own = a.own }
 
   pub inverted_whole : (ms us : Words) (b c : Bool) → b ≡ own_inverse s (types_of ws) n → not b ≡ false → AllInverted s (types_of ws) n ms c → not c ≡ false → us ≡ with_mark ms n → Inverted s (types_of ws) t us true
   inverted_whole ms us b c eb q a ec eu = record {
@@ -104,7 +104,7 @@ module _ (s ws : Words) (t n : ℕ) (g : Good ws) (h : t / 2 < length (types_of 
   }
     where
       true_here : self_inverse s (types_of ws) (type_of_word t) ≡ true
-      true_here = below b eb (not_false b q) ∙ sym a.is ∙ not_false c ec
+      true_here = below b eb (not-false b q) ∙ sym a.is ∙ not-false c ec
 
 -- The loop over the children of root n: all before i are their own inverse.
 pub record Passed (s : Words) (ts : Types) (n i : ℕ) (ms : Words) : Type 0 where
@@ -128,10 +128,10 @@ module _ (s : Words) (ts : Types) (n m i c : ℕ) (e : m ≡ length (children_at
       ∙ ap₂ (λ (x : Bool) (k : ℕ). x && all (self_inverse s ts) (drop k (children_at ts n))) (sym (w.is ∙ ap (self_inverse s ts) (ap type_of_word ec ∙ type_word (get_or (children_at ts n) i (false, 0))))) (sym (add-one i))
 
   pub passed_not : not b ≡ true → AllInverted s ts n us false
-  passed_not q = record { is = sym (told ∙ ap (λ (x : Bool). x && all (self_inverse s ts) (drop (i + 1) (children_at ts n))) (not_true b q)); own = w.own }
+  passed_not q = record { is = sym (told ∙ ap (λ (x : Bool). x && all (self_inverse s ts) (drop (i + 1) (children_at ts n))) (not-true b q)); own = w.own }
 
   pub passed_more : not b ≡ false → Passed s ts n (i + 1) us
-  passed_more q = record { rest = told ∙ ap (λ (x : Bool). x && all (self_inverse s ts) (drop (i + 1) (children_at ts n))) (not_false b q); own = w.own }
+  passed_more q = record { rest = told ∙ ap (λ (x : Bool). x && all (self_inverse s ts) (drop (i + 1) (children_at ts n))) (not-false b q); own = w.own }
 
 -- Cleared marks: c is the count.
 pub own_start : (s ws ms us : Words) (c w : ℕ) → c ≡ length (types_of ws) → w ≡ c → us ≡ cleared w ms → Own s (types_of ws) us

@@ -2,7 +2,7 @@
 #![tactic(auto)]
 
 ghost use Rattle.std.specs.Prelude.{◌≡◌, ◌/◌, ◌<◌, ◌≤◌, length};
-ghost use Rattle.rules.specs.Types.{occurs as occurs-of, self_inverse};
+ghost use Rattle.rules.specs.Types.{occurs as occurs_of, self_inverse};
 ghost use Rattle.rules.specs.Transfer.{type_of_word};
 ghost use Rattle.rules.specs.Solutions.{rep};
 ghost use Rattle.table.specs.Packing.{types_of, id_at, kind_at, Good};
@@ -85,7 +85,7 @@ pub fn occurs(ws: &[u32], marks: &mut [u32], v: u32, t: u32) -> bool
     requires good { Good ws.now }
     requires t_in_bounds { t / 2 < length (types_of ws.now) }
     requires ws_in_bounds { length (types_of ws.now) ≤ length marks.old }
-    ensures { result ≡ occurs-of (types_of ws.now) v (type_of_word t) }
+    ensures { result ≡ occurs_of (types_of ws.now) v (type_of_word t) }
 {
     words::clear(marks, wide(table::count(ws)));
     occurs_in(ws, marks, v, t)

@@ -1,7 +1,7 @@
 -- `chain_ok`: the records still to come decide.
 use Rattle.values.specs.Verdict.{Walk, walk_begin, walk_out, walk-last, walk_member, walk_stop, walk_more}
 use borrow.Author.Rules.{rules}
-use borrow.Author.Tests.{not_true, not_false}
+use borrow.Author.Tests.{not-true, not-false}
 use Rattle.values.proofs.records.chain_ok.Statement.{statement}
 use Rattle.values.proofs.records.chain_ok.Tie as tie
 
@@ -24,7 +24,7 @@ record-ok-requires : tie.Need-record-ok-requires invariant-loop decreases-loop
 record-ok-requires c κs = search (rules, walk_member)
 
 returns-2 : tie.Need-returns-2 invariant-loop decreases-loop
-returns-2 c = search (rules, walk_stop, not_true)
+returns-2 c = search (rules, walk_stop, not-true)
 
 next-requires-2 : tie.Need-next-requires-2 invariant-loop decreases-loop
 next-requires-2 c κs = search rules
@@ -39,7 +39,7 @@ loop-less : tie.Need-loop-smaller invariant-loop decreases-loop
 loop-less c = search rules
 
 loop-again : tie.Need-loop-preserved invariant-loop decreases-loop
-loop-again c = search (rules, walk_more, not_false)
+loop-again c = search (rules, walk_more, not-false)
 
 returns-3 : tie.Need-returns-3 invariant-loop decreases-loop
 returns-3 c = search (rules, walk_out)

@@ -1,7 +1,7 @@
 -- `chains_ok`: the chains still to come decide.
 use Prim.Native.Nat.{◌+◌}
 use mathlib.Core.Path.{◌≡◌}
-use borrow.Author.Tests.{not_true, not_false}
+use borrow.Author.Tests.{not-true, not-false}
 use Rattle.rules.specs.Lists.{all, range}
 use Rattle.values.specs.Verdict.{chain_ok, chains_done, chains_stop, chains_more}
 use borrow.Author.Rules.{rules}
@@ -21,7 +21,7 @@ chain-ok-requires : tie.Need-chain-ok-requires invariant-loop decreases-loop
 chain-ok-requires c κs = search rules
 
 returns : tie.Need-returns invariant-loop decreases-loop
-returns c = search (rules, chains_stop, not_true)
+returns c = search (rules, chains_stop, not-true)
 
 add-h : tie.Need-overflow-add-h invariant-loop decreases-loop
 add-h c = search rules
@@ -33,7 +33,7 @@ loop-less : tie.Need-loop-smaller invariant-loop decreases-loop
 loop-less c = search rules
 
 loop-again : tie.Need-loop-preserved invariant-loop decreases-loop
-loop-again c = search (rules, chains_more, not_false)
+loop-again c = search (rules, chains_more, not-false)
 
 returns-2 : tie.Need-returns-2 invariant-loop decreases-loop
 returns-2 c = search (rules, chains_done)

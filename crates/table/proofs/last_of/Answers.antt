@@ -1,0 +1,10 @@
+-- `last_of`: by whether there are children.
+use Rattle.table.specs.Writes.{last_none, last_some}
+use Rattle.std.proofs.Common.{rules}
+use Rattle.table.proofs.last_of.Goals as goal
+
+pub returns-then-cs-eq0 : goal.returns-then-cs-eq0
+returns-then-cs-eq0 c = search (rules, last_none)
+
+pub returns : goal.returns
+returns c = search (rules, last_some)
