@@ -30,7 +30,7 @@ FACTS = {
     'is-success': 'IsSuccess',
 }
 # Names that would fall together with another one when a dash or a dot becomes _. A lemma that would have the name of a
-# definition gets _lem.
+# definition gets _lem, and the place of a record's word that would have the name of what it holds gets _word.
 APART = {
     'bit-or': 'bit-bit_or',
     'cell-type': 'type_in_cell',
@@ -38,10 +38,12 @@ APART = {
 } | {
     name: name.replace('-', '_') + '_lem'
     for name in (
-        'definition-bindings definition-implicit definition-named flex-both generics-table impl-args impl-generics'
-        ' impl-param-args impl-table impl-trait kind-param member-import node-inverted node-kind question-table'
-        ' row-length rows_end slot-trees table-length trait-arity trees-length'
+        'definition-bindings definition-implicit definition-named flex-both impl-param-args kind-param member-import'
+        ' node-inverted node-kind question-table row-length rows_end slot-trees table-length trees-length'
     ).split()
+} | {
+    name: name.replace('·', '_').replace('-', '_') + '_word'
+    for name in 'generics·table impl·args impl·generics impl·table impl·trait trait·arity'.split()
 }
 DECLARED = re.compile(
     r'(?m)^ *((?:(?:pub|abbrev|unfoldable|opaque|data|record) +)*)'

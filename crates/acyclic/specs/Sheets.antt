@@ -5,7 +5,7 @@ use Rattle.std.proofs.Common.{◌∙◌, subst, arith, get_or-take, get_or-drop}
 use Rattle.std.proofs.Math.Bool.{true, false}
 use borrow.Rule.Slice.PartMut.{put_mid, mid_of, mid_len, take_put, drop_put}
 use Rattle.rules.specs.Lists.{Words, all}
-use Rattle.rules.specs.Layout.{header_generics, header_impls, generics_table, impl_table, question_table}
+use Rattle.rules.specs.Layout.{header_generics, header_impls, generics_table_word, impl_table_word, question_table}
 use Rattle.rules.specs.Sheet.{at, chain, chain_of, records}
 use Rattle.rules.specs.Transfer.{table}
 use Rattle.rules.specs.Values.{generics_ok, impl_ok, sheet_values, impl_question_values, flex_question_values}
@@ -60,13 +60,13 @@ module _ (s : Words) (k h left p : ℕ) (a : Along s k h left p) where
   along_cut t r l m e f g = step t false l m e (sym g ∙ f)
 
 -- What 8 promises of a sheet's tables: those of the generics, and those of the impls.
-pub generics_inside : (s : Words) (h : ℕ) → T (sheet_values s) → h ≡ at s header_generics → AllInside s generics_table (chain s h)
+pub generics_inside : (s : Words) (h : ℕ) → T (sheet_values s) → h ≡ at s header_generics → AllInside s generics_table_word (chain s h)
 unfolding sheet_values generics_ok records
-generics_inside s h t e = record { each = λ p i. table_inside s s _ (at s (p + generics_table)) (part _ (all_in (generics_ok s) (records s header_generics) (part _ t 8) p (subst (λ x. In p (chain s x)) e i)) 1) }
+generics_inside s h t e = record { each = λ p i. table_inside s s _ (at s (p + generics_table_word)) (part _ (all_in (generics_ok s) (records s header_generics) (part _ t 8) p (subst (λ x. In p (chain s x)) e i)) 1) }
 
-pub impls_inside : (s : Words) (h : ℕ) → T (sheet_values s) → h ≡ at s header_impls → AllInside s impl_table (chain s h)
+pub impls_inside : (s : Words) (h : ℕ) → T (sheet_values s) → h ≡ at s header_impls → AllInside s impl_table_word (chain s h)
 unfolding sheet_values impl_ok records
-impls_inside s h t e = record { each = λ p i. table_inside s s _ (at s (p + impl_table)) (part _ (all_in (impl_ok s) (records s header_impls) (part _ t 10) p (subst (λ x. In p (chain s x)) e i)) 2) }
+impls_inside s h t e = record { each = λ p i. table_inside s s _ (at s (p + impl_table_word)) (part _ (all_in (impl_ok s) (records s header_impls) (part _ t 10) p (subst (λ x. In p (chain s x)) e i)) 2) }
 
 -- What 12 promises of a question's table.
 pub impl_question_inside : (s : Words) (g : ℕ) (q : Words) → T (impl_question_values s g q) → Inside q (at q question_table)
@@ -78,14 +78,14 @@ unfolding flex_question_values
 flex_question_inside s g q t = table_inside s q _ (at q question_table) (part _ t 0)
 
 -- 9: the generics' tables, then the impls'.
-module _ (s : Words) (h : ℕ) (r : Bool) (e : h ≡ at s header_generics) (f : r ≡ all_acyclic s generics_table (chain s h)) where
+module _ (s : Words) (h : ℕ) (r : Bool) (e : h ≡ at s header_generics) (f : r ≡ all_acyclic s generics_table_word (chain s h)) where
   pub generics_cyclic : r ≡ false → false ≡ sheet_acyclic s
   unfolding sheet_acyclic all_acyclic records
-  generics_cyclic g = ap (λ b. b && all_acyclic s impl_table (records s header_impls)) (sym g ∙ f ∙ ap (λ x. all_acyclic s generics_table (chain s x)) e)
+  generics_cyclic g = ap (λ b. b && all_acyclic s impl_table_word (records s header_impls)) (sym g ∙ f ∙ ap (λ x. all_acyclic s generics_table_word (chain s x)) e)
 
-  pub sheet_both : (i : ℕ) (q : Bool) → r ≡ true → i ≡ at s header_impls → q ≡ all_acyclic s impl_table (chain s i) → q ≡ sheet_acyclic s
+  pub sheet_both : (i : ℕ) (q : Bool) → r ≡ true → i ≡ at s header_impls → q ≡ all_acyclic s impl_table_word (chain s i) → q ≡ sheet_acyclic s
   unfolding sheet_acyclic all_acyclic records
-  sheet_both i q g j k = k ∙ ap (λ x. all_acyclic s impl_table (chain s x)) j ∙ ap (λ b. b && all_acyclic s impl_table (records s header_impls)) (sym g ∙ f ∙ ap (λ x. all_acyclic s generics_table (chain s x)) e)
+  sheet_both i q g j k = k ∙ ap (λ x. all_acyclic s impl_table_word (chain s x)) j ∙ ap (λ b. b && all_acyclic s impl_table_word (records s header_impls)) (sym g ∙ f ∙ ap (λ x. all_acyclic s generics_table_word (chain s x)) e)
 
 -- 13: the question's table.
 pub question_inside : (q : Words) (h : ℕ) → Inside q (at q question_table) → h ≡ at q question_table → Inside q h

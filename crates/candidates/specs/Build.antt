@@ -5,7 +5,7 @@ use Rattle.std.proofs.Common.{sym, ◌∙◌, ap₂, inl, inr, ⊎_elim, not-suc
 use Rattle.std.proofs.Math.Dec.{T, eqb, eqb_refl, not_T}
 use Rattle.rules.specs.Lists.{Words, any, is_in}
 use Rattle.rules.specs.Layout.{header_definitions, header_impls, binding_vis, binding_impl, flag_manual, flag_unsafe, flag_named}
-use Rattle.rules.specs.Sheet.{at, many, bindings, impl_flag, impl_trait_lem}
+use Rattle.rules.specs.Sheet.{at, many, bindings, impl_flag, impl_trait}
 use Rattle.rules.specs.Reach.{reach}
 use Rattle.rules.specs.Members.{In, first, later, in_cases, in_empty, any_in, and_iff, not_iff, is_in_in, same_test}
 use Rattle.rules.specs.CheckLaws.{Checked, passed}
@@ -178,25 +178,25 @@ path_on p stays = p
 path_on p (onward q e w) = onward (path_on p q) e w
 
 -- "Manual, unsafe and Error impls never enter."
-enter_iff : (s : Words) (i : ℕ) → T (may_enter s i) ↔ ((impl_flag s flag_manual i ≡ false) × (impl_flag s flag_unsafe i ≡ false) × (impl_trait_lem s i ≢ 0))
+enter_iff : (s : Words) (i : ℕ) → T (may_enter s i) ↔ ((impl_flag s flag_manual i ≡ false) × (impl_flag s flag_unsafe i ≡ false) × (impl_trait s i ≢ 0))
 unfolding may_enter
 enter_iff s i = (there, back)
   where
-    a : T (may_enter s i) ↔ (T (not (impl_flag s flag_manual i) && not (impl_flag s flag_unsafe i)) × T (not (eqb (impl_trait_lem s i) 0)))
-    a = and_iff (not (impl_flag s flag_manual i) && not (impl_flag s flag_unsafe i)) (not (eqb (impl_trait_lem s i) 0))
+    a : T (may_enter s i) ↔ (T (not (impl_flag s flag_manual i) && not (impl_flag s flag_unsafe i)) × T (not (eqb (impl_trait s i) 0)))
+    a = and_iff (not (impl_flag s flag_manual i) && not (impl_flag s flag_unsafe i)) (not (eqb (impl_trait s i) 0))
 
     b : T (not (impl_flag s flag_manual i) && not (impl_flag s flag_unsafe i)) ↔ (T (not (impl_flag s flag_manual i)) × T (not (impl_flag s flag_unsafe i)))
     b = and_iff (not (impl_flag s flag_manual i)) (not (impl_flag s flag_unsafe i))
 
-    there : T (may_enter s i) → (impl_flag s flag_manual i ≡ false) × (impl_flag s flag_unsafe i ≡ false) × (impl_trait_lem s i ≢ 0)
+    there : T (may_enter s i) → (impl_flag s flag_manual i ≡ false) × (impl_flag s flag_unsafe i ≡ false) × (impl_trait s i ≢ 0)
     there t =
         let p = a.0 t in
         let q = b.0 p.0 in
-        ((not_iff (impl_flag s flag_manual i)).0 q.0, (not_iff (impl_flag s flag_unsafe i)).0 q.1, λ e. T_not (eqb (impl_trait_lem s i) 0) p.1 (subst (λ c. T (eqb c 0)) (sym e) tt))
+        ((not_iff (impl_flag s flag_manual i)).0 q.0, (not_iff (impl_flag s flag_unsafe i)).0 q.1, λ e. T_not (eqb (impl_trait s i) 0) p.1 (subst (λ c. T (eqb c 0)) (sym e) tt))
 
-    back : (impl_flag s flag_manual i ≡ false) × (impl_flag s flag_unsafe i ≡ false) × (impl_trait_lem s i ≢ 0) → T (may_enter s i)
+    back : (impl_flag s flag_manual i ≡ false) × (impl_flag s flag_unsafe i ≡ false) × (impl_trait s i ≢ 0) → T (may_enter s i)
     back r =
-        a.1 (b.1 ((not_iff (impl_flag s flag_manual i)).1 r.0, (not_iff (impl_flag s flag_unsafe i)).1 r.1), not_T (eqb (impl_trait_lem s i) 0) (λ t. r.2 (eqb→eq (impl_trait_lem s i) 0 t)))
+        a.1 (b.1 ((not_iff (impl_flag s flag_manual i)).1 r.0, (not_iff (impl_flag s flag_unsafe i)).1 r.1), not_T (eqb (impl_trait s i) 0) (λ t. r.2 (eqb→eq (impl_trait s i) 0 t)))
 
 node_of : (f : Bool) (x d : ℕ) → x ≡ binding_node f d → x / 3 ≡ d
 node_of true x d e = omega arith

@@ -6,7 +6,7 @@ use Rattle.std.proofs.lemmas.Bool.{eqb-false}
 use Rattle.rules.specs.Lists.{Words, any, select, is_in}
 use Rattle.rules.specs.Layout.{header_definitions, header_impls, flag_basic}
 use Rattle.rules.specs.Limits.{limit_impls}
-use Rattle.rules.specs.Sheet.{at, many, field, impl_flag, impl_trait_lem}
+use Rattle.rules.specs.Sheet.{at, many, field, impl_flag, impl_trait}
 use Rattle.rules.specs.Members.{In, first, later, in_cases, in_empty, any_in, and_iff, is_in_in, same_test, select_in, select_rising, Rising, rising_unique}
 use Rattle.rules.specs.CheckLaws.{Checked, passed}
 use Rattle.rules.specs.CheckedSheet.{valid}
@@ -75,7 +75,7 @@ same true c = c
 same false c = not c
 
 unfoldable pub wanted : Words → ℕ → Bool → ℕ → Bool
-wanted s t b i = eqb (impl_trait_lem s i) (suc t) && same (impl_flag s flag_basic i) b
+wanted s t b i = eqb (impl_trait s i) (suc t) && same (impl_flag s flag_basic i) b
 
 unfoldable pub tested : Words → Words → Words → ℕ → Bool → ℕ → Bool
 tested s ws nodes t b i = wanted s t b i && in_some ws nodes i
@@ -124,11 +124,11 @@ candidates_are : (s : Words) (src : ℕ) (ws nodes : Words) (t : ℕ) (b : Bool)
 unfolding tested wanted
 candidates_are s src ws nodes t b d i = (there, back)
   where
-    r : In i (get_candidates s src nodes t b) ↔ (SomeAdmits s src nodes i × (impl_trait_lem s i ≡ suc t) × (impl_flag s flag_basic i ≡ b))
+    r : In i (get_candidates s src nodes t b) ↔ (SomeAdmits s src nodes i × (impl_trait s i ≡ suc t) × (impl_flag s flag_basic i ≡ b))
     r = candidates s d.checked src d.source nodes t b i
 
-    w : T (wanted s t b i) ↔ (T (eqb (impl_trait_lem s i) (suc t)) × T (same (impl_flag s flag_basic i) b))
-    w = and_iff (eqb (impl_trait_lem s i) (suc t)) (same (impl_flag s flag_basic i) b)
+    w : T (wanted s t b i) ↔ (T (eqb (impl_trait s i) (suc t)) × T (same (impl_flag s flag_basic i) b))
+    w = and_iff (eqb (impl_trait s i) (suc t)) (same (impl_flag s flag_basic i) b)
 
     a : T (wanted s t b i && in_some ws nodes i) ↔ (T (wanted s t b i) × T (in_some ws nodes i))
     a = and_iff (wanted s t b i) (in_some ws nodes i)
@@ -143,7 +143,7 @@ candidates_are s src ws nodes t b d i = (there, back)
     back m =
         let p = a.0 m.1 in
         let q = w.0 p.0 in
-        r.1 ((some_admits s src ws nodes d i m.0).0 p.1, eqb→eq (impl_trait_lem s i) (suc t) q.0, (same_iff (impl_flag s flag_basic i) b).0 q.1)
+        r.1 ((some_admits s src ws nodes d i m.0).0 p.1, eqb→eq (impl_trait s i) (suc t) q.0, (same_iff (impl_flag s flag_basic i) b).0 q.1)
 
 -- The next candidate from an id on, or the end of the list of candidates, for whatever source the sets stand there.
 pub record NextCandidate (s ws nodes : Words) (t : ℕ) (b : Bool) (from r : ℕ) : Type 0 where
@@ -217,22 +217,22 @@ unfolding in_some any
 left_end ws nodes i k h l = sym (l.same_as ∙ ap (λ z. in_some ws z i) (drop_of_length-le nodes h))
 
 -- The cases of trait and flag.
-trait_differs : (s : Words) (t : ℕ) (b : Bool) (i : ℕ) → impl_trait_lem s i ≢ suc t → false ≡ wanted s t b i
+trait_differs : (s : Words) (t : ℕ) (b : Bool) (i : ℕ) → impl_trait s i ≢ suc t → false ≡ wanted s t b i
 unfolding wanted
-trait_differs s t b i h = sym (ap (λ c. c && same (impl_flag s flag_basic i) b) (ne_eqb (impl_trait_lem s i) (suc t) h))
+trait_differs s t b i h = sym (ap (λ c. c && same (impl_flag s flag_basic i) b) (ne_eqb (impl_trait s i) (suc t) h))
 
 pub wanted_error : (s : Words) (t i w u : ℕ) (b : Bool) → w ≡ field s header_impls i 3 → u ≡ w → u ≡ 0 → false ≡ wanted s t b i
-unfolding impl_trait_lem
+unfolding impl_trait
 wanted_error s t i w u b e f z = trait_differs s t b i (λ q. omega (arith, sym q ∙ sym e ∙ sym f ∙ z))
 
 pub wanted_other : (s : Words) (t i w u : ℕ) (b : Bool) → w ≡ field s header_impls i 3 → u ≡ w → u ≢ 0 → u - 1 ≢ t → false ≡ wanted s t b i
-unfolding impl_trait_lem
+unfolding impl_trait
 wanted_other s t i w u b e f z n = trait_differs s t b i (λ q. n (omega (arith, f ∙ e ∙ q)))
 
 pub wanted_basic : (s : Words) (t i w u basic v : ℕ) → basic < 2 → w ≡ field s header_impls i 3 → u ≡ w → u ≢ 0 → u - 1 ≡ t → v ≡ field s header_impls i 2 → eqb (v / 2 % 2) basic ≡ wanted s t (eqb basic 1) i
-unfolding wanted impl_trait_lem impl_flag same
+unfolding wanted impl_trait impl_flag same
 wanted_basic s t i w u basic v l e f z n k =
-    sym (ap₂ (λ c d. c && same d (eqb basic 1)) (eq-eqb (impl_trait_lem s i) (suc t) (sym e ∙ sym f ∙ (let q : u ≡ suc t = omega (arith, z) in q))) (ap (λ c. eqb (c / 2 % 2) 1) (sym k)) ∙ digits (v / 2 % 2) basic (omega arith) l)
+    sym (ap₂ (λ c d. c && same d (eqb basic 1)) (eq-eqb (impl_trait s i) (suc t) (sym e ∙ sym f ∙ (let q : u ≡ suc t = omega (arith, z) in q))) (ap (λ c. eqb (c / 2 % 2) 1) (sym k)) ∙ digits (v / 2 % 2) basic (omega arith) l)
   where
     digits : (x y : ℕ) → x < 2 → y < 2 → same (eqb x 1) (eqb y 1) ≡ eqb x y
     digits zero zero h j = refl

@@ -12,8 +12,8 @@ use Rattle.std.proofs.Math.Pow.{pow-lt}
 use Rattle.std.proofs.Math.Seq.{get_or-set_other}
 use Rattle.std.proofs.lemmas.Bool.{eqb-false}
 use Rattle.rules.specs.Lists.{Words, any, concat_map, optional, optional_list}
-use Rattle.rules.specs.Layout.{header_definitions, header_prelude, header_impls, flag_named, impl_flags, impl_trait, member_vis, member_import, member_id, binding_vis, binding_impl}
-use Rattle.rules.specs.Sheet.{at, chain, chain_of, field, parent, trait_vis, def_trait, bindings, named_members, implicit_members, trait_def, import_def, impl_flag, impl_trait_lem}
+use Rattle.rules.specs.Layout.{header_definitions, header_prelude, header_impls, flag_named, impl_flags, impl_trait_word, member_vis, member_import, member_id, binding_vis, binding_impl}
+use Rattle.rules.specs.Sheet.{at, chain, chain_of, field, parent, trait_vis, def_trait, bindings, named_members, implicit_members, trait_def, import_def, impl_flag, impl_trait}
 use Rattle.rules.specs.Candidates.{Edge, direct, within_def, within_ancestors, get_member, member_edges, binding_edges, for_each_child, edges}
 use Rattle.rules.specs.Components.{edges-direct, edges-within, edges-ancestors}
 use Rattle.candidates.specs.Layout.{rows_links, rows_open, rows_reach, rows_end, candidates_length}
@@ -262,7 +262,7 @@ member_resolved s x m v i id t w (suc d) ws us e f g h z k l o a =
     a
 
 -- The edges of a binding: none where the impl is named otherwise than asked, else that of its trait?.
-binding_same : (s : Words) (b : Bool) (m : ℕ) → impl_flag s flag_named (at s (m + 2)) ≡ b → binding_edges s b m ≡ trait_edges s (at s (m + 1)) (impl_trait_lem s (at s (m + 2)))
+binding_same : (s : Words) (b : Bool) (m : ℕ) → impl_flag s flag_named (at s (m + 2)) ≡ b → binding_edges s b m ≡ trait_edges s (at s (m + 1)) (impl_trait s (at s (m + 2)))
 unfolding binding_edges trait_edges
 binding_same s true m e = rw (e, binding_edges) refl
 binding_same s false m e = rw (e, binding_edges) refl
@@ -291,10 +291,10 @@ binding_none s x m named i j w ws l e f g h =
 
 pub binding_some : (s : Words) (x m named i j w v t u : ℕ) (ws us : Words) → i ≡ at s (m + 2) → j ≡ i → w ≡ field s header_impls j 2 → w / 8 % 2 ≡ named → v ≡ at s (m + 1) → t ≡ field s header_impls j 3 → u ≡ t
     → Adds x (trait_edges s v u) ws us → Adds x (binding_edges s (eqb named 1) m) ws us
-unfolding impl_trait_lem
+unfolding impl_trait
 binding_some s x m named i j w v t u ws us e f g h k n o a =
     subst (λ es. Adds x es ws us)
-    (ap₂ (trait_edges s) k (o ∙ n ∙ ap (impl_trait_lem s) (f ∙ e)) ∙ sym (binding_same s (eqb named 1) m (ap (impl_flag s flag_named) (sym e ∙ sym f) ∙ named_is s j w g ∙ ap (λ c. eqb c 1) h)))
+    (ap₂ (trait_edges s) k (o ∙ n ∙ ap (impl_trait s) (f ∙ e)) ∙ sym (binding_same s (eqb named 1) m (ap (impl_flag s flag_named) (sym e ∙ sym f) ∙ named_is s j w g ∙ ap (λ c. eqb c 1) h)))
     a
 
 -- A walk along a chain whose records have edges: with those still to come added, those of the whole chain are.

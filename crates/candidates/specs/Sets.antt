@@ -10,7 +10,7 @@ use Rattle.std.proofs.Math.Dec.{eqb}
 use borrow.Author.Tests.{eqb-true, eqb-false, eq-eqb, ne_eqb}
 use Rattle.rules.specs.Lists.{Words, any}
 use Rattle.rules.specs.Layout.{header_definitions, header_impls, binding_vis, binding_impl, flag_manual, flag_unsafe, flag_named}
-use Rattle.rules.specs.Sheet.{at, chain, chain_of, field, bindings, impl_flag, impl_trait_lem}
+use Rattle.rules.specs.Sheet.{at, chain, chain_of, field, bindings, impl_flag, impl_trait}
 use Rattle.rules.specs.Candidates.{may_enter}
 use Rattle.rules.specs.Admission.{binding_node}
 use Rattle.candidates.specs.Layout.{rows_sets, rows_end, candidates_length}
@@ -62,16 +62,16 @@ equal_or z x = go (eqb z x) refl
 module _ (s : Words) (i w : ℕ) (e : w ≡ field s header_impls i 2) where
   pub enter_manual : w % 2 ≡ 1 → false ≡ may_enter s i
   unfolding may_enter impl_flag
-  enter_manual h = sym (ap (λ b. (not b && not (impl_flag s flag_unsafe i)) && not (eqb (impl_trait_lem s i) 0)) (ap (λ c. eqb (c / 1 % 2) 1) (sym e) ∙ eq-eqb (w / 1 % 2) 1 (omega (arith, h))))
+  enter_manual h = sym (ap (λ b. (not b && not (impl_flag s flag_unsafe i)) && not (eqb (impl_trait s i) 0)) (ap (λ c. eqb (c / 1 % 2) 1) (sym e) ∙ eq-eqb (w / 1 % 2) 1 (omega (arith, h))))
 
   pub enter_unsafe : w / 4 % 2 ≡ 1 → false ≡ may_enter s i
   unfolding may_enter impl_flag
-  enter_unsafe h = sym (ap (λ b. (not (impl_flag s flag_manual i) && not b) && not (eqb (impl_trait_lem s i) 0)) (ap (λ c. eqb (c / 4 % 2) 1) (sym e) ∙ eq-eqb (w / 4 % 2) 1 h) ∙ ap (λ b. b && not (eqb (impl_trait_lem s i) 0)) (and_false (not (impl_flag s flag_manual i))))
+  enter_unsafe h = sym (ap (λ b. (not (impl_flag s flag_manual i) && not b) && not (eqb (impl_trait s i) 0)) (ap (λ c. eqb (c / 4 % 2) 1) (sym e) ∙ eq-eqb (w / 4 % 2) 1 h) ∙ ap (λ b. b && not (eqb (impl_trait s i) 0)) (and_false (not (impl_flag s flag_manual i))))
 
   pub enter_trait : (t : ℕ) → w % 2 ≢ 1 → w / 4 % 2 ≢ 1 → t ≡ field s header_impls i 3 → not (eqb t 0) ≡ may_enter s i
-  unfolding may_enter impl_flag impl_trait_lem
+  unfolding may_enter impl_flag impl_trait
   enter_trait t h k f =
-      sym (ap₂ (λ a b. (not a && not b) && not (eqb (impl_trait_lem s i) 0)) (ap (λ c. eqb (c / 1 % 2) 1) (sym e) ∙ ne_eqb (w / 1 % 2) 1 (λ q. h (omega (arith, q)))) (ap (λ c. eqb (c / 4 % 2) 1) (sym e) ∙ ne_eqb (w / 4 % 2) 1 k) ∙ ap (λ c. not (eqb c 0)) (sym f))
+      sym (ap₂ (λ a b. (not a && not b) && not (eqb (impl_trait s i) 0)) (ap (λ c. eqb (c / 1 % 2) 1) (sym e) ∙ ne_eqb (w / 1 % 2) 1 (λ q. h (omega (arith, q)))) (ap (λ c. eqb (c / 4 % 2) 1) (sym e) ∙ ne_eqb (w / 4 % 2) 1 k) ∙ ap (λ c. not (eqb c 0)) (sym f))
 
   pub node_named : (d : ℕ) → w / 8 % 2 ≡ 1 → 3 * d ≡ binding_node (impl_flag s flag_named i) d
   unfolding impl_flag

@@ -5,7 +5,7 @@ use Rattle.std.proofs.Common.{sym, ◌∙◌, ap}
 use Rattle.std.proofs.Math.Bool.{true, false}
 use borrow.Author.Tests.{not-true, not-false}
 use Rattle.rules.specs.Lists.{Words, holds}
-use Rattle.rules.specs.Layout.{header_length, header_definitions, header_generics, header_traits, header_impls, header_opaques, header_structs, header_enums, header_unions, header_closures, header_imports, definition_bindings, definition_named, definition_implicit, definition_length, binding_length, member_length, trait_length, struct_length, union_length, generics_table, generics_impl_params, generics_length, impl_table, impl_args, impl_length, question_table, question_args, question_length}
+use Rattle.rules.specs.Layout.{header_length, header_definitions, header_generics, header_traits, header_impls, header_opaques, header_structs, header_enums, header_unions, header_closures, header_imports, definition_bindings, definition_named, definition_implicit, definition_length, binding_length, member_length, trait_length, struct_length, union_length, generics_table_word, generics_impl_params, generics_length, impl_table_word, impl_args_word, impl_length, question_table, question_args, question_length}
 use Rattle.rules.specs.Sheet.{at}
 use Rattle.rules.specs.Chains.{zero_or_from, record_keeps, chain_keeps, head_keeps, cells_keep, nodes_keep, plain_keep, definitions_keep, impl_params_keep, generics_keep, impls_keep, sheet_keeps, impl_question_keeps, flex_question_keeps}
 use Rattle.rules.specs.ChainLaws.{runs_end}
@@ -17,10 +17,10 @@ unfoldable pub definition_heads : Words → ℕ → Bool
 definition_heads s p = holds (plain_keep s binding_length (at s (p + definition_bindings)) ∷ plain_keep s member_length (at s (p + definition_named)) ∷ plain_keep s member_length (at s (p + definition_implicit)) ∷ [])
 
 unfoldable pub generics_heads : Words → ℕ → Bool
-generics_heads s p = nodes_keep header_length s (at s (p + generics_table)) && impl_params_keep s (at s (p + generics_impl_params))
+generics_heads s p = nodes_keep header_length s (at s (p + generics_table_word)) && impl_params_keep s (at s (p + generics_impl_params))
 
 unfoldable pub impl_heads : Words → ℕ → Bool
-impl_heads s p = nodes_keep header_length s (at s (p + impl_table)) && cells_keep header_length s (at s (p + impl_args))
+impl_heads s p = nodes_keep header_length s (at s (p + impl_table_word)) && cells_keep header_length s (at s (p + impl_args_word))
 
 -- Tests one after the other, up to the first that fails.
 pub record Run (lo : ℕ) (s : Words) (ts : List Bool) (ws : Words) (r : Bool) : Type 0 where
@@ -67,11 +67,11 @@ pub definition_tests : (s : Words) (p : ℕ) → definition_heads s p ≡ holds 
 unfolding definition_heads
 definition_tests s p = refl
 
-pub generics_tests : (s : Words) (p : ℕ) → generics_heads s p ≡ holds (nodes_keep header_length s (at s (p + generics_table)) ∷ impl_params_keep s (at s (p + generics_impl_params)) ∷ [])
+pub generics_tests : (s : Words) (p : ℕ) → generics_heads s p ≡ holds (nodes_keep header_length s (at s (p + generics_table_word)) ∷ impl_params_keep s (at s (p + generics_impl_params)) ∷ [])
 unfolding generics_heads
 generics_tests s p = two _ _
 
-pub impl_tests : (s : Words) (p : ℕ) → impl_heads s p ≡ holds (nodes_keep header_length s (at s (p + impl_table)) ∷ cells_keep header_length s (at s (p + impl_args)) ∷ [])
+pub impl_tests : (s : Words) (p : ℕ) → impl_heads s p ≡ holds (nodes_keep header_length s (at s (p + impl_table_word)) ∷ cells_keep header_length s (at s (p + impl_args_word)) ∷ [])
 unfolding impl_heads
 impl_tests s p = two _ _
 

@@ -3,8 +3,8 @@ use Rattle.std.specs.Prelude.{ℕ, ◌+◌, ◌/◌, ◌%◌, ◌≡◌, eqb, le
 use Rattle.std.proofs.Math.Path.{refl, ap}
 use Rattle.std.proofs.Common.{◌∙◌}
 use Rattle.rules.specs.Lists.{Words}
-use Rattle.rules.specs.Layout.{header_definitions, header_generics, header_impls, header_imports, header_traits, definition_bindings, definition_implicit, definition_named, definition_parent, definition_trait, definition_trait_vis, generics_impl_params, generics_table, generics_type_params, impl_args, impl_generics, impl_table, impl_trait, import_definition, trait_arity, trait_definition, trait_inherent, impl_flags}
-use Rattle.rules.specs.Sheet.{at, chain, records, many, field, impl_flag, parent, trait_vis, def_trait, import_def, type_params, generics_table_lem, trait_def, trait_arity_lem, inherent_params, impl_generics_lem, impl_trait_lem, impl_table_lem, impl_args_lem, bindings, named_members, implicit_members, impl_param_records}
+use Rattle.rules.specs.Layout.{header_definitions, header_generics, header_impls, header_imports, header_traits, definition_bindings, definition_implicit, definition_named, definition_parent, definition_trait, definition_trait_vis, generics_impl_params, generics_table_word, generics_type_params, impl_args_word, impl_generics_word, impl_table_word, impl_trait_word, import_definition, trait_arity_word, trait_definition, trait_inherent, impl_flags}
+use Rattle.rules.specs.Sheet.{at, chain, records, many, field, impl_flag, parent, trait_vis, def_trait, import_def, type_params, generics_table, trait_def, trait_arity, inherent_params, impl_generics, impl_trait, impl_table, impl_args, bindings, named_members, implicit_members, impl_param_records}
 
 -- The head of the chain, the place of the record, the word in it.
 pub field_found : (s : Words) (h id k head p r : ℕ) → head ≡ at s h → p ≡ at (chain s head) id → r ≡ at s (p + k) → r ≡ field s h id k
@@ -43,36 +43,36 @@ module _ (s : Words) (i : ℕ) where
   unfolding type_params
   type_params-field = refl
 
-  pub generics_table-field : field s header_generics i generics_table ≡ generics_table_lem s i
-  unfolding generics_table_lem
+  pub generics_table-field : field s header_generics i generics_table_word ≡ generics_table s i
+  unfolding generics_table
   generics_table-field = refl
 
   pub trait_def-field : field s header_traits i trait_definition ≡ trait_def s i
   unfolding trait_def
   trait_def-field = refl
 
-  pub trait_arity-field : field s header_traits i trait_arity ≡ trait_arity_lem s i
-  unfolding trait_arity_lem
+  pub trait_arity-field : field s header_traits i trait_arity_word ≡ trait_arity s i
+  unfolding trait_arity
   trait_arity-field = refl
 
   pub inherent_params-field : field s header_traits i trait_inherent ≡ inherent_params s i
   unfolding inherent_params
   inherent_params-field = refl
 
-  pub impl_generics-field : field s header_impls i impl_generics ≡ impl_generics_lem s i
-  unfolding impl_generics_lem
+  pub impl_generics-field : field s header_impls i impl_generics_word ≡ impl_generics s i
+  unfolding impl_generics
   impl_generics-field = refl
 
-  pub impl_trait-field : field s header_impls i impl_trait ≡ impl_trait_lem s i
-  unfolding impl_trait_lem
+  pub impl_trait-field : field s header_impls i impl_trait_word ≡ impl_trait s i
+  unfolding impl_trait
   impl_trait-field = refl
 
-  pub impl_table-field : field s header_impls i impl_table ≡ impl_table_lem s i
-  unfolding impl_table_lem
+  pub impl_table-field : field s header_impls i impl_table_word ≡ impl_table s i
+  unfolding impl_table
   impl_table-field = refl
 
-  pub impl_args-field : field s header_impls i impl_args ≡ impl_args_lem s i
-  unfolding impl_args_lem
+  pub impl_args-field : field s header_impls i impl_args_word ≡ impl_args s i
+  unfolding impl_args
   impl_args-field = refl
 
 -- The records of a chain that a field heads.

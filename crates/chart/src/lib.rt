@@ -4,7 +4,7 @@
 
 ghost use Rattle.std.specs.Prelude.{◌≡◌, ◌+◌, ◌<◌, ◌≤◌, length};
 ghost use Rattle.rules.specs.Sheet.{at, chain, many, field, impl_flag};
-ghost use Rattle.rules.specs.Layout.{header_definitions, header_generics, header_traits, header_impls, header_opaques, header_structs, header_enums, header_unions, header_closures, header_imports, definition_parent, definition_trait_vis, definition_trait, definition_bindings, definition_named, definition_implicit, import_definition, generics_type_params, generics_table, generics_impl_params, trait_definition, trait_arity, trait_inherent, impl_generics, impl_flags, impl_trait, impl_table, impl_args, owner_definition, owner_self_dual, closure_flex};
+ghost use Rattle.rules.specs.Layout.{header_definitions, header_generics, header_traits, header_impls, header_opaques, header_structs, header_enums, header_unions, header_closures, header_imports, definition_parent, definition_trait_vis, definition_trait, definition_bindings, definition_named, definition_implicit, import_definition, generics_type_params, generics_table_word, generics_impl_params, trait_definition, trait_arity_word, trait_inherent, impl_generics_word, impl_flags, impl_trait_word, impl_table_word, impl_args_word, owner_definition, owner_self_dual, closure_flex};
 ghost use Rattle.chart.specs.Index.{Indexed};
 
 pub mod kinds; // kinds.rt: the kind table
@@ -93,7 +93,7 @@ pub fn type_params(s: &[u32], g: usize) -> usize
 
 // Of generics: the head of the table.
 pub fn generics_table(s: &[u32], g: usize) -> usize
-    ensures { result ≡ field s.now header_generics g generics_table }
+    ensures { result ≡ field s.now header_generics g generics_table_word }
 {
     field_of(s, layout::GENERICS, g, layout::GENERICS_TABLE)
 }
@@ -114,7 +114,7 @@ pub fn trait_def(s: &[u32], t: usize) -> usize
 
 // Of a trait: arity.
 pub fn trait_arity(s: &[u32], t: usize) -> usize
-    ensures { result ≡ field s.now header_traits t trait_arity }
+    ensures { result ≡ field s.now header_traits t trait_arity_word }
 {
     field_of(s, layout::TRAITS, t, layout::TRAIT_ARITY)
 }
@@ -128,7 +128,7 @@ pub fn inherent_params(s: &[u32], t: usize) -> usize
 
 // Of an impl: generics.
 pub fn impl_generics(s: &[u32], i: usize) -> usize
-    ensures { result ≡ field s.now header_impls i impl_generics }
+    ensures { result ≡ field s.now header_impls i impl_generics_word }
 {
     field_of(s, layout::IMPLS, i, layout::IMPL_GENERICS)
 }
@@ -142,21 +142,21 @@ pub fn impl_flags(s: &[u32], i: usize) -> usize
 
 // Of an impl: trait?.
 pub fn impl_trait(s: &[u32], i: usize) -> usize
-    ensures { result ≡ field s.now header_impls i impl_trait }
+    ensures { result ≡ field s.now header_impls i impl_trait_word }
 {
     field_of(s, layout::IMPLS, i, layout::IMPL_TRAIT)
 }
 
 // Of an impl: the head of its table.
 pub fn impl_table(s: &[u32], i: usize) -> usize
-    ensures { result ≡ field s.now header_impls i impl_table }
+    ensures { result ≡ field s.now header_impls i impl_table_word }
 {
     field_of(s, layout::IMPLS, i, layout::IMPL_TABLE)
 }
 
 // Of an impl: the head of its arguments.
 pub fn impl_args(s: &[u32], i: usize) -> usize
-    ensures { result ≡ field s.now header_impls i impl_args }
+    ensures { result ≡ field s.now header_impls i impl_args_word }
 {
     field_of(s, layout::IMPLS, i, layout::IMPL_ARGS)
 }

@@ -13,8 +13,8 @@ use Rattle.std.proofs.Math.Dec.{ltb}
 use Rattle.std.proofs.Math.ListN.{length}
 use borrow.Author.Tests.{ltb-true, eqb-true, lt-ltb, le-ltb, eq-eqb, ne_eqb}
 use Rattle.rules.specs.Lists.{Words}
-use Rattle.rules.specs.Layout.{header_impls, impl_table, impl_args, kind_param}
-use Rattle.rules.specs.Sheet.{at, chain, field, many, type_params, impl_generics_lem, impl_table_lem, impl_args_lem}
+use Rattle.rules.specs.Layout.{header_impls, impl_table_word, impl_args_word, kind_param}
+use Rattle.rules.specs.Sheet.{at, chain, field, many, type_params, impl_generics, impl_table, impl_args}
 use Rattle.rules.specs.Types.{Ty, TypeState, unknown, known, TypeNode, Types, new_node, node_at, invert_if, find, state_at, size_at, success, unify, unify_each, unify_types, ImplType, unify_impl_type}
 use Rattle.rules.specs.AcyclicLaws.{children_at}
 use Rattle.rules.specs.Transfer.{param_for, type_of_word, cell_types, node_state, table}
@@ -437,15 +437,15 @@ each_won s ts a b won = go (eqb a.0 0 || eqb b.0 0) refl (eqb a.0 b.0) refl (eqb
 
 -- A candidate whose signature unifies with the question.
 module _ (s : Words) (sound : Sound s) (i : ℕ) (h : i < many s header_impls) (ws : Words) (q : Query) (neat : Neat (types_of ws)) (inside : AllIn (length (types_of ws)) (query_of q).1) (won : (met s (types_of ws) (query_of q) i).0 ≡ success) where
-  short : length (chain s (impl_table_lem s i)) ≤ 1024
-  unfolding impl_table_lem
+  short : length (chain s (impl_table s i)) ≤ 1024
+  unfolding impl_table
   short = omega (arith, impl_few s sound.ready.chains i h, sound.short)
 
   most : fresh_count s i ≤ 8
-  unfolding type_params impl_generics_lem
-  most = params_few s sound i h (impl_generics_lem s i) (fresh_count s i) refl refl
+  unfolding type_params impl_generics
+  most = params_few s sound i h (impl_generics s i) (fresh_count s i) refl refl
 
-  at_own : (a : Query) → (query_of a).1 ≡ cell_types s (impl_args_lem s i) → a.n ≡ q.n → Brought s (chain s (impl_table_lem s i)) ws a q
+  at_own : (a : Query) → (query_of a).1 ≡ cell_types s (impl_args s i) → a.n ≡ q.n → Brought s (chain s (impl_table s i)) ws a q
   unfolding stage impl_signature query_of
   at_own a ea en =
       let b = candidate_placed (finder s sound) sound.question sound.ready (types_of ws) i h in
@@ -453,15 +453,15 @@ module _ (s : Words) (sound : Sound s) (i : ℕ) (h : i < many s header_impls) (
       let low = signature_below (finder s sound) sound.question sound.ready i h in
       let res : List Ty × Types = ((signed s (types_of ws) i).0.1, (signed s (types_of ws) i).1) in
       record {
-        stage = stage s ws (impl_table_lem s i) (fresh_count s i) short most neat low (cell_types s (impl_args_lem s i)) res o.neat b;
+        stage = stage s ws (impl_table s i) (fresh_count s i) short most neat low (cell_types s (impl_args s i)) res o.neat b;
         left = (signed s (types_of ws) i).0.1;
         right = (query_of q).1;
-        left_kin = own_kin s ws (impl_table_lem s i) (fresh_count s i) short most neat low (cell_types s (impl_args_lem s i)) res o.neat b (take q.n (four a.args)) (sym ea ∙ ap (λ k. map type_of_word (take k (four a.args))) en);
-        right_kin = asked_kin s ws (impl_table_lem s i) (fresh_count s i) short most neat low (cell_types s (impl_args_lem s i)) res o.neat b (take q.n (four q.args)) inside;
+        left_kin = own_kin s ws (impl_table s i) (fresh_count s i) short most neat low (cell_types s (impl_args s i)) res o.neat b (take q.n (four a.args)) (sym ea ∙ ap (λ k. map type_of_word (take k (four a.args))) en);
+        right_kin = asked_kin s ws (impl_table s i) (fresh_count s i) short most neat low (cell_types s (impl_args s i)) res o.neat b (take q.n (four q.args)) inside;
         won = each_won s (signed s (types_of ws) i).1 (signed s (types_of ws) i).0 (query_of q) won;
       }
 
   -- head is that of its table, and args of its arguments; a are these in words.
-  pub candidate_brought : (head : ℕ) → head ≡ field s header_impls i impl_table → (tr args : ℕ) (a : Query) → args ≡ field s header_impls i impl_args → query_of a ≡ (tr, cell_types s args) → a.n ≡ q.n → Brought s (chain s head) ws a q
-  unfolding impl_table_lem impl_args_lem
+  pub candidate_brought : (head : ℕ) → head ≡ field s header_impls i impl_table_word → (tr args : ℕ) (a : Query) → args ≡ field s header_impls i impl_args_word → query_of a ≡ (tr, cell_types s args) → a.n ≡ q.n → Brought s (chain s head) ws a q
+  unfolding impl_table impl_args
   candidate_brought head eh tr args a ea e en = subst (λ k. Brought s (chain s k) ws a q) (sym eh) (at_own a (ap (λ (y : ImplType). y.1) e ∙ ap (cell_types s) ea) en)

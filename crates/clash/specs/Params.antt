@@ -5,8 +5,8 @@ use Rattle.std.proofs.Math.Path.{ap}
 use Rattle.std.proofs.Math.Option.{none}
 use Rattle.rules.specs.Lists.{Words}
 use Rattle.rules.specs.Limits.{limit_nodes}
-use Rattle.rules.specs.Layout.{header_generics, generics_table}
-use Rattle.rules.specs.Sheet.{chain, field, generics_table_lem}
+use Rattle.rules.specs.Layout.{header_generics, generics_table_word}
+use Rattle.rules.specs.Sheet.{chain, field, generics_table}
 use Rattle.rules.specs.Types.{Types, ImplType, success, unify_impl_type}
 use Rattle.rules.specs.Transfer.{table, import_impl_type}
 use Rattle.rules.specs.Search.{Finder, impl_params}
@@ -44,7 +44,7 @@ pub record ParamClashes (s : Words) (g : ℕ) (ts : Types) (p q : ImplType) (r :
 pub param_not : (s : Words) (g : ℕ) (ts : Types) (p q : ImplType) → ParamClashes s g ts p q false
 param_not s g ts p q = record { room = λ e. absurd (never e); unfit = λ e. absurd (never e) }
 
-module _ (s : Words) (g : ℕ) (call : Calling s g) (head : ℕ) (eh : head ≡ field s header_generics g generics_table) where
+module _ (s : Words) (g : ℕ) (call : Calling s g) (head : ℕ) (eh : head ≡ field s header_generics g generics_table_word) where
   abbrev finder : Finder
   finder = record { sheet = s; source = call.source; generics = g }
 
@@ -52,7 +52,7 @@ module _ (s : Words) (g : ℕ) (call : Calling s g) (head : ℕ) (eh : head ≡ 
   few = subst (λ x. 5 * length (chain s x) ≤ length s) (sym eh) (generics_few s call.ready.chains g call.ready.generics)
 
   its_table : table s head ≡ (impl_params s g).0
-  unfolding impl_params generics_table_lem
+  unfolding impl_params generics_table
   its_table = ap (table s) eh
 
   formed : WellFormed (table s head)

@@ -5,8 +5,8 @@ use Rattle.std.proofs.Common.{◌∙◌, ap, arith, leb→le}
 use mathlib.Core.List.{List}
 use Rattle.rules.specs.Lists.{Words}
 use Rattle.rules.specs.Limits.{limit_nodes}
-use Rattle.rules.specs.Layout.{header_impls, impl_table}
-use Rattle.rules.specs.Sheet.{at, chain, field, many, impl_table_lem, impl_args_lem}
+use Rattle.rules.specs.Layout.{header_impls, impl_table_word}
+use Rattle.rules.specs.Sheet.{at, chain, field, many, impl_table, impl_args}
 use Rattle.rules.specs.Types.{Ty, Types, ImplType, success}
 use Rattle.rules.specs.Transfer.{cell_types, table}
 use Rattle.rules.specs.Search.{impl_signature}
@@ -75,7 +75,7 @@ module _ (s : Words) (sound : Sound s) (i : ℕ) (h : i < many s header_impls) (
   args_few = signature_few s sound i h (at s (p + 5)) (o.word 5)
 
   module _ (head : ℕ) (eh : head ≡ at s (p + 4)) where
-    found : head ≡ field s header_impls i impl_table
+    found : head ≡ field s header_impls i impl_table_word
     found = eh ∙ o.word 4
 
     few : 5 * length (chain s head) ≤ length s
@@ -106,10 +106,10 @@ module _ (s : Words) (sound : Sound s) (i : ℕ) (h : i < many s header_impls) (
           room = omega (arith, takes.most (types_of ts))
 
           common : (a : Query) → query_of a ≡ (at s (p + 3), cell_types s (at s (p + 5))) → (met s (types_of ts) (query_of q) i).0 ≡ success → SignedLoose s (types_of ts) (table s head) (fresh_count s i) (query_of a).1 (query_of q).1
-          unfolding impl_signature impl_table_lem impl_args_lem
+          unfolding impl_signature impl_table impl_args
           common a ea won =
               subst (λ (src : Types). SignedLoose s (types_of ts) src (fresh_count s i) (query_of a).1 (query_of q).1) (ap (table s) (sym found))
-              (subst (λ (xs : List Ty). SignedLoose s (types_of ts) (table s (field s header_impls i impl_table)) (fresh_count s i) xs (query_of q).1) (ap (cell_types s) (sym (o.word 5)) ∙ sym (ap (λ (y : ImplType). y.1) ea))
+              (subst (λ (xs : List Ty). SignedLoose s (types_of ts) (table s (field s header_impls i impl_table_word)) (fresh_count s i) xs (query_of q).1) (ap (cell_types s) (sym (o.word 5)) ∙ sym (ap (λ (y : ImplType). y.1) ea))
               (candidate_loose (finder s sound) sound.question sound.ready (types_of ts) (query_of q) neat inside i h won))
 
           never_met : (a : Query) → query_of a ≡ (at s (p + 3), cell_types s (at s (p + 5))) → a.n ≡ q.n → Clashing true s (take n us) ts a q true → (met s (types_of ts) (query_of q) i).0 ≢ success

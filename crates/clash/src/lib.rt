@@ -12,7 +12,7 @@
 
 ghost use Rattle.std.specs.Prelude.{◌≡◌, ◌+◌, ◌-◌, ◌*◌, ◌/◌, ◌%◌, ◌<◌, ◌≤◌, ◌≢◌, false, length};
 ghost use Rattle.rules.specs.Sheet.{at, field, many};
-ghost use Rattle.rules.specs.Layout.{header_generics, header_impls, generics_table};
+ghost use Rattle.rules.specs.Layout.{header_generics, header_impls, generics_table_word};
 ghost use Rattle.rules.specs.Search.{impl_params};
 ghost use Rattle.rules.specs.Transfer.{cell_types};
 ghost use Rattle.rules.specs.Solutions.{AllIn};
@@ -1190,7 +1190,7 @@ pub fn clashes(
 
 // The head of the table of generics g.
 fn generics_head(sheet: &[u32], g: usize) -> u32
-    ensures { result ≡ field sheet.now header_generics g generics_table }
+    ensures { result ≡ field sheet.now header_generics g generics_table_word }
 {
     let head = words::next(sheet, layout::GENERICS);
     let p = words::place(sheet, head, g);

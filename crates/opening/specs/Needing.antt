@@ -6,8 +6,8 @@ use mathlib.Core.List.{List}
 use Rattle.std.proofs.Math.Option.{Option, some}
 use Rattle.rules.specs.Lists.{Words}
 use Rattle.rules.specs.Limits.{limit_nodes}
-use Rattle.rules.specs.Layout.{header_generics, header_impls, generics_table, generics_type_params, impl_generics}
-use Rattle.rules.specs.Sheet.{field, many, impl_generics_lem}
+use Rattle.rules.specs.Layout.{header_generics, header_impls, generics_table_word, generics_type_params, impl_generics_word}
+use Rattle.rules.specs.Sheet.{field, many, impl_generics}
 use Rattle.rules.specs.Types.{Ty, Types, ImplType}
 use Rattle.rules.specs.Solutions.{AllIn}
 use Rattle.rules.specs.Transfer.{import_types, import_impl_types, table}
@@ -68,12 +68,12 @@ row_few qs ts m r h = omega (arith, r.most)
 
 -- The import of the impl parameters of impl i.
 abbrev pub needed_by : Words → ℕ → Option (List Ty) → Types → List ImplType × Types
-needed_by s i ps ts = import_impl_types (impl_params s (impl_generics_lem s i)).0 ps (impl_params s (impl_generics_lem s i)).1 ts
+needed_by s i ps ts = import_impl_types (impl_params s (impl_generics s i)).0 ps (impl_params s (impl_generics s i)).1 ts
 
 -- g are its generics, and head heads their table.
-module _ (s : Words) (sound : Sound s) (i : ℕ) (h : i < many s header_impls) (g : ℕ) (eg : g ≡ field s header_impls i impl_generics) where
-  own : g ≡ impl_generics_lem s i
-  unfolding impl_generics_lem
+module _ (s : Words) (sound : Sound s) (i : ℕ) (h : i < many s header_impls) (g : ℕ) (eg : g ≡ field s header_impls i impl_generics_word) where
+  own : g ≡ impl_generics s i
+  unfolding impl_generics
   own = eg
 
   there : g < many s header_generics
@@ -82,7 +82,7 @@ module _ (s : Words) (sound : Sound s) (i : ℕ) (h : i < many s header_impls) (
   pub generics_few : Few (impl_params s g).1
   generics_few = few_params (finder s sound) sound.question sound.ready g there
 
-  module _ (head : ℕ) (e : head ≡ field s header_generics g generics_table) where
+  module _ (head : ℕ) (e : head ≡ field s header_generics g generics_table_word) where
     pub generics_neat : Neat (table s head)
     generics_neat = params_neat s sound g head there e
 
@@ -104,7 +104,7 @@ pub record Follows (s : Words) (i b : ℕ) (ds : Words) (r : Queries) (out : Wor
   pub at : (ts : Types) (q : ImplType) → length ts ≡ b → types_of ds ≡ (met s ts q i).1 → Needs (needs s ts q i) r out
 
 -- n is the count of type parameters of impl i.
-module _ (s : Words) (i g n : ℕ) (eg : g ≡ field s header_impls i impl_generics) (en : n ≡ field s header_generics g generics_type_params) where
+module _ (s : Words) (i g n : ℕ) (eg : g ≡ field s header_impls i impl_generics_word) (en : n ≡ field s header_generics g generics_type_params) where
   count : n ≡ fresh_count s i
   count = counted s i g n eg en
 

@@ -7,8 +7,8 @@ use Rattle.std.proofs.Math.Option.{Option, some}
 use Rattle.std.proofs.Math.ListN.{length}
 use Rattle.rules.specs.Lists.{Words}
 use Rattle.rules.specs.Limits.{limit_nodes, limit_type_params}
-use Rattle.rules.specs.Layout.{header_generics, header_impls, generics_type_params, impl_generics, impl_trait, impl_table, impl_args}
-use Rattle.rules.specs.Sheet.{field, many, type_params, impl_generics_lem, impl_trait_lem, impl_table_lem, impl_args_lem}
+use Rattle.rules.specs.Layout.{header_generics, header_impls, generics_type_params, impl_generics_word, impl_trait_word, impl_table_word, impl_args_word}
+use Rattle.rules.specs.Sheet.{field, many, type_params, impl_generics, impl_trait, impl_table, impl_args}
 use Rattle.rules.specs.Types.{Ty, Types, ImplType}
 use Rattle.rules.specs.Solutions.{AllIn}
 use Rattle.rules.specs.Transfer.{import_impl_type, cell_types, table}
@@ -39,21 +39,21 @@ abbrev pub Leaves : Types → ImplType × Types → Type 0
 Leaves ts o = Brought ts o.0.1 o.1
 
 module _ (s : Words) (sound : Sound s) (i : ℕ) (h : i < many s header_impls) where
-  pub signature_few : (args : ℕ) → args ≡ field s header_impls i impl_args → length (cell_types s args) ≤ 4
-  unfolding impl_args_lem
+  pub signature_few : (args : ℕ) → args ≡ field s header_impls i impl_args_word → length (cell_types s args) ≤ 4
+  unfolding impl_args
   signature_few args e = subst (λ a. length (cell_types s a) ≤ 4) (sym e) (few_args (finder s sound) sound.question sound.ready i h)
 
-  module _ (head : ℕ) (e : head ≡ field s header_impls i impl_table) where
+  module _ (head : ℕ) (e : head ≡ field s header_impls i impl_table_word) where
     signature_table : table s head ≡ (impl_signature s i).0
-    unfolding impl_signature impl_table_lem
+    unfolding impl_signature impl_table
     signature_table = ap (table s) e
 
     pub table_neat : Neat (table s head)
     table_neat = subst Neat (sym signature_table) (signature_neat (finder s sound) sound.question sound.ready i h)
 
-    module _ (tr args : ℕ) (p : Query) (et : tr ≡ field s header_impls i impl_trait) (ea : args ≡ field s header_impls i impl_args) (ep : query_of p ≡ (tr, cell_types s args)) where
+    module _ (tr args : ℕ) (p : Query) (et : tr ≡ field s header_impls i impl_trait_word) (ea : args ≡ field s header_impls i impl_args_word) (ep : query_of p ≡ (tr, cell_types s args)) where
       signature_query : query_of p ≡ (impl_signature s i).1
-      unfolding impl_signature impl_trait_lem impl_args_lem
+      unfolding impl_signature impl_trait impl_args
       signature_query = ep ∙ ap₂ {C = ImplType} (λ (t a : ℕ). (t, cell_types s a)) et ea
 
       pub signature_inside : AllIn (length (table s head)) (query_of p).1
@@ -81,18 +81,18 @@ module _ (s : Words) (i b n : ℕ) (ps ds : Words) (t : Stands b n ps) where
   stood_meets us q r m = subst (λ (o : ImplType × Types). Meets s o q r us) stood m
 
 -- g are the generics of impl i, and n their count of type parameters.
-pub counted : (s : Words) (i g n : ℕ) → g ≡ field s header_impls i impl_generics → n ≡ field s header_generics g generics_type_params → n ≡ fresh_count s i
-unfolding type_params impl_generics_lem
+pub counted : (s : Words) (i g n : ℕ) → g ≡ field s header_impls i impl_generics_word → n ≡ field s header_generics g generics_type_params → n ≡ fresh_count s i
+unfolding type_params impl_generics
 counted s i g n eg en = en ∙ ap (λ k. field s header_generics k generics_type_params) eg
 
 -- After fresh unknowns: ws is the table before them, us after, and b its count of nodes.
-module _ (s : Words) (sound : Sound s) (i : ℕ) (h : i < many s header_impls) (g n : ℕ) (eg : g ≡ field s header_impls i impl_generics) (en : n ≡ field s header_generics g generics_type_params) where
+module _ (s : Words) (sound : Sound s) (i : ℕ) (h : i < many s header_impls) (g n : ℕ) (eg : g ≡ field s header_impls i impl_generics_word) (en : n ≡ field s header_generics g generics_type_params) where
   count : n ≡ fresh_count s i
   count = counted s i g n eg en
 
   pub params_few : n ≤ 8
   unfolding generics_ok type_params field
-  params_few = subst (λ k. k ≤ 8) (sym count) (leb→le (type_params s (impl_generics_lem s i)) limit_type_params (part _ (sound.ready.values.generics (impl_generics_lem s i) (impl_generics_in (finder s sound) sound.question sound.ready i h)) 0))
+  params_few = subst (λ k. k ≤ 8) (sym count) (leb→le (type_params s (impl_generics s i)) limit_type_params (part _ (sound.ready.values.generics (impl_generics s i) (impl_generics_in (finder s sound) sound.question sound.ready i h)) 0))
 
   module _ (ws us : Words) (b : ℕ) (ok : Bool) (eb : b ≡ length (types_of ws)) (f : Freshens ws us n ok) (q : Query) (neat : Neat (types_of ws)) (a : AllIn (length (types_of ws)) (query_of q).1) where
     brought : Leaves (with_fresh (types_of ws) (fresh_count s i)) (signed s (types_of ws) i)

@@ -5,8 +5,8 @@ use Rattle.std.proofs.Math.Path.{ap, subst}
 use Rattle.std.proofs.Math.Option.{none}
 use Rattle.rules.specs.Lists.{Words}
 use Rattle.rules.specs.Limits.{limit_sheet}
-use Rattle.rules.specs.Layout.{header_generics, header_impls, generics_table, impl_table}
-use Rattle.rules.specs.Sheet.{chain, field, many, generics_table_lem}
+use Rattle.rules.specs.Layout.{header_generics, header_impls, generics_table_word, impl_table_word}
+use Rattle.rules.specs.Sheet.{chain, field, many, generics_table}
 use Rattle.rules.specs.Types.{Types, ImplType}
 use Rattle.rules.specs.Solutions.{AllIn}
 use Rattle.rules.specs.Transfer.{import_impl_type, table}
@@ -42,16 +42,16 @@ module _ (s : Words) (sound : Sound s) where
   fits head places map f h k = record { places_long = omega arith; map_long = omega (arith, k.0); marks_long = k.1 }
 
   -- as those of impls and of generics do.
-  pub signature_lent : (i head : ℕ) (places map : Words) → i < many s header_impls → head ≡ field s header_impls i impl_table → length s ≤ 5 * length places → (length s ≤ 5 * length map) × (256 ≤ length map) → Lent s head places map
+  pub signature_lent : (i head : ℕ) (places map : Words) → i < many s header_impls → head ≡ field s header_impls i impl_table_word → length s ≤ 5 * length places → (length s ≤ 5 * length map) × (256 ≤ length map) → Lent s head places map
   signature_lent i head places map h e j k = fits head places map (subst (λ x. 5 * length (chain s x) ≤ length s) (sym e) (impl_few s sound.ready.chains i h)) j k
 
-  pub generics_lent : (g head : ℕ) (places map : Words) → g < many s header_generics → head ≡ field s header_generics g generics_table → length s ≤ 5 * length places → (length s ≤ 5 * length map) × (256 ≤ length map) → Lent s head places map
+  pub generics_lent : (g head : ℕ) (places map : Words) → g < many s header_generics → head ≡ field s header_generics g generics_table_word → length s ≤ 5 * length places → (length s ≤ 5 * length map) × (256 ≤ length map) → Lent s head places map
   generics_lent g head places map h e j k = fits head places map (subst (λ x. 5 * length (chain s x) ≤ length s) (sym e) (generics_few s sound.ready.chains g h)) j k
 
   -- One impl parameter of generics g, whose table has that head.
-  module _ (g head : ℕ) (h : g < many s header_generics) (e : head ≡ field s header_generics g generics_table) where
+  module _ (g head : ℕ) (h : g < many s header_generics) (e : head ≡ field s header_generics g generics_table_word) where
     pub params-table : table s head ≡ (impl_params s g).0
-    unfolding impl_params generics_table_lem
+    unfolding impl_params generics_table
     params-table = ap (table s) e
 
     pub params_neat : Neat (table s head)

@@ -9,7 +9,7 @@ use Rattle.std.proofs.Math.ListN.{length, length-map}
 use Rattle.rules.specs.Lists.{Words}
 use Rattle.rules.specs.Limits.{limit_arity, limit_sheet}
 use Rattle.rules.specs.Layout.{header_generics, header_traits, header_impls, impl_param_trait, impl_param_args, question_args}
-use Rattle.rules.specs.Sheet.{at, field, many, trait_arity_lem, impl_param_records, impl_args_lem}
+use Rattle.rules.specs.Sheet.{at, field, many, trait_arity, impl_param_records, impl_args}
 use Rattle.rules.specs.Types.{ImplType}
 use Rattle.rules.specs.Transfer.{cell_types}
 use Rattle.rules.specs.Search.{Finder, impl_signature, impl_params}
@@ -30,7 +30,7 @@ pub record Few (qs : List ImplType) : Type 0 where
 module _ (s : Words) (v : Valid s) where
   -- a trait? has at most four arguments,
   arity_few : (t : ℕ) → t ≤ many s header_traits → arity s t ≤ 4
-  unfolding arity trait_ok trait_arity_lem field
+  unfolding arity trait_ok trait_arity field
   arity_few zero h = zero-le
   arity_few (suc t) h = leb→le _ limit_arity (part _ (v.traits t h) 1)
 
@@ -61,8 +61,8 @@ module _ (a : Finder) (q : Words) (r : Ready a q) where
       param s p = (at s (p + impl_param_trait), cell_types s (at s (p + impl_param_args)))
 
   -- the arguments of an impl's signature,
-  pub few_args : (i : ℕ) → i < many a.sheet header_impls → length (cell_types a.sheet (impl_args_lem a.sheet i)) ≤ 4
-  unfolding impl_ok impl_args_lem field
+  pub few_args : (i : ℕ) → i < many a.sheet header_impls → length (cell_types a.sheet (impl_args a.sheet i)) ≤ 4
+  unfolding impl_ok impl_args field
   few_args i h = args_few a.sheet r.values a.sheet _ _ _ (part _ (r.values.impls i h) 3)
 
   pub few_signature : (i : ℕ) → i < many a.sheet header_impls → length (impl_signature a.sheet i).1.1 ≤ 4

@@ -6,7 +6,7 @@ use Rattle.std.proofs.Common.{inl, inr, not-suc-le-zero, zero-lt-suc, lit<}
 use native.Mathlib.Omega.{arith}
 use Rattle.std.proofs.Math.ListN.{length}
 use Rattle.rules.specs.Lists.{Words}
-use Rattle.rules.specs.Layout.{header_length, header_generics, header_impls, generics_length, generics_table, generics_impl_params, impl_length, impl_table, impl_args, node_length}
+use Rattle.rules.specs.Layout.{header_length, header_generics, header_impls, generics_length, generics_table_word, generics_impl_params, impl_length, impl_table_word, impl_args_word, node_length}
 use Rattle.rules.specs.Sheet.{at, chain, chain_of, records, many, field}
 use Rattle.rules.specs.Members.{In, in_at}
 use Rattle.rules.specs.Chains.{zero_or_from, chain_keeps, head_keeps, cells_keep, nodes_keep, impl_params_keep, generics_keep, impls_keep, sheet_keeps}
@@ -56,16 +56,16 @@ nodes_few lo s j t = chain_few s _ (at s j) ((chain_rule s node_length (lit< tt)
 
 -- The tables of a sheet that passed 7: of generics, and of impls.
 module _ (s : Words) (t : T (sheet_keeps s)) where
-  pub generics_few : (g : ℕ) → g < many s header_generics → 5 * length (chain s (field s header_generics g generics_table)) ≤ length s
+  pub generics_few : (g : ℕ) → g < many s header_generics → 5 * length (chain s (field s header_generics g generics_table_word)) ≤ length s
   unfolding sheet_keeps generics_keep many records field
   generics_few g h =
       let p = at (chain s (at s header_generics)) g in
       let k = keeps_heads s generics_length (lit< tt) _ (at s header_generics) (head_chain header_length s generics_length _ (at s header_generics) (part _ t 1)) p (in_at (chain s (at s header_generics)) g 0 h) in
-      nodes_few header_length s (p + generics_table) (both (nodes_keep header_length s (at s (p + generics_table))) (impl_params_keep s (at s (p + generics_impl_params))) k).0
+      nodes_few header_length s (p + generics_table_word) (both (nodes_keep header_length s (at s (p + generics_table_word))) (impl_params_keep s (at s (p + generics_impl_params))) k).0
 
-  pub impl_few : (i : ℕ) → i < many s header_impls → 5 * length (chain s (field s header_impls i impl_table)) ≤ length s
+  pub impl_few : (i : ℕ) → i < many s header_impls → 5 * length (chain s (field s header_impls i impl_table_word)) ≤ length s
   unfolding sheet_keeps impls_keep many records field
   impl_few i h =
       let p = at (chain s (at s header_impls)) i in
       let k = keeps_heads s impl_length (lit< tt) _ (at s header_impls) (head_chain header_length s impl_length _ (at s header_impls) (part _ t 3)) p (in_at (chain s (at s header_impls)) i 0 h) in
-      nodes_few header_length s (p + impl_table) (both (nodes_keep header_length s (at s (p + impl_table))) (cells_keep header_length s (at s (p + impl_args))) k).0
+      nodes_few header_length s (p + impl_table_word) (both (nodes_keep header_length s (at s (p + impl_table_word))) (cells_keep header_length s (at s (p + impl_args_word))) k).0

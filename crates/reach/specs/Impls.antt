@@ -5,8 +5,8 @@ use Rattle.std.proofs.Math.Path.{ap, subst}
 use Rattle.std.proofs.Math.Bool.{true}
 use Rattle.std.proofs.Math.Option.{some}
 use Rattle.rules.specs.Lists.{Words}
-use Rattle.rules.specs.Layout.{header_generics, header_impls, impl_table}
-use Rattle.rules.specs.Sheet.{at, chain, records, many, field, type_params, impl_generics_lem, impl_table_lem, impl_args_lem}
+use Rattle.rules.specs.Layout.{header_generics, header_impls, impl_table_word}
+use Rattle.rules.specs.Sheet.{at, chain, records, many, field, type_params, impl_generics, impl_table, impl_args}
 use Rattle.rules.specs.Transfer.{import_impl_type}
 use Rattle.rules.specs.Search.{Finder, impl_signature, fresh_params, with_fresh}
 use Rattle.rules.specs.CheckedTables.{Ready}
@@ -106,17 +106,17 @@ module _ (s ts : Words) (i p : ℕ) (t : Signing s ts i p) where
 
     module _ (gs : Words) (g : Generics s gs) where
       params_are : params_at s gs p ≡ fresh_count s i
-      unfolding type_params impl_generics_lem field
-      params_are = ap (λ x. at s (x + 1)) (ap (at gs) (word 1) ∙ g.place (impl_generics_lem s i) (impl_generics_in finder k.called.question ready i inside))
+      unfolding type_params impl_generics field
+      params_are = ap (λ x. at s (x + 1)) (ap (at gs) (word 1) ∙ g.place (impl_generics s i) (impl_generics_in finder k.called.question ready i inside))
 
       pub signing_params : params_at s gs p ≤ 8
       signing_params = omega (arith, params_are, fresh-most finder k.called.question ready i inside)
 
       takes : (n : ℕ) → Bounds s (at s (p + 4)) (at s (p + 5)) true n → SignatureTakes s i (n + params_at s gs p)
-      unfolding import_impl_type impl_signature impl_table_lem impl_args_lem
+      unfolding import_impl_type impl_signature impl_table impl_args
       takes n b =
-          let c : Bounds s (field s header_impls i impl_table) (at s (p + 5)) true n = subst (λ h. Bounds s h (at s (p + 5)) true n) (word 4) b in
-          let d : Bounds s (impl_table_lem s i) (impl_args_lem s i) true n = subst (λ h. Bounds s (impl_table_lem s i) h true n) (word 5) c in
+          let c : Bounds s (field s header_impls i impl_table_word) (at s (p + 5)) true n = subst (λ h. Bounds s h (at s (p + 5)) true n) (word 4) b in
+          let d : Bounds s (impl_table s i) (impl_args s i) true n = subst (λ h. Bounds s (impl_table s i) h true n) (word 5) c in
           let m = d (signature_neat finder k.called.question ready i inside).proper.formed (signature_in finder k.called.question ready i inside) in
           record { most = λ us. omega (arith, m.most (some (fresh_params us (fresh_count s i))) (λ e. (fresh_params us (fresh_count s i), refl)) (with_fresh us (fresh_count s i)), fresh-length us (fresh_count s i), params_are) }
 

@@ -7,7 +7,7 @@ use Rattle.std.proofs.Math.Option.{none}
 use Rattle.std.proofs.Math.ListN.{length, length-map}
 use Rattle.rules.specs.Lists.{Words}
 use Rattle.rules.specs.Layout.{header_generics, impl_param_trait, impl_param_args}
-use Rattle.rules.specs.Sheet.{at, chain, many, field, generics_table_lem, impl_param_records}
+use Rattle.rules.specs.Sheet.{at, chain, many, field, generics_table, impl_param_records}
 use Rattle.rules.specs.Types.{ImplType}
 use Rattle.rules.specs.Transfer.{import_types, import_impl_type, cell_types}
 use Rattle.rules.specs.Solutions.{AllIn}
@@ -113,9 +113,9 @@ module _ (s : Words) (g : ℕ) (c : Called s g) (gs : Words) (a : Generics s gs)
           ∙ ap (λ (l : Words). cell_types s (at s (at l k + 2))) (sym its_records)
 
       takes : (k n : ℕ) → k < length (chain s first) → Bounds s head (at s (at (chain s first) k + 2)) false n → ParamTakes s g (get_or (impl_params s g).1 k (0, [])) n
-      unfolding import_impl_type impl_params generics_table_lem
+      unfolding import_impl_type impl_params generics_table
       takes k n h b =
-          let d : Bounds s (generics_table_lem s g) (at s (at (chain s first) k + 2)) false n = subst (λ x. Bounds s x (at s (at (chain s first) k + 2)) false n) (eh ∙ word 2) b in
+          let d : Bounds s (generics_table s g) (at s (at (chain s first) k + 2)) false n = subst (λ x. Bounds s x (at s (at (chain s first) k + 2)) false n) (eh ∙ word 2) b in
           let o : AllIn (length (impl_params s g).0) (get_or (impl_params s g).1 k (0, [])).1 = every_at (λ (q : ImplType). AllIn (length (impl_params s g).0) q.1) (impl_params s g).1 k (0, []) (impl_params_in finder c.question ready g ready.generics) tt in
           let m = d (impl_params_neat finder c.question ready g ready.generics).proper.formed (subst (AllIn (length (impl_params s g).0)) (its_args k h) o) in
           record { most = λ us. omega (arith, m.most none (λ e. absurd (never e)) us, ap (λ ts. length (import_types (impl_params s g).0 none ts us).1) (its_args k h)) }

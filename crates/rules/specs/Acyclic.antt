@@ -1,7 +1,7 @@
 -- 9 and 13: "a type reaches itself", for every node of every table. A node of height h has a longest way down of h steps; where no type reaches itself, none is as long as the table.
 use Rattle.std.specs.Prelude.{ℕ, zero, suc, ◌+◌, max, Bool, ◌&&◌, List, [], ◌∷◌, map, ltb, length, get_or, replicate}
 use Rattle.rules.specs.Lists.{Words, all}
-use Rattle.rules.specs.Layout.{header_generics, header_impls, generics_table, impl_table, question_table}
+use Rattle.rules.specs.Layout.{header_generics, header_impls, generics_table_word, impl_table_word, question_table}
 use Rattle.rules.specs.Sheet.{at, records}
 use Rattle.rules.specs.Types.{Ty, TypeState, unknown, known, Types}
 use Rattle.rules.specs.Transfer.{table}
@@ -28,8 +28,8 @@ acyclic ts = all (λ h. ltb h (length ts)) (heights (length ts) ts)
 -- 9: the tables of the generics and of the impls.
 unfoldable pub sheet_acyclic : Words → Bool
 sheet_acyclic s =
-    all (λ p. acyclic (table s (at s (p + generics_table)))) (records s header_generics)
-    && all (λ p. acyclic (table s (at s (p + impl_table)))) (records s header_impls)
+    all (λ p. acyclic (table s (at s (p + generics_table_word)))) (records s header_generics)
+    && all (λ p. acyclic (table s (at s (p + impl_table_word)))) (records s header_impls)
 
 -- 13: the table of the question.
 unfoldable pub question_acyclic : Words → Bool

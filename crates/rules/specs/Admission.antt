@@ -2,7 +2,7 @@
 use Rattle.std.specs.Prelude.{ℕ, suc, ◌+◌, ◌<◌, ◌≡◌, Bool, true, false, ◌⊎◌, ◌≢◌}
 use Rattle.rules.specs.Lists.{Words}
 use Rattle.rules.specs.Layout.{binding_vis, binding_impl, flag_manual, flag_unsafe, flag_named}
-use Rattle.rules.specs.Sheet.{at, parent, bindings, impl_flag, impl_trait_lem}
+use Rattle.rules.specs.Sheet.{at, parent, bindings, impl_flag, impl_trait}
 use Rattle.rules.specs.Candidates.{direct, within_def, edges, node_count}
 use Rattle.rules.specs.Members.{In}
 
@@ -56,7 +56,7 @@ pub record Admits (s : Words) (src node i : ℕ) : Type 0 where
   pub binds : Binds s src end i
   pub not_manual : impl_flag s flag_manual i ≡ false
   pub not_unsafe : impl_flag s flag_unsafe i ≡ false
-  pub not_error : impl_trait_lem s i ≢ 0
+  pub not_error : impl_trait s i ≢ 0
 
 -- The set of some node among these does.
 abbrev pub SomeAdmits : Words → ℕ → Words → ℕ → Type 0

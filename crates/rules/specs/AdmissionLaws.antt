@@ -10,7 +10,7 @@ use Rattle.std.proofs.Math.Dec.{T, eqb, eqb→eq, eqb_refl, not_T}
 use Rattle.std.proofs.Math.ListN.{length}
 use Rattle.rules.specs.Lists.{Words, any, range, optional}
 use Rattle.rules.specs.Layout.{header_definitions, header_traits, header_impls, binding_vis, binding_impl, flag_manual, flag_basic, flag_unsafe, flag_named}
-use Rattle.rules.specs.Sheet.{at, many, bindings, trait_def, impl_flag, impl_trait_lem}
+use Rattle.rules.specs.Sheet.{at, many, bindings, trait_def, impl_flag, impl_trait}
 use Rattle.rules.specs.Reach.{marked, marks_of}
 use Rattle.rules.specs.Candidates.{within_def, within_ancestors, Edge, edges, node_count, graph, linked, same_component, ancestors, visible, open_edge, may_take, binds, may_enter, gets_to, admitted, get_candidates, general_candidates}
 use Rattle.rules.specs.Members.{In, first, later, in_cases, in_empty, any_in, and_iff, not_iff, is_in_in, select_in, range_in, Rising, range_rising, select_rising}
@@ -185,24 +185,24 @@ module _ (s : Words) (c : Checked s) (src : ℕ) (h : src < many s header_defini
   admits_in n i l w = binds_in w.end i (open_node l w.path) w.binds
 
   -- "Manual, unsafe and Error impls never enter."
-  enter_iff : (i : ℕ) → T (may_enter s i) ↔ ((impl_flag s flag_manual i ≡ false) × (impl_flag s flag_unsafe i ≡ false) × (impl_trait_lem s i ≢ 0))
+  enter_iff : (i : ℕ) → T (may_enter s i) ↔ ((impl_flag s flag_manual i ≡ false) × (impl_flag s flag_unsafe i ≡ false) × (impl_trait s i ≢ 0))
   unfolding may_enter
   enter_iff i = (there, back)
     where
-      a : T (may_enter s i) ↔ (T (not (impl_flag s flag_manual i) && not (impl_flag s flag_unsafe i)) × T (not (eqb (impl_trait_lem s i) 0)))
-      a = and_iff (not (impl_flag s flag_manual i) && not (impl_flag s flag_unsafe i)) (not (eqb (impl_trait_lem s i) 0))
+      a : T (may_enter s i) ↔ (T (not (impl_flag s flag_manual i) && not (impl_flag s flag_unsafe i)) × T (not (eqb (impl_trait s i) 0)))
+      a = and_iff (not (impl_flag s flag_manual i) && not (impl_flag s flag_unsafe i)) (not (eqb (impl_trait s i) 0))
 
       b : T (not (impl_flag s flag_manual i) && not (impl_flag s flag_unsafe i)) ↔ (T (not (impl_flag s flag_manual i)) × T (not (impl_flag s flag_unsafe i)))
       b = and_iff (not (impl_flag s flag_manual i)) (not (impl_flag s flag_unsafe i))
 
-      there : T (may_enter s i) → (impl_flag s flag_manual i ≡ false) × (impl_flag s flag_unsafe i ≡ false) × (impl_trait_lem s i ≢ 0)
+      there : T (may_enter s i) → (impl_flag s flag_manual i ≡ false) × (impl_flag s flag_unsafe i ≡ false) × (impl_trait s i ≢ 0)
       there t =
           let p = a.0 t in
           let q = b.0 p.0 in
-          ((not_iff (impl_flag s flag_manual i)).0 q.0, (not_iff (impl_flag s flag_unsafe i)).0 q.1, λ e. T_not (eqb (impl_trait_lem s i) 0) p.1 (rw e (eqb_refl 0)))
+          ((not_iff (impl_flag s flag_manual i)).0 q.0, (not_iff (impl_flag s flag_unsafe i)).0 q.1, λ e. T_not (eqb (impl_trait s i) 0) p.1 (rw e (eqb_refl 0)))
 
-      back : (impl_flag s flag_manual i ≡ false) × (impl_flag s flag_unsafe i ≡ false) × (impl_trait_lem s i ≢ 0) → T (may_enter s i)
-      back r = a.1 (b.1 ((not_iff (impl_flag s flag_manual i)).1 r.0, (not_iff (impl_flag s flag_unsafe i)).1 r.1), not_T (eqb (impl_trait_lem s i) 0) (λ t. r.2 (eqb→eq (impl_trait_lem s i) 0 t)))
+      back : (impl_flag s flag_manual i ≡ false) × (impl_flag s flag_unsafe i ≡ false) × (impl_trait s i ≢ 0) → T (may_enter s i)
+      back r = a.1 (b.1 ((not_iff (impl_flag s flag_manual i)).1 r.0, (not_iff (impl_flag s flag_unsafe i)).1 r.1), not_T (eqb (impl_trait s i) 0) (λ t. r.2 (eqb→eq (impl_trait s i) 0 t)))
 
   module _ (nodes : Words) where
     admitted_there : (i : ℕ) → In i (admitted s src nodes) → SomeAdmits s src nodes i
@@ -232,20 +232,20 @@ module _ (s : Words) (c : Checked s) (src : ℕ) (h : src < many s header_defini
     admission i = (admitted_there i, λ r. admitted-back i r.0 r.1 r.2 r.3)
 
     -- `get_candidates`: those of a trait and a basic flag.
-    pub candidates : (t : ℕ) (b : Bool) (i : ℕ) → In i (get_candidates s src nodes t b) ↔ (SomeAdmits s src nodes i × (impl_trait_lem s i ≡ suc t) × (impl_flag s flag_basic i ≡ b))
+    pub candidates : (t : ℕ) (b : Bool) (i : ℕ) → In i (get_candidates s src nodes t b) ↔ (SomeAdmits s src nodes i × (impl_trait s i ≡ suc t) × (impl_flag s flag_basic i ≡ b))
     unfolding get_candidates
     candidates t b i = (there, back)
       where
-        there : In i (get_candidates s src nodes t b) → SomeAdmits s src nodes i × (impl_trait_lem s i ≡ suc t) × (impl_flag s flag_basic i ≡ b)
+        there : In i (get_candidates s src nodes t b) → SomeAdmits s src nodes i × (impl_trait s i ≡ suc t) × (impl_flag s flag_basic i ≡ b)
         there u =
             let r = (select_in _ (admitted s src nodes) i).0 u in
-            let p = (and_iff (eqb (impl_trait_lem s i) (suc t)) _).0 r.1 in
-            ((admission i).0 r.0, eqb→eq (impl_trait_lem s i) (suc t) p.0, (agree_iff (impl_flag s flag_basic i) b).0 p.1)
+            let p = (and_iff (eqb (impl_trait s i) (suc t)) _).0 r.1 in
+            ((admission i).0 r.0, eqb→eq (impl_trait s i) (suc t) p.0, (agree_iff (impl_flag s flag_basic i) b).0 p.1)
 
-        back : SomeAdmits s src nodes i × (impl_trait_lem s i ≡ suc t) × (impl_flag s flag_basic i ≡ b) → In i (get_candidates s src nodes t b)
+        back : SomeAdmits s src nodes i × (impl_trait s i ≡ suc t) × (impl_flag s flag_basic i ≡ b) → In i (get_candidates s src nodes t b)
         back r =
             (select_in _ (admitted s src nodes) i).1
-            ((admission i).1 r.0, (and_iff (eqb (impl_trait_lem s i) (suc t)) _).1 (rw r.1 (eqb_refl (suc t)), (agree_iff (impl_flag s flag_basic i) b).1 r.2))
+            ((admission i).1 r.0, (and_iff (eqb (impl_trait s i) (suc t)) _).1 (rw r.1 (eqb_refl (suc t)), (agree_iff (impl_flag s flag_basic i) b).1 r.2))
 
   -- The source's general node is a node.
   general_node : within_ancestors src < node_count s
@@ -268,7 +268,7 @@ module _ (s : Words) (c : Checked s) (src : ℕ) (h : src < many s header_defini
   pub three_places :
       (t : ℕ) → t < many s header_traits → (ns : Words) (b : Bool) (i : ℕ) →
       In i (get_candidates s src (within_ancestors src ∷ within_def (trait_def s t) ∷ ns) t b)
-      ↔ ((Admits s src (within_ancestors src) i ⊎ (Admits s src (within_def (trait_def s t)) i ⊎ SomeAdmits s src ns i)) × (impl_trait_lem s i ≡ suc t) × (impl_flag s flag_basic i ≡ b))
+      ↔ ((Admits s src (within_ancestors src) i ⊎ (Admits s src (within_def (trait_def s t)) i ⊎ SomeAdmits s src ns i)) × (impl_trait s i ≡ suc t) × (impl_flag s flag_basic i ≡ b))
   three_places t l ns b i = let a = candidates (within_ancestors src ∷ within_def (trait_def s t) ∷ ns) t b i in (λ u. let r = a.0 u in (there r.0, r.1, r.2), λ r. a.1 (back r.0, r.1, r.2))
     where
       there : SomeAdmits s src (within_ancestors src ∷ within_def (trait_def s t) ∷ ns) i → Admits s src (within_ancestors src) i ⊎ (Admits s src (within_def (trait_def s t)) i ⊎ SomeAdmits s src ns i)

@@ -3,7 +3,7 @@ use Rattle.std.specs.Prelude.{ℕ, zero, suc, ◌+◌, ◌*◌, ◌/◌, ◌%◌
 use Rattle.std.proofs.Math.Option.{none, some}
 use Rattle.rules.specs.Lists.{Words, any, select, concat_map, range, optional, optional_list, is_in}
 use Rattle.rules.specs.Layout.{header_definitions, header_impls, header_prelude, binding_vis, binding_impl, member_vis, member_import, member_id, flag_manual, flag_basic, flag_unsafe, flag_named}
-use Rattle.rules.specs.Sheet.{at, many, parent, trait_vis, def_trait, bindings, named_members, implicit_members, import_def, trait_def, impl_flag, impl_trait_lem}
+use Rattle.rules.specs.Sheet.{at, many, parent, trait_vis, def_trait, bindings, named_members, implicit_members, import_def, trait_def, impl_flag, impl_trait}
 use Rattle.rules.specs.Reach.{Marks, marked, closure, marks_of, reach}
 
 -- A node is a definition and a `Level`, as one number: 3 × definition + level. `Level::Direct`;
@@ -37,7 +37,7 @@ binding_edges s b m =
     elim (impl_flag s flag_named (at s (m + binding_impl))) as (λ x. List Edge) [ true ↦ elim b [ true ↦ go | false ↦ [] ] | false ↦ elim b [ true ↦ [] | false ↦ go ] ]
   where
     go : List Edge
-    go = map (λ t. (at s (m + binding_vis), within_def (trait_def s t))) (optional_list (impl_trait_lem s (at s (m + binding_impl))))
+    go = map (λ t. (at s (m + binding_vis), within_def (trait_def s t))) (optional_list (impl_trait s (at s (m + binding_impl))))
 
 -- `for_each_child`: the edges of a definition's node at level 0 (direct), 1 (within) or 2 (within ancestors), in its order.
 unfoldable pub for_each_child : Words → ℕ → ℕ → List Edge
@@ -112,7 +112,7 @@ binds s anc i n =
 
 -- "Manual, unsafe and Error impls never enter."
 unfoldable pub may_enter : Words → ℕ → Bool
-may_enter s i = not (impl_flag s flag_manual i) && not (impl_flag s flag_unsafe i) && not (eqb (impl_trait_lem s i) 0)
+may_enter s i = not (impl_flag s flag_manual i) && not (impl_flag s flag_unsafe i) && not (eqb (impl_trait s i) 0)
 
 -- The nodes that the source gets to from some nodes.
 unfoldable pub gets_to : Words → ℕ → Words → Marks
@@ -130,7 +130,7 @@ admitted s src nodes =
 
 -- `get_candidates`: those among them of a trait and a basic flag.
 unfoldable pub get_candidates : Words → ℕ → Words → ℕ → Bool → Words
-get_candidates s src nodes t b = select (λ i. eqb (impl_trait_lem s i) (suc t) && same (impl_flag s flag_basic i) b) (admitted s src nodes)
+get_candidates s src nodes t b = select (λ i. eqb (impl_trait s i) (suc t) && same (impl_flag s flag_basic i) b) (admitted s src nodes)
   where
     same : Bool → Bool → Bool
     same true c = c

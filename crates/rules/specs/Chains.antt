@@ -2,7 +2,7 @@
 use Rattle.std.specs.Prelude.{ℕ, zero, suc, ◌+◌, Bool, true, false, ◌&&◌, [], ◌∷◌, leb, length}
 use Rattle.rules.specs.Lists.{Words, all, holds}
 use Rattle.rules.specs.Sheet.{at, chain}
-use Rattle.rules.specs.Layout.{header_length, header_definitions, header_generics, header_traits, header_impls, header_opaques, header_structs, header_enums, header_unions, header_closures, header_imports, definition_bindings, definition_named, definition_implicit, definition_length, binding_length, member_length, import_length, generics_table, generics_impl_params, generics_length, impl_param_args, impl_param_length, trait_length, impl_table, impl_args, impl_length, opaque_length, struct_length, enum_length, union_length, closure_length, node_children, node_length, cell_length, question_table, question_args, question_length}
+use Rattle.rules.specs.Layout.{header_length, header_definitions, header_generics, header_traits, header_impls, header_opaques, header_structs, header_enums, header_unions, header_closures, header_imports, definition_bindings, definition_named, definition_implicit, definition_length, binding_length, member_length, import_length, generics_table_word, generics_impl_params, generics_length, impl_param_args, impl_param_length, trait_length, impl_table_word, impl_args_word, impl_length, opaque_length, struct_length, enum_length, union_length, closure_length, node_children, node_length, cell_length, question_table, question_args, question_length}
 
 -- Zero, or no lower than lo.
 unfoldable pub zero_or_from : ℕ → ℕ → Bool
@@ -54,12 +54,12 @@ module _ (s : Words) where
   -- Generics, with their table and impl parameters.
   unfoldable pub generics_keep : ℕ → Bool
   generics_keep h =
-      head_keeps header_length s generics_length (λ p. nodes_keep header_length s (at s (p + generics_table)) && impl_params_keep (at s (p + generics_impl_params))) h
+      head_keeps header_length s generics_length (λ p. nodes_keep header_length s (at s (p + generics_table_word)) && impl_params_keep (at s (p + generics_impl_params))) h
 
   -- Impls, with their table and arguments.
   unfoldable pub impls_keep : ℕ → Bool
   impls_keep h =
-      head_keeps header_length s impl_length (λ p. nodes_keep header_length s (at s (p + impl_table)) && cells_keep header_length s (at s (p + impl_args))) h
+      head_keeps header_length s impl_length (λ p. nodes_keep header_length s (at s (p + impl_table_word)) && cells_keep header_length s (at s (p + impl_args_word))) h
 
   -- 7: the ten chains of the header.
   unfoldable pub sheet_keeps : Bool

@@ -12,7 +12,7 @@ use Rattle.std.proofs.lemmas.List.{length-map}
 use Rattle.rules.specs.Lists.{Words, all, concat_map, range, optional, optional_list}
 use Rattle.rules.specs.Limits.{limit_definitions, limit_impls}
 use Rattle.rules.specs.Layout.{header_definitions, header_generics, header_traits, header_impls, header_opaques, header_structs, header_enums, header_unions, header_closures, header_imports, header_prelude, header_fork, header_drop, header_duplicate, header_erase, binding_vis, binding_impl, member_vis, member_import, member_id, import_definition, flag_named}
-use Rattle.rules.specs.Sheet.{at, import_def, records, field, parent, trait_vis, def_trait, bindings, named_members, implicit_members, trait_def, impl_flag, impl_trait_lem, many}
+use Rattle.rules.specs.Sheet.{at, import_def, records, field, parent, trait_vis, def_trait, bindings, named_members, implicit_members, trait_def, impl_flag, impl_trait, many}
 use Rattle.rules.specs.Candidates.{direct, within_def, within_ancestors, get_member, Edge, member_edges, binding_edges, for_each_child, edges, node_count, graph}
 use Rattle.rules.specs.Values.{is_id, is_optional, binding_ok, member_ok, definition_ok, definitions_ok, trait_ok, impl_ok, args_ok, import_ok, generics_ok, opaque_ok, struct_ok, closure_ok, flex_trait_ok, sheet_values}
 use Rattle.rules.specs.Members.{In, first, later, all_in, all_get}
@@ -126,8 +126,8 @@ module _ (s : Words) (v : Valid s) where
   trait_def_in t h = ltb→lt _ (many s header_definitions) (part _ (v.traits t h) 0)
 
   -- An impl's trait? is 0 or names a trait.
-  pub impl_trait_in : (i : ℕ) → i < many s header_impls → impl_trait_lem s i ≤ many s header_traits
-  unfolding impl_ok args_ok is_optional impl_trait_lem field
+  pub impl_trait_in : (i : ℕ) → i < many s header_impls → impl_trait s i ≤ many s header_traits
+  unfolding impl_ok args_ok is_optional impl_trait field
   impl_trait_in i h = leb→le _ (many s header_traits) (part _ (part _ (v.impls i h) 3) 0)
 
   -- An import's definition? is 0 or names a definition.
@@ -146,8 +146,8 @@ module _ (s : Words) (v : Valid s) where
   unfolding binding_edges binding_ok is_id
   lead_binding b m t = go (impl_flag s flag_named (at s (m + binding_impl))) refl b
     where
-      there : Leads N (map (λ t. (at s (m + binding_vis), within_def (trait_def s t))) (optional_list (impl_trait_lem s (at s (m + binding_impl)))))
-      there = leads_opt N (many s header_traits) (λ t. (at s (m + binding_vis), within_def (trait_def s t))) into_trait (impl_trait_lem s (at s (m + binding_impl))) (impl_trait_in (at s (m + binding_impl)) (ltb→lt _ (many s header_impls) (part _ t 1)))
+      there : Leads N (map (λ t. (at s (m + binding_vis), within_def (trait_def s t))) (optional_list (impl_trait s (at s (m + binding_impl)))))
+      there = leads_opt N (many s header_traits) (λ t. (at s (m + binding_vis), within_def (trait_def s t))) into_trait (impl_trait s (at s (m + binding_impl))) (impl_trait_in (at s (m + binding_impl)) (ltb→lt _ (many s header_impls) (part _ t 1)))
 
       go : (f : Bool) → impl_flag s flag_named (at s (m + binding_impl)) ≡ f → (c : Bool) → Leads N (binding_edges s c m)
       go true e true = rw (e, binding_edges) there

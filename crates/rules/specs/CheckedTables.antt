@@ -7,8 +7,8 @@ use Rattle.std.proofs.Math.Option.{none}
 use Rattle.std.proofs.Math.Dec.{T, eqb}
 use Rattle.rules.specs.Lists.{Words, all, holds}
 use Rattle.rules.specs.Limits.{limit_sheet}
-use Rattle.rules.specs.Layout.{header_edition, header_definitions, header_generics, header_impls, edition_1, generics_type_params, generics_table, impl_generics, impl_table, node_kind, node_children, question_table, kind_unknown}
-use Rattle.rules.specs.Sheet.{at, chain, records, field, type_params, generics_table_lem, impl_table_lem, many}
+use Rattle.rules.specs.Layout.{header_edition, header_definitions, header_generics, header_impls, edition_1, generics_type_params, generics_table_word, impl_generics_word, impl_table_word, node_kind, node_children, question_table, kind_unknown}
+use Rattle.rules.specs.Sheet.{at, chain, records, field, type_params, generics_table, impl_table, many}
 use Rattle.rules.specs.Types.{Ty, TypeState, unknown, TypeNode, new_node, node_at, state_at}
 use Rattle.rules.specs.Transfer.{cell_types, node_state, new_nodes, table}
 use Rattle.rules.specs.Solutions.{rep, AllIn, ChildrenIn, WellFormed, Readable}
@@ -144,39 +144,39 @@ module _ (a : Finder) (q : Words) (r : Ready a q) where
   question-free = table_readable q (at q question_table) question-formed r.asked
 
   -- 9 passed: the tables of all generics, and of all impls.
-  abbrev tables_end : T (all (λ p. acyclic (table a.sheet (at a.sheet (p + generics_table)))) (records a.sheet header_generics)) × T (all (λ p. acyclic (table a.sheet (at a.sheet (p + impl_table)))) (records a.sheet header_impls))
+  abbrev tables_end : T (all (λ p. acyclic (table a.sheet (at a.sheet (p + generics_table_word)))) (records a.sheet header_generics)) × T (all (λ p. acyclic (table a.sheet (at a.sheet (p + impl_table_word)))) (records a.sheet header_impls))
   unfolding sheet_acyclic
-  tables_end = both (all (λ p. acyclic (table a.sheet (at a.sheet (p + generics_table)))) (records a.sheet header_generics)) (all (λ p. acyclic (table a.sheet (at a.sheet (p + impl_table)))) (records a.sheet header_impls)) r.end
+  tables_end = both (all (λ p. acyclic (table a.sheet (at a.sheet (p + generics_table_word)))) (records a.sheet header_generics)) (all (λ p. acyclic (table a.sheet (at a.sheet (p + impl_table_word)))) (records a.sheet header_impls)) r.end
 
   module _ (g : ℕ) (h : g < many a.sheet header_generics) where
-    pub generics_formed : WellFormed (table a.sheet (field a.sheet header_generics g generics_table))
+    pub generics_formed : WellFormed (table a.sheet (field a.sheet header_generics g generics_table_word))
     unfolding generics_ok field
-    generics_formed = table-formed a.sheet (field a.sheet header_generics g generics_table) a.sheet (at a.sheet (at (records a.sheet header_generics) g + generics_type_params)) (part _ (r.values.generics g h) 1)
+    generics_formed = table-formed a.sheet (field a.sheet header_generics g generics_table_word) a.sheet (at a.sheet (at (records a.sheet header_generics) g + generics_type_params)) (part _ (r.values.generics g h) 1)
 
-    pub generics_free : Readable (table a.sheet (field a.sheet header_generics g generics_table))
+    pub generics_free : Readable (table a.sheet (field a.sheet header_generics g generics_table_word))
     unfolding field many
-    generics_free = table_readable a.sheet (field a.sheet header_generics g generics_table) generics_formed (all_at (λ p. acyclic (table a.sheet (at a.sheet (p + generics_table)))) (records a.sheet header_generics) g 0 tables_end.0 h)
+    generics_free = table_readable a.sheet (field a.sheet header_generics g generics_table_word) generics_formed (all_at (λ p. acyclic (table a.sheet (at a.sheet (p + generics_table_word)))) (records a.sheet header_generics) g 0 tables_end.0 h)
 
   module _ (i : ℕ) (h : i < many a.sheet header_impls) where
-    pub impl_formed : WellFormed (table a.sheet (field a.sheet header_impls i impl_table))
+    pub impl_formed : WellFormed (table a.sheet (field a.sheet header_impls i impl_table_word))
     unfolding impl_ok field
-    impl_formed = table-formed a.sheet (field a.sheet header_impls i impl_table) a.sheet (type_params a.sheet (at a.sheet (at (records a.sheet header_impls) i + impl_generics))) (part _ (r.values.impls i h) 2)
+    impl_formed = table-formed a.sheet (field a.sheet header_impls i impl_table_word) a.sheet (type_params a.sheet (at a.sheet (at (records a.sheet header_impls) i + impl_generics_word))) (part _ (r.values.impls i h) 2)
 
-    pub impl_free : Readable (table a.sheet (field a.sheet header_impls i impl_table))
+    pub impl_free : Readable (table a.sheet (field a.sheet header_impls i impl_table_word))
     unfolding field many
-    impl_free = table_readable a.sheet (field a.sheet header_impls i impl_table) impl_formed (all_at (λ p. acyclic (table a.sheet (at a.sheet (p + impl_table)))) (records a.sheet header_impls) i 0 tables_end.1 h)
+    impl_free = table_readable a.sheet (field a.sheet header_impls i impl_table_word) impl_formed (all_at (λ p. acyclic (table a.sheet (at a.sheet (p + impl_table_word)))) (records a.sheet header_impls) i 0 tables_end.1 h)
 
 -- The tables of a call: each is well formed and acyclic.
 pub record CheckedTables (a : Finder) (q : Words) : Type 0 where
   pub question-formed : WellFormed (table q (at q question_table))
   pub question_acyclic : Acyclic (table q (at q question_table))
-  pub generics_formed : (g : ℕ) → g < many a.sheet header_generics → WellFormed (table a.sheet (generics_table_lem a.sheet g))
-  pub generics_acyclic : (g : ℕ) → g < many a.sheet header_generics → Acyclic (table a.sheet (generics_table_lem a.sheet g))
-  pub impl_formed : (i : ℕ) → i < many a.sheet header_impls → WellFormed (table a.sheet (impl_table_lem a.sheet i))
-  pub impl_acyclic : (i : ℕ) → i < many a.sheet header_impls → Acyclic (table a.sheet (impl_table_lem a.sheet i))
+  pub generics_formed : (g : ℕ) → g < many a.sheet header_generics → WellFormed (table a.sheet (generics_table a.sheet g))
+  pub generics_acyclic : (g : ℕ) → g < many a.sheet header_generics → Acyclic (table a.sheet (generics_table a.sheet g))
+  pub impl_formed : (i : ℕ) → i < many a.sheet header_impls → WellFormed (table a.sheet (impl_table a.sheet i))
+  pub impl_acyclic : (i : ℕ) → i < many a.sheet header_impls → Acyclic (table a.sheet (impl_table a.sheet i))
 
 checked_tables : (a : Finder) (q : Words) → Ready a q → CheckedTables a q
-unfolding generics_table_lem impl_table_lem
+unfolding generics_table impl_table
 checked_tables a q r = record {
   question-formed = question-formed a q r;
   question_acyclic = readable_ranked _ (question-formed a q r) (question-free a q r);

@@ -7,7 +7,7 @@ use Rattle.std.proofs.Math.ListN.{get_or-append}
 use Rattle.rules.specs.Lists.{Words}
 use Rattle.rules.specs.Limits.{limit_type_params}
 use Rattle.rules.specs.Layout.{header_impls, node_kind, node_children, kind_unknown, kind_param}
-use Rattle.rules.specs.Sheet.{at, many, field, kinds, kind_row, row_most, type_params, generics_table_lem, impl_generics_lem}
+use Rattle.rules.specs.Sheet.{at, many, field, kinds, kind_row, row_most, type_params, generics_table, impl_generics}
 use Rattle.rules.specs.Types.{Ty, TypeState, unknown, known, TypeNode, Types, new_node, node_at, state_at, invert_if, find, success, unify_types, unify, ImplType, unify_impl_type}
 use Rattle.rules.specs.Transfer.{Transfer, mapped, param_for, transfer_each, transfer_in, import_impl_type, cell_types, node_state, new_nodes}
 use Rattle.rules.specs.Values.{node_fits, node_ok, generics_ok}
@@ -153,8 +153,8 @@ bare_node s w params n p t = go (eqb (at w (p + node_kind)) kind_unknown) refl
 
 -- so none has in the table of the caller's impl parameters.
 pub params_bare : (a : Finder) (w₀ : Words) → Ready a w₀ → (n : ℕ) → Bare (state_at (impl_params a.sheet a.generics).0 n)
-unfolding impl_params generics_ok generics_table_lem field state_at node_at new_node
-params_bare a w₀ ready n = every_at (λ (x : TypeNode). Bare x.state) (impl_params a.sheet a.generics).0 n (new_node 0 unknown) (every_table Bare a.sheet a.sheet _ (generics_table_lem a.sheet a.generics) (bare_node a.sheet a.sheet _) (part _ (ready.values.generics a.generics ready.generics) 1)) tt
+unfolding impl_params generics_ok generics_table field state_at node_at new_node
+params_bare a w₀ ready n = every_at (λ (x : TypeNode). Bare x.state) (impl_params a.sheet a.generics).0 n (new_node 0 unknown) (every_table Bare a.sheet a.sheet _ (generics_table a.sheet a.generics) (bare_node a.sheet a.sheet _) (part _ (ready.values.generics a.generics ready.generics) 1)) tt
 
 -- A candidate takes at most as many nodes as it has type parameters and its signature's table has nodes,
 pub signed-most : (a : Finder) (w₀ : Words) → Ready a w₀ → (ts : Types) (i : ℕ) → i < many a.sheet header_impls → length (signed a.sheet ts i).1 ≤ length ts + fresh_count a.sheet i + length (impl_signature a.sheet i).0
@@ -164,7 +164,7 @@ signed-most a w₀ ready ts i h = omega (arith, import_most (impl_signature a.sh
 -- and it has at most 8 type parameters.
 pub fresh-most : (a : Finder) (w₀ : Words) → Ready a w₀ → (i : ℕ) → i < many a.sheet header_impls → fresh_count a.sheet i ≤ limit_type_params
 unfolding generics_ok type_params field
-fresh-most a w₀ ready i h = leb→le _ limit_type_params (part _ (ready.values.generics (impl_generics_lem a.sheet i) (impl_generics_in a w₀ ready i h)) 0)
+fresh-most a w₀ ready i h = leb→le _ limit_type_params (part _ (ready.values.generics (impl_generics a.sheet i) (impl_generics_in a w₀ ready i h)) 0)
 
 -- An impl parameter of the caller's generics takes at most as many nodes as their table has.
 pub param-most : (a : Finder) (w₀ : Words) → Ready a w₀ → (ts : Types) (p : ImplType) → AllIn (length (impl_params a.sheet a.generics).0) p.1 → length (import_impl_type (impl_params a.sheet a.generics).0 none p ts).1 ≤ length ts + length (impl_params a.sheet a.generics).0

@@ -115,8 +115,8 @@ import_length = 2
 abbrev pub generics_type_params : ℕ
 generics_type_params = 1
 
-abbrev pub generics_table : ℕ
-generics_table = 2
+abbrev pub generics_table_word : ℕ
+generics_table_word = 2
 
 abbrev pub generics_impl_params : ℕ
 generics_impl_params = 3
@@ -138,8 +138,8 @@ impl_param_length = 3
 abbrev pub trait_definition : ℕ
 trait_definition = 1
 
-abbrev pub trait_arity : ℕ
-trait_arity = 2
+abbrev pub trait_arity_word : ℕ
+trait_arity_word = 2
 
 abbrev pub trait_inherent : ℕ
 trait_inherent = 3
@@ -148,20 +148,20 @@ abbrev pub trait_length : ℕ
 trait_length = 4
 
 -- impl: next, generics, flags, trait?, table head, argument head
-abbrev pub impl_generics : ℕ
-impl_generics = 1
+abbrev pub impl_generics_word : ℕ
+impl_generics_word = 1
 
 abbrev pub impl_flags : ℕ
 impl_flags = 2
 
-abbrev pub impl_trait : ℕ
-impl_trait = 3
+abbrev pub impl_trait_word : ℕ
+impl_trait_word = 3
 
-abbrev pub impl_table : ℕ
-impl_table = 4
+abbrev pub impl_table_word : ℕ
+impl_table_word = 4
 
-abbrev pub impl_args : ℕ
-impl_args = 5
+abbrev pub impl_args_word : ℕ
+impl_args_word = 5
 
 abbrev pub impl_length : ℕ
 impl_length = 6

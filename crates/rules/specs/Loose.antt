@@ -10,7 +10,7 @@ use Rattle.std.proofs.lemmas.List.{length-replicate, get_or-replicate}
 use Rattle.std.proofs.Math.Seq.{get_or-append-add}
 use Rattle.rules.specs.Lists.{Words, range}
 use Rattle.rules.specs.Layout.{header_impls, kind_param}
-use Rattle.rules.specs.Sheet.{many, impl_table_lem}
+use Rattle.rules.specs.Sheet.{many, impl_table}
 use Rattle.rules.specs.Types.{Ty, TypeState, unknown, known, TypeNode, Types, new_node, node_at, invert_if, state_at, success, ImplType}
 use Rattle.rules.specs.Transfer.{mapped, param_for, transfer_types, import_types, import_impl_type, new_nodes}
 use Rattle.rules.specs.Search.{Finder, impl_signature, fresh_params, with_fresh}
@@ -218,7 +218,7 @@ module _ (a : Finder) (w₀ : Words) (ready : Ready a w₀) (ts : Types) (q : Im
 
   src-flat : (k : ℕ) → k < length src → rep src k ≡ k
   unfolding impl_signature
-  src-flat = table-flat a.sheet (impl_table_lem a.sheet i)
+  src-flat = table-flat a.sheet (impl_table a.sheet i)
 
   on : (k : ℕ) → k < length (with_fresh ts n) → k < length us
   on k l = omega (arith, (signature_brought a w₀ ready ts q neat inside i h).grown, (signature_met a w₀ ready ts q neat inside i h).len)

@@ -15,7 +15,7 @@ use Rattle.std.proofs.lemmas.List.{length-replicate}
 use Rattle.rules.specs.Lists.{Words, range, concat_map}
 use Rattle.rules.specs.Limits.{limit_sheet}
 use Rattle.rules.specs.Layout.{header_generics, header_impls, impl_param_trait, impl_param_args, question_table, kind_param}
-use Rattle.rules.specs.Sheet.{at, many, records, field, type_params, generics_table_lem, impl_param_records, impl_generics_lem, impl_table_lem, impl_args_lem}
+use Rattle.rules.specs.Sheet.{at, many, records, field, type_params, generics_table, impl_param_records, impl_generics, impl_table, impl_args}
 use Rattle.rules.specs.Types.{Ty, TypeState, unknown, known, Types, new_node, invert_if, find, state_at, ImplType, unify, unify_impl_type}
 use Rattle.rules.specs.Transfer.{Transfer, mapped, param_for, transfer_each, transfer_in, transfer_types, import_types, import_impl_type, transfer_impl_types, import_impl_types, export_types, export_impl_type, cell_types, new_nodes, table}
 use Rattle.rules.specs.Search.{Finder, impl_signature, impl_params, fresh_params, with_fresh}
@@ -246,55 +246,55 @@ module _ (a : Finder) (q : Words) (r : Ready a q) where
   -- An impl's signature, over its table.
   module _ (i : ℕ) (h : i < many a.sheet header_impls) where
     -- Its generics are there.
-    pub impl_generics_in : impl_generics_lem a.sheet i < many a.sheet header_generics
-    unfolding impl_ok is_id impl_generics_lem field
+    pub impl_generics_in : impl_generics a.sheet i < many a.sheet header_generics
+    unfolding impl_ok is_id impl_generics field
     impl_generics_in = ltb→lt _ (many a.sheet header_generics) (part _ (r.values.impls i h) 0)
 
-    signature_ok : T (table_ok a.sheet a.sheet (type_params a.sheet (impl_generics_lem a.sheet i)) (impl_table_lem a.sheet i))
-    unfolding impl_ok impl_generics_lem impl_table_lem field
+    signature_ok : T (table_ok a.sheet a.sheet (type_params a.sheet (impl_generics a.sheet i)) (impl_table a.sheet i))
+    unfolding impl_ok impl_generics impl_table field
     signature_ok = part _ (r.values.impls i h) 2
 
     -- Its table is neat,
     pub signature_neat : Neat (impl_signature a.sheet i).0
-    unfolding impl_signature impl_table_lem
-    signature_neat = record { proper = record { formed = impl_formed a q r i h; kept = impl_free a q r i h }; slim = slim_table a.sheet a.sheet few _ (impl_table_lem a.sheet i) signature_ok; upright = table-upright a.sheet (impl_table_lem a.sheet i) }
+    unfolding impl_signature impl_table
+    signature_neat = record { proper = record { formed = impl_formed a q r i h; kept = impl_free a q r i h }; slim = slim_table a.sheet a.sheet few _ (impl_table a.sheet i) signature_ok; upright = table-upright a.sheet (impl_table a.sheet i) }
 
     -- its arguments are nodes of it,
     pub signature_in : AllIn (length (impl_signature a.sheet i).0) (impl_signature a.sheet i).1.1
-    unfolding impl_signature impl_ok args_ok impl_table_lem impl_args_lem field
-    signature_in = in_checked _ _ (subst (λ k. T (in_table k (cell_types a.sheet (impl_args_lem a.sheet i)))) (sym (table_length_lem a.sheet (impl_table_lem a.sheet i))) (part _ (part _ (r.values.impls i h) 3) 2))
+    unfolding impl_signature impl_ok args_ok impl_table impl_args field
+    signature_in = in_checked _ _ (subst (λ k. T (in_table k (cell_types a.sheet (impl_args a.sheet i)))) (sym (table_length_lem a.sheet (impl_table a.sheet i))) (part _ (part _ (r.values.impls i h) 3) 2))
 
     -- its Params are below the count of its type parameters,
-    pub signature_below : (k : ℕ) → ParamBelow (type_params a.sheet (impl_generics_lem a.sheet i)) (state_at (impl_signature a.sheet i).0 k)
+    pub signature_below : (k : ℕ) → ParamBelow (type_params a.sheet (impl_generics a.sheet i)) (state_at (impl_signature a.sheet i).0 k)
     unfolding impl_signature
-    signature_below = param_below a.sheet a.sheet _ (impl_table_lem a.sheet i) signature_ok
+    signature_below = param_below a.sheet a.sheet _ (impl_table a.sheet i) signature_ok
 
     -- and it has no Param where its generics have no type parameters.
-    pub signature_plain : type_params a.sheet (impl_generics_lem a.sheet i) ≡ 0 → (ps : Option (List Ty)) (k : ℕ) → param_for ps (state_at (impl_signature a.sheet i).0 k) ≡ none
+    pub signature_plain : type_params a.sheet (impl_generics a.sheet i) ≡ 0 → (ps : Option (List Ty)) (k : ℕ) → param_for ps (state_at (impl_signature a.sheet i).0 k) ≡ none
     unfolding impl_signature
-    signature_plain e = no_params a.sheet a.sheet (impl_table_lem a.sheet i) (subst (λ n. T (table_ok a.sheet a.sheet n (impl_table_lem a.sheet i))) e signature_ok)
+    signature_plain e = no_params a.sheet a.sheet (impl_table a.sheet i) (subst (λ n. T (table_ok a.sheet a.sheet n (impl_table a.sheet i))) e signature_ok)
 
   -- The impl parameters of generics, over their table.
   module _ (g : ℕ) (h : g < many a.sheet header_generics) where
-    impl_params_ok : T (table_ok a.sheet a.sheet (type_params a.sheet g) (generics_table_lem a.sheet g))
-    unfolding generics_ok type_params generics_table_lem field
+    impl_params_ok : T (table_ok a.sheet a.sheet (type_params a.sheet g) (generics_table a.sheet g))
+    unfolding generics_ok type_params generics_table field
     impl_params_ok = part _ (r.values.generics g h) 1
 
     -- It is neat,
     pub impl_params_neat : Neat (impl_params a.sheet g).0
-    unfolding impl_params generics_table_lem
-    impl_params_neat = record { proper = record { formed = generics_formed a q r g h; kept = generics_free a q r g h }; slim = slim_table a.sheet a.sheet few _ (generics_table_lem a.sheet g) impl_params_ok; upright = table-upright a.sheet (generics_table_lem a.sheet g) }
+    unfolding impl_params generics_table
+    impl_params_neat = record { proper = record { formed = generics_formed a q r g h; kept = generics_free a q r g h }; slim = slim_table a.sheet a.sheet few _ (generics_table a.sheet g) impl_params_ok; upright = table-upright a.sheet (generics_table a.sheet g) }
 
     -- their arguments are nodes of it,
     pub impl_params_in : QueriesIn (length (impl_params a.sheet g).0) (impl_params a.sheet g).1
-    unfolding impl_params generics_ok args_ok generics_table_lem impl_param_records field
+    unfolding impl_params generics_ok args_ok generics_table impl_param_records field
     impl_params_in =
-        every_map (λ p. T (args_ok a.sheet a.sheet (generics_table_lem a.sheet g) (at a.sheet (p + impl_param_trait)) (at a.sheet (p + impl_param_args)))) _ _
-        (λ p t. in_checked _ _ (subst (λ k. T (in_table k (cell_types a.sheet (at a.sheet (p + impl_param_args))))) (sym (table_length_lem a.sheet (generics_table_lem a.sheet g))) (part _ t 2)))
+        every_map (λ p. T (args_ok a.sheet a.sheet (generics_table a.sheet g) (at a.sheet (p + impl_param_trait)) (at a.sheet (p + impl_param_args)))) _ _
+        (λ p t. in_checked _ _ (subst (λ k. T (in_table k (cell_types a.sheet (at a.sheet (p + impl_param_args))))) (sym (table_length_lem a.sheet (generics_table a.sheet g))) (part _ t 2)))
         (impl_param_records a.sheet g)
         (every_all _ (impl_param_records a.sheet g) (part _ (r.values.generics g h) 3))
 
     -- and it has no Param where there are no type parameters.
     pub impl_params-plain : type_params a.sheet g ≡ 0 → (ps : Option (List Ty)) (k : ℕ) → param_for ps (state_at (impl_params a.sheet g).0 k) ≡ none
     unfolding impl_params
-    impl_params-plain e = no_params a.sheet a.sheet (generics_table_lem a.sheet g) (subst (λ n. T (table_ok a.sheet a.sheet n (generics_table_lem a.sheet g))) e impl_params_ok)
+    impl_params-plain e = no_params a.sheet a.sheet (generics_table a.sheet g) (subst (λ n. T (table_ok a.sheet a.sheet n (generics_table a.sheet g))) e impl_params_ok)

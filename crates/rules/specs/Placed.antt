@@ -10,7 +10,7 @@ use Rattle.std.proofs.Math.Dec.{T}
 use Rattle.std.proofs.Math.ListN.{length}
 use Rattle.rules.specs.Layout.{header_impls}
 use Rattle.rules.specs.Lists.{Words}
-use Rattle.rules.specs.Sheet.{many, impl_table_lem}
+use Rattle.rules.specs.Sheet.{many, impl_table}
 use Rattle.rules.specs.Types.{Ty, TypeState, unknown, known, TypeNode, Types, new_node, node_at, invert_if, find, state_at}
 use Rattle.rules.specs.Transfer.{Transfer, mapped, param_for, transfer_each, transfer_in, transfer_types, import_types, import_impl_type}
 use Rattle.rules.specs.Search.{Finder, impl_signature, fresh_params, with_fresh}
@@ -341,4 +341,4 @@ placed src tidy flat ps = placed_by src tidy.proper.formed (λ n h. ap₂ (λ (b
 -- Candidate i's signature, brought into the question's table ts with fresh unknowns for its parameters.
 pub candidate_placed : (a : Finder) (w₀ : Words) → Ready a w₀ → (ts : Types) (i : ℕ) → i < many a.sheet header_impls → Placed (impl_signature a.sheet i).0 (some (fresh_params ts (fresh_count a.sheet i))) (with_fresh ts (fresh_count a.sheet i)) (impl_signature a.sheet i).1.1 ((signed a.sheet ts i).0.1, (signed a.sheet ts i).1)
 unfolding import_impl_type impl_signature
-candidate_placed a w₀ ready ts i h = placed (impl_signature a.sheet i).0 (signature_neat a w₀ ready i h) (table-flat a.sheet (impl_table_lem a.sheet i)) (some (fresh_params ts (fresh_count a.sheet i))) (with_fresh ts (fresh_count a.sheet i)) (impl_signature a.sheet i).1.1 (signature_in a w₀ ready i h)
+candidate_placed a w₀ ready ts i h = placed (impl_signature a.sheet i).0 (signature_neat a w₀ ready i h) (table-flat a.sheet (impl_table a.sheet i)) (some (fresh_params ts (fresh_count a.sheet i))) (with_fresh ts (fresh_count a.sheet i)) (impl_signature a.sheet i).1.1 (signature_in a w₀ ready i h)

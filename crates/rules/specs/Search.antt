@@ -4,7 +4,7 @@ use Rattle.std.proofs.Math.Option.{Option, none, some}
 use Rattle.rules.specs.Lists.{Words, range, optional, optional_list}
 use Rattle.rules.specs.Limits.{limit_nodes, limit_results, limit_tree_nodes}
 use Rattle.rules.specs.Layout.{header_opaques, header_structs, header_enums, header_unions, header_closures, header_fork, header_drop, header_duplicate, header_erase, impl_param_trait, impl_param_args, owner_definition, closure_flex, flex_fork, flex_drop, tree_param, tree_def, tree_fork_closure, tree_drop_closure, kind_opaque, kind_struct, kind_enum, kind_union, kind_fn, kind_closure, kind_ref, kind_default, kind_error}
-use Rattle.rules.specs.Sheet.{at, field, type_params, generics_table_lem, impl_param_records, trait_def, inherent_params, impl_generics_lem, impl_trait_lem, impl_table_lem, impl_args_lem}
+use Rattle.rules.specs.Sheet.{at, field, type_params, generics_table, impl_param_records, trait_def, inherent_params, impl_generics, impl_trait, impl_table, impl_args}
 use Rattle.rules.specs.Types.{Ty, TypeState, unknown, known, Types, success, failure, indeterminate, ImplType, kind, unify_impl_type, approx_eq}
 use Rattle.rules.specs.Transfer.{import_impl_type, import_impl_types, cell_types, new_nodes, table}
 use Rattle.rules.specs.Candidates.{within_def, within_ancestors, get_candidates}
@@ -54,11 +54,11 @@ check_nodes ts r = elim (ltb limit_nodes (length ts)) [ true ↦ stop 14 | false
 
 -- An impl's signature, `sigs.impls`, with its table.
 unfoldable pub impl_signature : Words → ℕ → Types × ImplType
-impl_signature s i = (table s (impl_table_lem s i), (impl_trait_lem s i, cell_types s (impl_args_lem s i)))
+impl_signature s i = (table s (impl_table s i), (impl_trait s i, cell_types s (impl_args s i)))
 
 -- The impl parameters of generics, `sigs.impl_params`, with their table.
 unfoldable pub impl_params : Words → ℕ → Types × List ImplType
-impl_params s g = (table s (generics_table_lem s g), map (λ p. (at s (p + impl_param_trait), cell_types s (at s (p + impl_param_args)))) (impl_param_records s g))
+impl_params s g = (table s (generics_table s g), map (λ p. (at s (p + impl_param_trait), cell_types s (at s (p + impl_param_args)))) (impl_param_records s g))
 
 -- `find_auto_impls_fork` and `_drop`: an upright Fn, or Default either way, gives duplicate or erase where set (header word h);
 -- an upright closure with that flex (bit b) gives its own (tree kind k).
@@ -168,7 +168,7 @@ with_fresh ts n = ts ++ new_nodes (length ts) (replicate n unknown)
 -- One candidate impl: fresh unknowns stand for its type parameters, its signature must unify with the question, and its impl parameters are asked.
 unfoldable pub try_candidate : (Types → ImplType → Run (List Result)) → Words → Types → ImplType → ℕ → Run (List Result)
 try_candidate ask s ts q i =
-    let g = impl_generics_lem s i in
+    let g = impl_generics s i in
     let n = type_params s g in
     let ps : Option (List Ty) = some (fresh_params ts n) in
     let w = import_impl_type (impl_signature s i).0 ps (impl_signature s i).1 (with_fresh ts n) in

@@ -11,7 +11,7 @@ use Rattle.std.proofs.Math.Dec.{ltb}
 use Rattle.rules.specs.Lists.{Words, range, optional}
 use Rattle.rules.specs.Limits.{limit_nodes, limit_results, limit_tree_nodes}
 use Rattle.rules.specs.Layout.{header_impls, tree_param, tree_def}
-use Rattle.rules.specs.Sheet.{many, type_params, trait_def, inherent_params, impl_generics_lem}
+use Rattle.rules.specs.Sheet.{many, type_params, trait_def, inherent_params, impl_generics}
 use Rattle.rules.specs.Types.{Types, UnifyResult, success, failure, indeterminate, Unified, ImplType, unify_impl_type, approx_eq}
 use Rattle.rules.specs.Transfer.{import_impl_type, import_impl_types}
 use Rattle.rules.specs.Candidates.{within_def, within_ancestors, admitted, get_candidates}
@@ -102,7 +102,7 @@ subimpls_keep ask keeps ts (q ∷ qs) n h =
 
 -- The tables of one candidate: how many fresh unknowns it takes, its signature's import behind them, the join with the question, and the import of its impl parameters.
 abbrev pub fresh_count : Words → ℕ → ℕ
-fresh_count s i = type_params s (impl_generics_lem s i)
+fresh_count s i = type_params s (impl_generics s i)
 
 abbrev pub signed : Words → Types → ℕ → ImplType × Types
 signed s ts i = import_impl_type (impl_signature s i).0 (some (fresh_params ts (fresh_count s i))) (impl_signature s i).1 (with_fresh ts (fresh_count s i))
@@ -111,14 +111,14 @@ abbrev pub met : Words → Types → ImplType → ℕ → Unified
 met s ts q i = unify_impl_type s (signed s ts i).1 (signed s ts i).0 q
 
 abbrev pub needs : Words → Types → ImplType → ℕ → List ImplType × Types
-needs s ts q i = import_impl_types (impl_params s (impl_generics_lem s i)).0 (some (fresh_params ts (fresh_count s i))) (impl_params s (impl_generics_lem s i)).1 (met s ts q i).1
+needs s ts q i = import_impl_types (impl_params s (impl_generics s i)).0 (some (fresh_params ts (fresh_count s i))) (impl_params s (impl_generics s i)).1 (met s ts q i).1
 
 -- For a call that passed 6 to 13: a question, of a neat table and with types of it.
 module _ (a : Finder) (w₀ : Words) (ready : Ready a w₀) (ts : Types) (q : ImplType) (neat : Neat ts) (inside : AllIn (length ts) q.1) where
   -- One candidate.
   module _ (i : ℕ) (h : i < many a.sheet header_impls) where
     abbrev g : ℕ
-    g = impl_generics_lem a.sheet i
+    g = impl_generics a.sheet i
 
     abbrev n : ℕ
     n = fresh_count a.sheet i

@@ -2,7 +2,7 @@
 -- A sheet (document 01's term) is a chart as u32 words; a chain is a list of records, each of which begins with the index of the next.
 use Rattle.std.specs.Prelude.{ℕ, zero, suc, ◌+◌, ◌*◌, ◌/◌, ◌%◌, Bool, true, false, [], ◌∷◌, eqb, leb, length, get_or, take, drop}
 use Rattle.rules.specs.Lists.{Words}
-use Rattle.rules.specs.Layout.{header_definitions, header_generics, header_traits, header_impls, header_structs, header_unions, header_imports, definition_parent, definition_trait_vis, definition_trait, definition_bindings, definition_named, definition_implicit, import_definition, generics_type_params, generics_table, generics_impl_params, trait_definition, trait_arity, trait_inherent, impl_generics, impl_flags, impl_trait, impl_table, impl_args, owner_self_dual, kind_struct, kind_union}
+use Rattle.rules.specs.Layout.{header_definitions, header_generics, header_traits, header_impls, header_structs, header_unions, header_imports, definition_parent, definition_trait_vis, definition_trait, definition_bindings, definition_named, definition_implicit, import_definition, generics_type_params, generics_table_word, generics_impl_params, trait_definition, trait_arity_word, trait_inherent, impl_generics_word, impl_flags, impl_trait_word, impl_table_word, impl_args_word, owner_self_dual, kind_struct, kind_union}
 
 -- The word at a place; 0 past the end.
 abbrev pub at : Words → ℕ → ℕ
@@ -67,8 +67,8 @@ unfoldable pub type_params : Words → ℕ → ℕ
 type_params s g = field s header_generics g generics_type_params
 
 -- Of generics: the head of their table.
-unfoldable pub generics_table_lem : Words → ℕ → ℕ
-generics_table_lem s g = field s header_generics g generics_table
+unfoldable pub generics_table : Words → ℕ → ℕ
+generics_table s g = field s header_generics g generics_table_word
 
 -- Of generics: the records of their impl parameters.
 unfoldable pub impl_param_records : Words → ℕ → Words
@@ -79,32 +79,32 @@ unfoldable pub trait_def : Words → ℕ → ℕ
 trait_def s t = field s header_traits t trait_definition
 
 -- Of a trait: its arity.
-unfoldable pub trait_arity_lem : Words → ℕ → ℕ
-trait_arity_lem s t = field s header_traits t trait_arity
+unfoldable pub trait_arity : Words → ℕ → ℕ
+trait_arity s t = field s header_traits t trait_arity_word
 
 -- Of a trait: its inherent count, `inherent_params`.
 unfoldable pub inherent_params : Words → ℕ → ℕ
 inherent_params s t = field s header_traits t trait_inherent
 
 -- Of an impl: its generics.
-unfoldable pub impl_generics_lem : Words → ℕ → ℕ
-impl_generics_lem s i = field s header_impls i impl_generics
+unfoldable pub impl_generics : Words → ℕ → ℕ
+impl_generics s i = field s header_impls i impl_generics_word
 
 -- Of an impl: flag n (1 manual, 2 basic, 4 unsafe, 8 named).
 unfoldable pub impl_flag : Words → ℕ → ℕ → Bool
 impl_flag s n i = eqb ((field s header_impls i impl_flags / n) % 2) 1
 
 -- Of an impl: trait?.
-unfoldable pub impl_trait_lem : Words → ℕ → ℕ
-impl_trait_lem s i = field s header_impls i impl_trait
+unfoldable pub impl_trait : Words → ℕ → ℕ
+impl_trait s i = field s header_impls i impl_trait_word
 
 -- Of an impl: the head of its table.
-unfoldable pub impl_table_lem : Words → ℕ → ℕ
-impl_table_lem s i = field s header_impls i impl_table
+unfoldable pub impl_table : Words → ℕ → ℕ
+impl_table s i = field s header_impls i impl_table_word
 
 -- Of an impl: the head of its arguments.
-unfoldable pub impl_args_lem : Words → ℕ → ℕ
-impl_args_lem s i = field s header_impls i impl_args
+unfoldable pub impl_args : Words → ℕ → ℕ
+impl_args s i = field s header_impls i impl_args_word
 
 -- The kind table: a row for each kind, of least children, most children, own inverse, may meet inverted.
 -- Struct and Union have the last two flags only where the record says self-dual.

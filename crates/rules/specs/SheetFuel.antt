@@ -4,7 +4,7 @@ use Rattle.std.specs.Prelude.{ℕ, ◌+◌, ◌<◌, ◌≡◌, refl, Bool, true
 use Rattle.std.proofs.Common.{inl, inr, zero-lt-suc, lit<}
 use Rattle.std.proofs.Math.Option.{none}
 use Rattle.rules.specs.Lists.{Words}
-use Rattle.rules.specs.Layout.{header_length, header_definitions, header_generics, header_traits, header_impls, header_opaques, header_structs, header_enums, header_unions, header_closures, header_imports, definition_bindings, definition_named, definition_implicit, definition_length, binding_length, member_length, import_length, generics_table, generics_impl_params, generics_length, impl_param_args, impl_param_length, trait_length, impl_table, impl_args, impl_length, opaque_length, struct_length, enum_length, union_length, closure_length, node_children, node_length, cell_length, question_table, question_args, question_length}
+use Rattle.rules.specs.Layout.{header_length, header_definitions, header_generics, header_traits, header_impls, header_opaques, header_structs, header_enums, header_unions, header_closures, header_imports, definition_bindings, definition_named, definition_implicit, definition_length, binding_length, member_length, import_length, generics_table_word, generics_impl_params, generics_length, impl_param_args, impl_param_length, trait_length, impl_table_word, impl_args_word, impl_length, opaque_length, struct_length, enum_length, union_length, closure_length, node_children, node_length, cell_length, question_table, question_args, question_length}
 use Rattle.rules.specs.Sheet.{at, chain, records}
 use Rattle.rules.specs.Search.{Finder}
 use Rattle.rules.specs.Chains.{zero_or_from, chain_keeps, head_keeps, no_heads, cells_keep, nodes_keep, plain_keep, definitions_keep, impl_params_keep, generics_keep, impls_keep, sheet_keeps, impl_question_keeps, flex_question_keeps}
@@ -33,11 +33,11 @@ pub record SheetWhole (s : Words) : Type 0 where
   pub bindings : (p : ℕ) → In p (records s header_definitions) → Whole s (at s (p + definition_bindings))
   pub named : (p : ℕ) → In p (records s header_definitions) → Whole s (at s (p + definition_named))
   pub implicit : (p : ℕ) → In p (records s header_definitions) → Whole s (at s (p + definition_implicit))
-  pub generics_tables : (p : ℕ) → In p (records s header_generics) → WholeTable s (at s (p + generics_table))
+  pub generics_tables : (p : ℕ) → In p (records s header_generics) → WholeTable s (at s (p + generics_table_word))
   pub impl_params : (p : ℕ) → In p (records s header_generics) → Whole s (at s (p + generics_impl_params))
   pub impl_param_args_lem : (p : ℕ) → In p (records s header_generics) → (i : ℕ) → In i (chain s (at s (p + generics_impl_params))) → Whole s (at s (i + impl_param_args))
-  pub impl_tables : (p : ℕ) → In p (records s header_impls) → WholeTable s (at s (p + impl_table))
-  pub impl_args_lem : (p : ℕ) → In p (records s header_impls) → Whole s (at s (p + impl_args))
+  pub impl_tables : (p : ℕ) → In p (records s header_impls) → WholeTable s (at s (p + impl_table_word))
+  pub impl_args : (p : ℕ) → In p (records s header_impls) → Whole s (at s (p + impl_args_word))
 
 -- A head is a word of the slice: none but zero is read from an empty one.
 head_in : (s : Words) (j : ℕ) → (at s j ≡ 0) ⊎ (0 < length s)
@@ -109,18 +109,18 @@ module _ (s : Words) (j : ℕ) where
     unfolding generics_keep
     generics_whole = head_whole header_length s generics_length (lit< tt) _ j t
 
-    generics_heads : (p : ℕ) → In p (chain s (at s j)) → T (nodes_keep header_length s (at s (p + generics_table))) × T (impl_params_keep s (at s (p + generics_impl_params)))
+    generics_heads : (p : ℕ) → In p (chain s (at s j)) → T (nodes_keep header_length s (at s (p + generics_table_word))) × T (impl_params_keep s (at s (p + generics_impl_params)))
     unfolding generics_keep
-    generics_heads p i = both (nodes_keep header_length s (at s (p + generics_table))) (impl_params_keep s (at s (p + generics_impl_params))) (head_heads header_length s generics_length (lit< tt) _ j t p i)
+    generics_heads p i = both (nodes_keep header_length s (at s (p + generics_table_word))) (impl_params_keep s (at s (p + generics_impl_params))) (head_heads header_length s generics_length (lit< tt) _ j t p i)
 
   module _ (t : T (impls_keep s (at s j))) where
     impls_whole : Whole s (at s j)
     unfolding impls_keep
     impls_whole = head_whole header_length s impl_length (lit< tt) _ j t
 
-    impls_heads : (p : ℕ) → In p (chain s (at s j)) → T (nodes_keep header_length s (at s (p + impl_table))) × T (cells_keep header_length s (at s (p + impl_args)))
+    impls_heads : (p : ℕ) → In p (chain s (at s j)) → T (nodes_keep header_length s (at s (p + impl_table_word))) × T (cells_keep header_length s (at s (p + impl_args_word)))
     unfolding impls_keep
-    impls_heads p i = both (nodes_keep header_length s (at s (p + impl_table))) (cells_keep header_length s (at s (p + impl_args))) (head_heads header_length s impl_length (lit< tt) _ j t p i)
+    impls_heads p i = both (nodes_keep header_length s (at s (p + impl_table_word))) (cells_keep header_length s (at s (p + impl_args_word))) (head_heads header_length s impl_length (lit< tt) _ j t p i)
 
 -- A sheet that passes 7: every chain is walked whole.
 pub sheet_whole : (s : Words) → Checked s → SheetWhole s
@@ -139,11 +139,11 @@ sheet_whole s c = let t = part _ (passed s c).chains in record {
   bindings = definition_bindings_lem s header_definitions (t 0);
   named = definition_named_lem s header_definitions (t 0);
   implicit = definition_implicit_lem s header_definitions (t 0);
-  generics_tables = λ p i. nodes_whole header_length s (p + generics_table) (generics_heads s header_generics (t 1) p i).0;
+  generics_tables = λ p i. nodes_whole header_length s (p + generics_table_word) (generics_heads s header_generics (t 1) p i).0;
   impl_params = λ p i. impl_params-whole s (p + generics_impl_params) (generics_heads s header_generics (t 1) p i).1;
   impl_param_args_lem = λ p i. impl_param_args-whole s (p + generics_impl_params) (generics_heads s header_generics (t 1) p i).1;
-  impl_tables = λ p i. nodes_whole header_length s (p + impl_table) (impls_heads s header_impls (t 3) p i).0;
-  impl_args_lem = λ p i. cells_whole header_length s (p + impl_args) (impls_heads s header_impls (t 3) p i).1;
+  impl_tables = λ p i. nodes_whole header_length s (p + impl_table_word) (impls_heads s header_impls (t 3) p i).0;
+  impl_args = λ p i. cells_whole header_length s (p + impl_args_word) (impls_heads s header_impls (t 3) p i).1;
 }
 
 -- A question that passes 11: its table, and for the impl call its arguments.

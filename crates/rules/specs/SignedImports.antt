@@ -12,7 +12,7 @@ use Rattle.std.proofs.Math.Dec.{eqb}
 use Rattle.std.proofs.Math.ListN.{length, length-set}
 use Rattle.rules.specs.Lists.{Words}
 use Rattle.rules.specs.Layout.{header_impls, kind_error, kind_param}
-use Rattle.rules.specs.Sheet.{many, generics_table_lem, impl_table_lem}
+use Rattle.rules.specs.Sheet.{many, generics_table, impl_table}
 use Rattle.rules.specs.Types.{Ty, TypeState, unknown, known, TypeNode, Types, new_node, node_at, xor, invert_if, find, state_at, success, Unified, ImplType, unify_impl_type}
 use Rattle.rules.specs.Transfer.{Transfer, mapped, param_for, transfer_each, transfer_in, transfer_types, import_types, import_impl_type}
 use Rattle.rules.specs.Search.{Finder, impl_signature, impl_params, fresh_params, with_fresh}
@@ -444,7 +444,7 @@ pub candidate_joined : (a : Finder) (w₀ : Words) → Ready a w₀ → (ts : Ty
 unfolding impl_signature
 candidate_joined a w₀ ready ts q neat inside i h won =
     let n = fresh_count a.sheet i in
-    import_signed a.sheet ts q neat inside (impl_signature a.sheet i).0 (signature_neat a w₀ ready i h) (table-flat a.sheet (impl_table_lem a.sheet i)) (some (fresh_params ts n)) (with_fresh ts n) (omega (arith, fresh-length ts n)) (fresh_first ts n)
+    import_signed a.sheet ts q neat inside (impl_signature a.sheet i).0 (signature_neat a w₀ ready i h) (table-flat a.sheet (impl_table a.sheet i)) (some (fresh_params ts n)) (with_fresh ts n) (omega (arith, fresh-length ts n)) (fresh_first ts n)
     (impl_signature a.sheet i).1 (signature_in a w₀ ready i h) (signature_brought a w₀ ready ts q neat inside i h) (signed_given a.sheet (fresh_params ts n)) (λ μ. given_follows a.sheet μ (impl_signature a.sheet i).0 (fresh_params ts n)) won
 
 -- So are there where an impl parameter of the caller's generics unifies with the question: its Params are types of their own.
@@ -453,5 +453,5 @@ unfolding impl_params
 param-signed a w₀ ready ts q neat inside p into won =
     let src = (impl_params a.sheet a.generics).0 in
     let tidy = impl_params_neat a w₀ ready a.generics ready.generics in
-    (import_signed a.sheet ts q neat inside src tidy (table-flat a.sheet (generics_table_lem a.sheet a.generics)) none ts (le_refl _) (λ k l. refl)
+    (import_signed a.sheet ts q neat inside src tidy (table-flat a.sheet (generics_table a.sheet a.generics)) none ts (le_refl _) (λ k l. refl)
     p into (query_brought src tidy none ts neat (low_none ts) p into) (λ σ. signed_itself a.sheet) (λ μ. none_follows a.sheet μ src (params_bare a w₀ ready)) won).common

@@ -6,7 +6,7 @@ use Rattle.std.proofs.Common.{arith}
 use Rattle.rules.specs.Lists.{Words, optional}
 use Rattle.rules.specs.Limits.{limit_nodes, limit_results, limit_tree_nodes}
 use Rattle.rules.specs.Layout.{tree_param, tree_def, kind_error, kind_ref}
-use Rattle.rules.specs.Sheet.{type_params, impl_generics_lem}
+use Rattle.rules.specs.Sheet.{type_params, impl_generics}
 use Rattle.rules.specs.Types.{Ty, TypeState, unknown, known, Types, UnifyResult, success, failure, indeterminate, Unified, ImplType, kind, unify_impl_type, approx_eq}
 use Rattle.rules.specs.Transfer.{import_impl_type, import_impl_types}
 use Rattle.rules.specs.Run.{Run, done, ◌>>=◌}
@@ -115,7 +115,7 @@ module _ (ask : Types → ImplType → Run (List Result)) (h : (ts : Types) (q :
   candidate_stops : (s : Words) (ts : Types) (q : ImplType) (i : ℕ) → Searches (try_candidate ask s ts q i)
   unfolding try_candidate
   candidate_stops s ts q i =
-      let g = impl_generics_lem s i in
+      let g = impl_generics s i in
       let n = type_params s g in
       let ps : Option (List Ty) = some (fresh_params ts n) in
       let w = import_impl_type (impl_signature s i).0 ps (impl_signature s i).1 (with_fresh ts n) in

@@ -2,8 +2,8 @@
 use Rattle.std.specs.Prelude.{ℕ, zero, suc, ◌+◌, ◌/◌, Bool, true, false, ◌&&◌, ◌||◌, List, [], ◌∷◌, eqb, ltb, leb, length, get_or}
 use Rattle.rules.specs.Lists.{Words, all, holds}
 use Rattle.rules.specs.Limits.{limit_definitions, limit_impls, limit_type_params, limit_impl_params, limit_arity}
-use Rattle.rules.specs.Layout.{header_definitions, header_generics, header_traits, header_impls, header_opaques, header_structs, header_enums, header_unions, header_closures, header_imports, header_prelude, header_fork, header_drop, header_duplicate, header_erase, definition_parent, definition_trait_vis, definition_trait, definition_bindings, definition_named, definition_implicit, binding_vis, binding_impl, member_vis, member_import, member_id, import_definition, generics_type_params, generics_table, generics_impl_params, impl_param_trait, impl_param_args, trait_definition, trait_arity, trait_inherent, impl_generics, impl_flags, impl_trait, impl_table, impl_args, flag_all, owner_definition, owner_self_dual, closure_flex, flex_both, node_kind, node_inverted, node_id, node_children, question_table, question_trait, question_args, question_type, question_zero, kind_unknown, kind_count}
-use Rattle.rules.specs.Sheet.{at, chain, records, many, type_params, trait_arity_lem, kind_row, row_least, row_most}
+use Rattle.rules.specs.Layout.{header_definitions, header_generics, header_traits, header_impls, header_opaques, header_structs, header_enums, header_unions, header_closures, header_imports, header_prelude, header_fork, header_drop, header_duplicate, header_erase, definition_parent, definition_trait_vis, definition_trait, definition_bindings, definition_named, definition_implicit, binding_vis, binding_impl, member_vis, member_import, member_id, import_definition, generics_type_params, generics_table_word, generics_impl_params, impl_param_trait, impl_param_args, trait_definition, trait_arity_word, trait_inherent, impl_generics_word, impl_flags, impl_trait_word, impl_table_word, impl_args_word, flag_all, owner_definition, owner_self_dual, closure_flex, flex_both, node_kind, node_inverted, node_id, node_children, question_table, question_trait, question_args, question_type, question_zero, kind_unknown, kind_count}
+use Rattle.rules.specs.Sheet.{at, chain, records, many, type_params, trait_arity, kind_row, row_least, row_most}
 use Rattle.rules.specs.Types.{Ty}
 use Rattle.rules.specs.Transfer.{cell_types}
 
@@ -93,7 +93,7 @@ module _ (s : Words) where
   -- The arity of a trait?: trait? = 0 has no arguments.
   unfoldable pub arity : ℕ → ℕ
   arity zero = 0
-  arity (suc t) = trait_arity_lem s t
+  arity (suc t) = trait_arity s t
 
   -- A trait? and its arguments, over the table from head h of a slice w: as many as the arity.
   unfoldable pub args_ok : Words → ℕ → ℕ → ℕ → Bool
@@ -103,26 +103,26 @@ module _ (s : Words) where
   unfoldable pub generics_ok : ℕ → Bool
   generics_ok p = holds (
       leb (at s (p + generics_type_params)) limit_type_params
-      ∷ table_ok s (at s (p + generics_type_params)) (at s (p + generics_table))
+      ∷ table_ok s (at s (p + generics_type_params)) (at s (p + generics_table_word))
       ∷ leb (length (chain s (at s (p + generics_impl_params)))) limit_impl_params
-      ∷ all (λ i. args_ok s (at s (p + generics_table)) (at s (i + impl_param_trait)) (at s (i + impl_param_args))) (chain s (at s (p + generics_impl_params)))
+      ∷ all (λ i. args_ok s (at s (p + generics_table_word)) (at s (i + impl_param_trait)) (at s (i + impl_param_args))) (chain s (at s (p + generics_impl_params)))
       ∷ [])
 
   -- trait: definition, arity, inherent count at most arity
   unfoldable pub trait_ok : ℕ → Bool
   trait_ok p = holds (
       is_id header_definitions (at s (p + trait_definition))
-      ∷ leb (at s (p + trait_arity)) limit_arity
-      ∷ leb (at s (p + trait_inherent)) (at s (p + trait_arity))
+      ∷ leb (at s (p + trait_arity_word)) limit_arity
+      ∷ leb (at s (p + trait_inherent)) (at s (p + trait_arity_word))
       ∷ [])
 
   -- impl: generics, flags, table, trait? and arguments
   unfoldable pub impl_ok : ℕ → Bool
   impl_ok p = holds (
-      is_id header_generics (at s (p + impl_generics))
+      is_id header_generics (at s (p + impl_generics_word))
       ∷ leb (at s (p + impl_flags)) flag_all
-      ∷ table_ok s (type_params s (at s (p + impl_generics))) (at s (p + impl_table))
-      ∷ args_ok s (at s (p + impl_table)) (at s (p + impl_trait)) (at s (p + impl_args))
+      ∷ table_ok s (type_params s (at s (p + impl_generics_word))) (at s (p + impl_table_word))
+      ∷ args_ok s (at s (p + impl_table_word)) (at s (p + impl_trait_word)) (at s (p + impl_args_word))
       ∷ [])
 
   -- opaque, enum: definition

@@ -8,8 +8,8 @@ use borrow.Author.Tests.{lt-ltb, le-ltb, eq-eqb}
 use borrow.Rule.Slice.PartMut.{put_mid}
 use Rattle.rules.specs.Lists.{Words}
 use Rattle.rules.specs.Limits.{limit_nodes}
-use Rattle.rules.specs.Layout.{header_generics, header_impls, generics_impl_params, impl_generics}
-use Rattle.rules.specs.Sheet.{at, many, field, impl_generics_lem}
+use Rattle.rules.specs.Layout.{header_generics, header_impls, generics_impl_params, impl_generics_word}
+use Rattle.rules.specs.Sheet.{at, many, field, impl_generics}
 use Rattle.rules.specs.Types.{Types, UnifyResult, success, failure, indeterminate, ImplType}
 use Rattle.rules.specs.Run.{Run, done, stop, ◌>>=◌}
 use Rattle.rules.specs.Transfer.{import_impl_types, transfer_impl_types}
@@ -140,18 +140,18 @@ none_needed ts us = record { zero-many = refl; counts = each }
     each (suc (suc (suc (suc k)))) = omega arith
 
 -- The generics of a candidate without impl parameters ask for nothing: the table stays as it is.
-pub seeks_none : (s : Words) (i b g h : ℕ) (ds : Words) (r : Queries) → g ≡ field s header_impls i impl_generics → h ≡ field s header_generics g generics_impl_params → h ≡ 0 → Packed ds → NoneNeeded r → Seeks s i b ds r ds
-unfolding import_impl_types transfer_impl_types impl_generics_lem
+pub seeks_none : (s : Words) (i b g h : ℕ) (ds : Words) (r : Queries) → g ≡ field s header_impls i impl_generics_word → h ≡ field s header_generics g generics_impl_params → h ≡ 0 → Packed ds → NoneNeeded r → Seeks s i b ds r ds
+unfolding import_impl_types transfer_impl_types impl_generics
 seeks_none s i b g h ds r eg eh z p n = record { at = λ ts q e d. one ts q d }
   where
-    none : (impl_params s (impl_generics_lem s i)).1 ≡ []
+    none : (impl_params s (impl_generics s i)).1 ≡ []
     none = ap (λ (k : ℕ). (impl_params s k).1) (sym eg) ∙ params_none s g h eh (eq-eqb h 0 z)
 
     empty : queries_of r ≡ []
     empty = queries_none r 0 (omega (arith, n.zero-many))
 
     whole : (ts : Types) (q : ImplType) → types_of ds ≡ (met s ts q i).1 → needs s ts q i ≡ (queries_of r, types_of ds)
-    whole ts q d = ap (λ (l : List ImplType). import_impl_types (impl_params s (impl_generics_lem s i)).0 (some (fresh_params ts (fresh_count s i))) l (met s ts q i).1) none ∙ λ t. (sym empty t, sym d t)
+    whole ts q d = ap (λ (l : List ImplType). import_impl_types (impl_params s (impl_generics s i)).0 (some (fresh_params ts (fresh_count s i))) l (met s ts q i).1) none ∙ λ t. (sym empty t, sym d t)
 
     one : (ts : Types) (q : ImplType) → types_of ds ≡ (met s ts q i).1 → Sought (needs s ts q i) r ds
     one ts q d = record {

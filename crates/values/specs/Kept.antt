@@ -2,7 +2,7 @@
 use Rattle.std.specs.Prelude.{ℕ, ◌+◌, ◌<◌, ◌≡◌, refl, Bool, true, false, ◌&&◌, [], ◌∷◌, ◌⊎◌, T, length}
 use Rattle.std.proofs.Common.{inl, inr, arith}
 use Rattle.rules.specs.Lists.{Words, holds}
-use Rattle.rules.specs.Layout.{header_definitions, header_generics, header_impls, header_length, definition_bindings, definition_named, definition_implicit, definition_length, generics_table, generics_impl_params, generics_length, impl_table, impl_args, impl_length, impl_param_args, impl_param_length, binding_length, member_length, node_children, node_length, cell_length, question_table, question_args, question_length}
+use Rattle.rules.specs.Layout.{header_definitions, header_generics, header_impls, header_length, definition_bindings, definition_named, definition_implicit, definition_length, generics_table_word, generics_impl_params, generics_length, impl_table_word, impl_args_word, impl_length, impl_param_args, impl_param_length, binding_length, member_length, node_children, node_length, cell_length, question_table, question_args, question_length}
 use Rattle.rules.specs.Sheet.{at, chain, records}
 use Rattle.rules.specs.Chains.{zero_or_from, chain_keeps, head_keeps, no_heads, cells_keep, nodes_keep, plain_keep, definitions_keep, impl_params_keep, generics_keep, impls_keep, sheet_keeps, impl_question_keeps, flex_question_keeps}
 use Rattle.rules.specs.ChainLaws.{chain_rule, keeps_heads}
@@ -62,13 +62,13 @@ pub record Definition (s : Words) (p : ℕ) : Type 0 where
 
 -- Of generics.
 pub record Generics (s : Words) (p : ℕ) : Type 0 where
-  pub table : Rows s (at s (p + generics_table)) node_children
+  pub table : Rows s (at s (p + generics_table_word)) node_children
   pub params : Rows s (at s (p + generics_impl_params)) impl_param_args
 
 -- Of an impl.
 pub record Impl (s : Words) (p : ℕ) : Type 0 where
-  pub table : Rows s (at s (p + impl_table)) node_children
-  pub args : Forward s (at s (p + impl_args))
+  pub table : Rows s (at s (p + impl_table_word)) node_children
+  pub args : Forward s (at s (p + impl_args_word))
 
 -- What 7 promises of a sheet.
 pub record Kept (s : Words) : Type 0 where
@@ -88,11 +88,11 @@ kept s t = let h = part _ t in record {
         implicit = plain_forward s member_length (p + definition_implicit) (omega arith) (u 2);
       };
   generics = λ p m.
-      let u = both (nodes_keep header_length s (at s (p + generics_table))) (impl_params_keep s (at s (p + generics_impl_params))) (inner_of header_length s generics_length (omega arith) (λ q. nodes_keep header_length s (at s (q + generics_table)) && impl_params_keep s (at s (q + generics_impl_params))) header_generics (h 1) p m) in
-      record { table = nodes_rows header_length s (p + generics_table) u.0; params = params-rows s (p + generics_impl_params) u.1 };
+      let u = both (nodes_keep header_length s (at s (p + generics_table_word))) (impl_params_keep s (at s (p + generics_impl_params))) (inner_of header_length s generics_length (omega arith) (λ q. nodes_keep header_length s (at s (q + generics_table_word)) && impl_params_keep s (at s (q + generics_impl_params))) header_generics (h 1) p m) in
+      record { table = nodes_rows header_length s (p + generics_table_word) u.0; params = params-rows s (p + generics_impl_params) u.1 };
   impls = λ p m.
-      let u = both (nodes_keep header_length s (at s (p + impl_table))) (cells_keep header_length s (at s (p + impl_args))) (inner_of header_length s impl_length (omega arith) (λ q. nodes_keep header_length s (at s (q + impl_table)) && cells_keep header_length s (at s (q + impl_args))) header_impls (h 3) p m) in
-      record { table = nodes_rows header_length s (p + impl_table) u.0; args = cells_forward header_length s (p + impl_args) u.1 };
+      let u = both (nodes_keep header_length s (at s (p + impl_table_word))) (cells_keep header_length s (at s (p + impl_args_word))) (inner_of header_length s impl_length (omega arith) (λ q. nodes_keep header_length s (at s (q + impl_table_word)) && cells_keep header_length s (at s (q + impl_args_word))) header_impls (h 3) p m) in
+      record { table = nodes_rows header_length s (p + impl_table_word) u.0; args = cells_forward header_length s (p + impl_args_word) u.1 };
 }
 
 -- What 11 promises of a question.

@@ -8,8 +8,8 @@ use borrow.Author.Tests.{eq-eqb, ne_eqb, lt-leb, le-leb}
 use Rattle.std.proofs.Math.Dec.{ltb, leb}
 use Rattle.rules.specs.Lists.{Words, holds}
 use Rattle.rules.specs.Limits.{limit_sheet}
-use Rattle.rules.specs.Layout.{header_definitions, header_impls, header_traits, header_imports, header_length, binding_vis, binding_impl, member_vis, member_import, member_id, trait_arity, kind_param, kind_fn, kind_key}
-use Rattle.rules.specs.Sheet.{at, records, many, field, trait_arity_lem}
+use Rattle.rules.specs.Layout.{header_definitions, header_impls, header_traits, header_imports, header_length, binding_vis, binding_impl, member_vis, member_import, member_id, trait_arity_word, kind_param, kind_fn, kind_key}
+use Rattle.rules.specs.Sheet.{at, records, many, field, trait_arity}
 use Rattle.rules.specs.WordLaws.{word_past}
 use Rattle.rules.specs.Values.{is_id, is_optional, is_vis, binding_ok, member_ok, arity}
 use Rattle.chart.specs.Index.{many-within}
@@ -116,10 +116,10 @@ module _ (s ws : Words) (kn : Known s ws) where
   args_none (suc t) n c e l z = absurd (omega arith)
 
   -- There is a trait: its record's place is known.
-  pub args_some : (t n c o p a : ℕ) → c ≡ at ws header_traits → t ≤ c → t ≢ 0 → o ≡ at ws (limit_sheet + (t - 1)) → p ≡ o → a ≡ at s (p + trait_arity) → eqb n a ≡ args_core s t n
-  unfolding args_core is_optional holds arity trait_arity_lem field
+  pub args_some : (t n c o p a : ℕ) → c ≡ at ws header_traits → t ≤ c → t ≢ 0 → o ≡ at ws (limit_sheet + (t - 1)) → p ≡ o → a ≡ at s (p + trait_arity_word) → eqb n a ≡ args_core s t n
+  unfolding args_core is_optional holds arity trait_arity field
   args_some zero n c o p a e l z f' f'' g = absurd (z refl)
   args_some (suc t) n c o p a e l z f' f'' g =
       let f = f'' ∙ f' in
       rw (le-leb (suc t) (many s header_traits) (omega (arith, e ∙ kn.count header_traits (omega arith))))
-      (ap (eqb n) (g ∙ ap (λ x. at s (x + trait_arity)) (f ∙ ap (λ x. at ws (limit_sheet + x)) (let q : suc t - 1 ≡ t = omega arith in q) ∙ kn.trait t (omega (arith, e ∙ kn.count header_traits (omega arith))))) ∙ last _)
+      (ap (eqb n) (g ∙ ap (λ x. at s (x + trait_arity_word)) (f ∙ ap (λ x. at ws (limit_sheet + x)) (let q : suc t - 1 ≡ t = omega arith in q) ∙ kn.trait t (omega (arith, e ∙ kn.count header_traits (omega arith))))) ∙ last _)

@@ -10,7 +10,7 @@ use Rattle.std.proofs.Math.Dec.{ltb, leb}
 use Rattle.std.proofs.Math.ListN.{length}
 use Rattle.rules.specs.Lists.{Words, all, holds, range}
 use Rattle.rules.specs.Limits.{limit_definitions, limit_impls, limit_type_params, limit_impl_params, limit_arity}
-use Rattle.rules.specs.Layout.{header_definitions, header_generics, header_traits, header_impls, header_opaques, header_structs, header_enums, header_unions, header_closures, header_imports, header_prelude, header_fork, header_drop, header_duplicate, header_erase, definition_parent, definition_trait_vis, definition_trait, definition_bindings, definition_named, definition_implicit, import_definition, generics_type_params, generics_table, generics_impl_params, impl_param_trait, impl_param_args, trait_definition, trait_arity, trait_inherent, impl_generics, impl_flags, impl_trait, impl_table, impl_args, flag_all, owner_definition, owner_self_dual, closure_flex, flex_both, node_children, question_table, question_trait, question_args, question_type, question_zero}
+use Rattle.rules.specs.Layout.{header_definitions, header_generics, header_traits, header_impls, header_opaques, header_structs, header_enums, header_unions, header_closures, header_imports, header_prelude, header_fork, header_drop, header_duplicate, header_erase, definition_parent, definition_trait_vis, definition_trait, definition_bindings, definition_named, definition_implicit, import_definition, generics_type_params, generics_table_word, generics_impl_params, impl_param_trait, impl_param_args, trait_definition, trait_arity_word, trait_inherent, impl_generics_word, impl_flags, impl_trait_word, impl_table_word, impl_args_word, flag_all, owner_definition, owner_self_dual, closure_flex, flex_both, node_children, question_table, question_trait, question_args, question_type, question_zero}
 use Rattle.rules.specs.Sheet.{at, chain, chain_of, records, many, field, type_params}
 use Rattle.rules.specs.Members.{In, first, later, same_test}
 use Rattle.rules.specs.Values.{is_id, is_optional, is_vis, arity, binding_ok, member_ok, table_ok, args_ok, definition_ok, definitions_ok, generics_ok, trait_ok, impl_ok, opaque_ok, struct_ok, closure_ok, import_ok, flex_trait_ok, sheet_values, impl_question_values, flex_question_values}
@@ -66,11 +66,11 @@ params-found s ws table h a b n r c f rows ea eb en er =
 -- Generics: their heads, and their record.
 module _ (s : Words) (p : ℕ) (m : Member s header_generics p) where
   -- The table.
-  pub generics_table-rows : (t : ℕ) → t ≡ at s (p + generics_table) → Rows s t node_children
+  pub generics_table-rows : (t : ℕ) → t ≡ at s (p + generics_table_word) → Rows s t node_children
   generics_table-rows t e = subst (λ x. Rows s x node_children) (sym e) (m.kept.generics p m.is).table
 
   -- Its chain.
-  pub generics_table_forward : (t : ℕ) → t ≡ at s (p + generics_table) → Forward s t
+  pub generics_table_forward : (t : ℕ) → t ≡ at s (p + generics_table_word) → Forward s t
   generics_table_forward t e = (generics_table-rows t e).forward
 
   -- The impl parameters.
@@ -78,7 +78,7 @@ module _ (s : Words) (p : ℕ) (m : Member s header_generics p) where
   generics_params_rows i e = subst (λ x. Rows s x impl_param_args) (sym e) (m.kept.generics p m.is).params
 
   -- The record.
-  pub generics_found : (ws : Words) (tp q t i n : ℕ) (x y r : Bool) → Charted s ws → tp ≡ at s (p + generics_type_params) → q ≡ tp → t ≡ at s (p + generics_table) → i ≡ at s (p + generics_impl_params) →
+  pub generics_found : (ws : Words) (tp q t i n : ℕ) (x y r : Bool) → Charted s ws → tp ≡ at s (p + generics_type_params) → q ≡ tp → t ≡ at s (p + generics_table_word) → i ≡ at s (p + generics_impl_params) →
       x ≡ table_ok s s tp t → n ≡ chain_mark ws plane_lengths i → y ≡ params_ok s t i → r ≡ holds (leb q limit_type_params ∷ x ∷ leb n limit_impl_params ∷ y ∷ []) → r ≡ generics_ok s p
   unfolding generics_ok params_ok
   generics_found ws tp q t i n x y r c etp eq et ei ex en ey er =
@@ -87,23 +87,23 @@ module _ (s : Words) (p : ℕ) (m : Member s header_generics p) where
 -- Impls.
 module _ (s : Words) (p : ℕ) (m : Member s header_impls p) where
   -- The table.
-  pub impl_table-rows : (t : ℕ) → t ≡ at s (p + impl_table) → Rows s t node_children
+  pub impl_table-rows : (t : ℕ) → t ≡ at s (p + impl_table_word) → Rows s t node_children
   impl_table-rows t e = subst (λ x. Rows s x node_children) (sym e) (m.kept.impls p m.is).table
 
   -- Its chain.
-  pub impl_table_forward : (t : ℕ) → t ≡ at s (p + impl_table) → Forward s t
+  pub impl_table_forward : (t : ℕ) → t ≡ at s (p + impl_table_word) → Forward s t
   impl_table_forward t e = (impl_table-rows t e).forward
 
   -- The arguments.
-  pub impl_args_forward : (a : ℕ) → a ≡ at s (p + impl_args) → Forward s a
+  pub impl_args_forward : (a : ℕ) → a ≡ at s (p + impl_args_word) → Forward s a
   impl_args_forward a e = subst (Forward s) (sym e) (m.kept.impls p m.is).args
 
 -- An impl's table and arguments, under generics g.
 unfoldable pub impl_types : Words → ℕ → ℕ → Bool
-impl_types s p g = holds (table_ok s s (type_params s g) (at s (p + impl_table)) ∷ args_ok s s (at s (p + impl_table)) (at s (p + impl_trait)) (at s (p + impl_args)) ∷ [])
+impl_types s p g = holds (table_ok s s (type_params s g) (at s (p + impl_table_word)) ∷ args_ok s s (at s (p + impl_table_word)) (at s (p + impl_trait_word)) (at s (p + impl_args_word)) ∷ [])
 
 -- Both together.
-pub impl_types-found : (s : Words) (p g tp h t a : ℕ) (x y r : Bool) → tp ≡ type_params s g → h ≡ at s (p + impl_table) → t ≡ at s (p + impl_trait) → a ≡ at s (p + impl_args) →
+pub impl_types-found : (s : Words) (p g tp h t a : ℕ) (x y r : Bool) → tp ≡ type_params s g → h ≡ at s (p + impl_table_word) → t ≡ at s (p + impl_trait_word) → a ≡ at s (p + impl_args_word) →
     x ≡ table_ok s s tp h → y ≡ args_ok s s h t a → r ≡ holds (x ∷ y ∷ []) → r ≡ impl_types s p g
 unfolding impl_types
 impl_types-found s p g tp h t a x y r etp eh et ea ex ey er = er ∙ λ z. holds ((ex ∙ λ u. table_ok s s (etp u) (eh u)) z ∷ (ey ∙ λ u. args_ok s s (eh u) (et u) (ea u)) z ∷ [])
@@ -115,12 +115,12 @@ two_last true false c d = refl
 two_last true true c d = append [] (c ∷ d ∷ [])
 
 -- The record.
-pub impl_found : (s ws : Words) (p g c f : ℕ) (x r : Bool) → Known s ws → g ≡ at s (p + impl_generics) → c ≡ at ws header_generics → f ≡ at s (p + impl_flags) → x ≡ impl_types s p g → r ≡ holds (ltb g c ∷ leb f flag_all ∷ x ∷ []) → r ≡ impl_ok s p
+pub impl_found : (s ws : Words) (p g c f : ℕ) (x r : Bool) → Known s ws → g ≡ at s (p + impl_generics_word) → c ≡ at ws header_generics → f ≡ at s (p + impl_flags) → x ≡ impl_types s p g → r ≡ holds (ltb g c ∷ leb f flag_all ∷ x ∷ []) → r ≡ impl_ok s p
 unfolding impl_ok is_id impl_types
 impl_found s ws p g c f x r kn eg ec ef ex er =
     er
     ∙ (λ z. holds (ltb (eg z) ((ec ∙ kn.count header_generics (omega arith)) z) ∷ leb (ef z) flag_all ∷ (ex ∙ ap (impl_types s p) eg) z ∷ []))
-    ∙ two_last (ltb (at s (p + impl_generics)) (many s header_generics)) (leb (at s (p + impl_flags)) flag_all) (table_ok s s (type_params s (at s (p + impl_generics))) (at s (p + impl_table))) (args_ok s s (at s (p + impl_table)) (at s (p + impl_trait)) (at s (p + impl_args)))
+    ∙ two_last (ltb (at s (p + impl_generics_word)) (many s header_generics)) (leb (at s (p + impl_flags)) flag_all) (table_ok s s (type_params s (at s (p + impl_generics_word))) (at s (p + impl_table_word))) (args_ok s s (at s (p + impl_table_word)) (at s (p + impl_trait_word)) (at s (p + impl_args_word)))
 
 -- The count of type parameters of generics, as it is read.
 pub params_word : (s : Words) (g head p r : ℕ) → head ≡ at s header_generics → p ≡ at (chain s head) g → r ≡ at s (p + generics_type_params) → r ≡ type_params s g
@@ -157,7 +157,7 @@ definition_found s ws d p pa v c t e x r ch epa ev ec et ee ex er =
 -- Records with no heads in them.
 module _ (s ws : Words) (kn : Known s ws) (p : ℕ) where
   -- A trait.
-  pub trait_found : (d c a i : ℕ) (r : Bool) → d ≡ at s (p + trait_definition) → c ≡ at ws header_definitions → a ≡ at s (p + trait_arity) → i ≡ at s (p + trait_inherent) → r ≡ holds (ltb d c ∷ leb a limit_arity ∷ leb i a ∷ []) → r ≡ trait_ok s p
+  pub trait_found : (d c a i : ℕ) (r : Bool) → d ≡ at s (p + trait_definition) → c ≡ at ws header_definitions → a ≡ at s (p + trait_arity_word) → i ≡ at s (p + trait_inherent) → r ≡ holds (ltb d c ∷ leb a limit_arity ∷ leb i a ∷ []) → r ≡ trait_ok s p
   unfolding trait_ok is_id
   trait_found d c a i r ed ec ea ei er = er ∙ λ z. holds (ltb (ed z) ((ec ∙ kn.count header_definitions (omega arith)) z) ∷ leb (ea z) limit_arity ∷ leb (ei z) (ea z) ∷ [])
 
