@@ -13,12 +13,13 @@ use Rattle.rules.specs.Layout.{header_definitions, header_impls}
 use Rattle.rules.specs.Sheet.{many, trait_def, inherent_params}
 use Rattle.rules.specs.Types.{Ty, Types, ImplType}
 use Rattle.rules.specs.Transfer.{type_of_word}
-use Rattle.rules.specs.CheckLaws.{Checked, passed}
+use Rattle.rules.specs.CheckLaws.{Checked}
+use Rattle.rules.proofs.CheckLaws.{passed}
 use Rattle.rules.specs.CheckedSheet.{valid}
 use Rattle.rules.specs.Members.{In, in_empty, select_in, rising_unique}
 use Rattle.rules.specs.Candidates.{within_def, within_ancestors, node_count, get_candidates}
 use Rattle.rules.specs.Admission.{Admits, SomeAdmits}
-use Rattle.rules.specs.AdmissionLaws.{candidates, candidates_rise}
+use Rattle.rules.proofs.AdmissionLaws.{candidates, candidates_rise}
 use Rattle.rules.specs.Run.{Run, done, stop, asks, ◌>>=◌}
 use Rattle.rules.specs.Search.{Finder, inherent_mods, find_impl_candidates}
 use Rattle.candidates.specs.Index.{Indexes}

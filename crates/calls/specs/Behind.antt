@@ -10,7 +10,8 @@ use Rattle.rules.specs.RunLaws.{Between}
 use Rattle.rules.specs.Check.{Checks, refusal, of_sheet, of_ids, of_impl_question, of_flex_question, impl_checks, flex_checks}
 use Rattle.rules.specs.CheckLaws.{Checked}
 use Rattle.rules.specs.CheckNumbers.{impl_check_numbers, flex_check_numbers}
-use Rattle.rules.specs.CheckedTables.{Ready, impl_ready, flex_ready}
+use Rattle.rules.specs.CheckedTables.{Ready}
+use Rattle.rules.proofs.CheckedTables.{impl_ready, flex_ready}
 use Rattle.rules.specs.Calls.{impl_within, answer_after}
 use Rattle.words.specs.Buffers.{cleared}
 use Rattle.checks.specs.Numbers.{number, finder}

@@ -6,7 +6,8 @@ use Rattle.rules.specs.Lists.{Words}
 use Rattle.rules.specs.Limits.{limit_steps}
 use Rattle.rules.specs.Run.{Out, got, refused}
 use Rattle.rules.specs.Calls.{free_find_impl, free_find_flex, try_find_impl, find_flex, answer_after, work_after}
-use Rattle.rules.specs.Limit.{asked_find_impl, asked_find_flex, Enters, Demand3_one, one-try_find_impl, one-find_flex}
+use Rattle.rules.specs.Limit.{asked_find_impl, asked_find_flex, Enters, Demand3_one}
+use Rattle.rules.proofs.Limit.{one-try_find_impl, one-find_flex}
 use Rattle.checks.specs.Numbers.{finder}
 use Rattle.calls.specs.declared.Outcome.{Outcome}
 use Rattle.calls.specs.declared.Outcome.TheVariants.{Answered, Refused}

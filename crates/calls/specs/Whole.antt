@@ -16,7 +16,7 @@ use Rattle.rules.specs.Check.{Checks, refusal, of_length, entry, impl_checks, fl
 use Rattle.rules.specs.CheckLaws.{unrefused}
 use Rattle.rules.specs.CheckNumbers.{refusal_front, refusal-after, entry_numbers}
 use Rattle.rules.specs.Calls.{impl_within, flex_within, try_find_impl, find_flex, answer_after, work_after}
-use Rattle.rules.specs.Refusals.{impl_ends, flex_ends}
+use Rattle.rules.proofs.Refusals.{impl_ends, flex_ends}
 use Rattle.words.specs.Buffers.{cleared, cleared_front}
 use Rattle.checks.specs.Numbers.{number, finder}
 use Rattle.closing.specs.declared.Ended.{Ended}

@@ -8,12 +8,13 @@ use Rattle.rules.specs.Layout.{header_definitions, header_impls, binding_vis, bi
 use Rattle.rules.specs.Sheet.{at, many, bindings, impl_flag, impl_trait}
 use Rattle.rules.specs.Reach.{reach}
 use Rattle.rules.specs.Members.{In, first, later, in_cases, in_empty, any_in, and_iff, not_iff, is_in_in, same_test}
-use Rattle.rules.specs.CheckLaws.{Checked, passed}
+use Rattle.rules.specs.CheckLaws.{Checked}
+use Rattle.rules.proofs.CheckLaws.{passed}
 use Rattle.rules.specs.CheckedSheet.{valid, graph-length}
 use Rattle.rules.specs.Candidates.{Edge, edges, node_count, graph, linked, same_component, ancestors, visible, may_enter, admitted}
 use Rattle.rules.specs.Admission.{EdgeFrom, Reaches, arrived, along, Together, LetsIn, OpenPath, stays, onward, binding_node, Binds, Admits}
-use Rattle.rules.specs.Components.{reaches_on, edge_to, reaches_node, reach_paths, components}
-use Rattle.rules.specs.AdmissionLaws.{visible_iff, open_node, admission}
+use Rattle.rules.proofs.Components.{reaches_on, edge_to, reaches_node, reach_paths, components}
+use Rattle.rules.proofs.AdmissionLaws.{visible_iff, open_node, admission}
 use Rattle.words.specs.Buffers.{cleared}
 use Rattle.candidates.specs.Layout.{rows_links, rows_open, rows_reach, rows_sets, rows_end, index_definitions, candidates_length}
 use Rattle.candidates.specs.Bits.{bit, on}

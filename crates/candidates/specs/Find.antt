@@ -8,11 +8,12 @@ use Rattle.rules.specs.Layout.{header_definitions, header_impls, flag_basic}
 use Rattle.rules.specs.Limits.{limit_impls}
 use Rattle.rules.specs.Sheet.{at, many, field, impl_flag, impl_trait}
 use Rattle.rules.specs.Members.{In, first, later, in_cases, in_empty, any_in, and_iff, is_in_in, same_test, select_in, select_rising, Rising, rising_unique}
-use Rattle.rules.specs.CheckLaws.{Checked, passed}
+use Rattle.rules.specs.CheckLaws.{Checked}
+use Rattle.rules.proofs.CheckLaws.{passed}
 use Rattle.rules.specs.CheckedSheet.{valid}
 use Rattle.rules.specs.Candidates.{node_count, admitted, get_candidates}
 use Rattle.rules.specs.Admission.{Admits, SomeAdmits}
-use Rattle.rules.specs.AdmissionLaws.{admits_in, admission, candidates, admitted_rises, candidates_rise}
+use Rattle.rules.proofs.AdmissionLaws.{admits_in, admission, candidates, admitted_rises, candidates_rise}
 use Rattle.candidates.specs.Layout.{rows_sets, index_impls}
 use Rattle.candidates.specs.Bits.{on}
 use Rattle.candidates.specs.Index.{Indexes}

@@ -15,7 +15,7 @@ use Rattle.rules.specs.Lists.{Words, any, concat_map, optional, optional_list}
 use Rattle.rules.specs.Layout.{header_definitions, header_prelude, header_impls, flag_named, impl_flags, impl_trait_word, member_vis, member_import, member_id, binding_vis, binding_impl}
 use Rattle.rules.specs.Sheet.{at, chain, chain_of, field, parent, trait_vis, def_trait, bindings, named_members, implicit_members, trait_def, import_def, impl_flag, impl_trait}
 use Rattle.rules.specs.Candidates.{Edge, direct, within_def, within_ancestors, get_member, member_edges, binding_edges, for_each_child, edges}
-use Rattle.rules.specs.Components.{edges-direct, edges-within, edges-ancestors}
+use Rattle.rules.proofs.Components.{edges-direct, edges-within, edges-ancestors}
 use Rattle.candidates.specs.Layout.{rows_links, rows_open, rows_reach, rows_end, candidates_length}
 use Rattle.candidates.specs.Bits.{bit, on, bit-bit_or, bit_power, with_bit}
 use Rattle.candidates.specs.Index.{Indexes, indexes_keep}

@@ -13,11 +13,12 @@ use Rattle.rules.specs.Layout.{header_definitions, definition_parent}
 use Rattle.rules.specs.Limits.{limit_definitions}
 use Rattle.rules.specs.Sheet.{at, many, field, parent}
 use Rattle.rules.specs.Members.{is_in_in, same_test}
-use Rattle.rules.specs.CheckLaws.{Checked, passed}
+use Rattle.rules.specs.CheckLaws.{Checked}
+use Rattle.rules.proofs.CheckLaws.{passed}
 use Rattle.rules.specs.CheckedSheet.{Valid, valid}
 use Rattle.rules.specs.Candidates.{ancestors, ancestors_of, visible}
 use Rattle.rules.specs.Admission.{Ancestor, itself, of_parent}
-use Rattle.rules.specs.AncestorLaws.{ancestors_in, parent_below}
+use Rattle.rules.proofs.AncestorLaws.{ancestors_in, parent_below}
 use Rattle.words.specs.Buffers.{cleared}
 use Rattle.candidates.specs.Layout.{index_definitions}
 use Rattle.candidates.specs.Index.{Indexes, indexes_keep}

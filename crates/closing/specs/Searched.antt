@@ -10,16 +10,20 @@ use Rattle.rules.specs.Types.{Ty, Types, ImplType, invert_if}
 use Rattle.rules.specs.Robinson.{flip_in}
 use Rattle.rules.specs.Transfer.{type_of_word, export_types, export_impl_type}
 use Rattle.rules.specs.Run.{Out, got, refused, within}
-use Rattle.rules.specs.RunLaws.{Refuses, within_stops}
-use Rattle.rules.specs.Stops.{In_search, question_stops}
+use Rattle.rules.specs.RunLaws.{Refuses}
+use Rattle.rules.proofs.RunLaws.{within_stops}
+use Rattle.rules.specs.Stops.{In_search}
+use Rattle.rules.proofs.Stops.{question_stops}
 use Rattle.rules.specs.Search.{Finder, Result, question}
 use Rattle.rules.specs.Check.{refusal, impl_checks, flex_checks}
-use Rattle.rules.specs.CheckedTables.{flex_ready}
+use Rattle.rules.proofs.CheckedTables.{flex_ready}
 use Rattle.rules.specs.Calls.{question_types, impl_query, impl_search}
-use Rattle.rules.specs.Yields.{Comes, yields_within}
+use Rattle.rules.specs.Yields.{Comes}
+use Rattle.rules.proofs.Yields.{yields_within}
 use Rattle.rules.specs.Neat.{Neat, Brought, types_exported}
-use Rattle.rules.specs.SearchKeeps.{Kept, AllKept, question_keeps}
-use Rattle.rules.specs.CallKeeps.{impl_search_keeps}
+use Rattle.rules.specs.SearchKeeps.{Kept, AllKept}
+use Rattle.rules.proofs.SearchKeeps.{question_keeps}
+use Rattle.rules.proofs.CallKeeps.{impl_search_keeps}
 use Rattle.table.specs.Packing.{types_of}
 use Rattle.slots.specs.Slots.{Slot}
 use Rattle.slots.specs.Copies.{Filled}

@@ -11,12 +11,15 @@ use Rattle.rules.specs.Run.{Run, done, stop, ◌>>=◌, Out, got, refused, withi
 use Rattle.rules.specs.Search.{end, Result, collect, find_impl_candidates, find_subimpls, try_candidate, before_candidates, question}
 use Rattle.rules.specs.Search as rules
 use Rattle.rules.specs.Solutions.{AllIn}
-use Rattle.rules.specs.CheckLaws.{Checked, passed}
+use Rattle.rules.specs.CheckLaws.{Checked}
+use Rattle.rules.proofs.CheckLaws.{passed}
 use Rattle.rules.specs.CheckedSheet.{valid}
-use Rattle.rules.specs.Yields.{Every, every_weaken, Yields, yields_within, came}
+use Rattle.rules.specs.Yields.{Every, every_weaken, Yields, came}
+use Rattle.rules.proofs.Yields.{yields_within}
 use Rattle.rules.specs.Neat.{Neat, QueriesIn, in_more}
-use Rattle.rules.specs.SearchKeeps.{Kept, AllKept, question_keeps}
-use Rattle.rules.specs.ResultLimits.{question_few}
+use Rattle.rules.specs.SearchKeeps.{Kept, AllKept}
+use Rattle.rules.proofs.SearchKeeps.{question_keeps}
+use Rattle.rules.proofs.ResultLimits.{question_few}
 use Rattle.table.specs.Packing.{types_of, Packed}
 use Rattle.trees.specs.Forests.{Single}
 use Rattle.slots.specs.declared.Asked.{Asked}

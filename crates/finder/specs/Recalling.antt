@@ -7,7 +7,7 @@ use Rattle.rules.specs.Lists.{Words}
 use Rattle.rules.specs.Sheet.{at}
 use Rattle.rules.specs.Types.{Types, ImplType}
 use Rattle.rules.specs.Run.{Run, Out, got, free, asked, within}
-use Rattle.rules.specs.RunLaws.{run_alike}
+use Rattle.rules.proofs.RunLaws.{run_alike}
 use Rattle.rules.specs.Search.{Result, find_subimpls}
 use Rattle.words.specs.Buffers.{copied, copied-length}
 use Rattle.table.specs.Packing.{up_to, types_of, Packed, Becomes}

@@ -7,7 +7,8 @@ use Rattle.rules.specs.Sheet.{at}
 use Rattle.rules.specs.Types.{Types, ImplType}
 use Rattle.rules.specs.Run.{Run, done, stop, asks, ◌>>=◌, Out, got, refused, within}
 use Rattle.rules.specs.Search.{Trees, end, tree, tree_size, before, Result, add_results, collect, find_subimpls}
-use Rattle.rules.specs.Yields.{Every, Yields, yields_both, bind_same, yields_within, came}
+use Rattle.rules.specs.Yields.{Every, Yields, yields_both, bind_same, came}
+use Rattle.rules.proofs.Yields.{yields_within}
 use Rattle.rules.specs.ResultLimits.{Small, Few}
 use Rattle.trees.specs.Forests.{Single}
 use Rattle.slots.specs.declared.Asked.{Asked}

@@ -7,7 +7,8 @@ use native.Mathlib.Omega.{arith}
 use Rattle.rules.specs.Lists.{Words}
 use Rattle.rules.specs.Sheet.{at}
 use Rattle.rules.specs.Run.{Out, got, refused, within}
-use Rattle.rules.specs.RunLaws.{got_not_refused, rises_to}
+use Rattle.rules.specs.RunLaws.{got_not_refused}
+use Rattle.rules.proofs.RunLaws.{rises_to}
 use Rattle.rules.specs.Search.{Result}
 use Rattle.rules.specs.Search as rules
 use Rattle.rules.specs.SearchKeeps.{AllKept}

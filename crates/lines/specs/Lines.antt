@@ -7,7 +7,8 @@ use Rattle.rules.specs.Layout.{header_definitions, header_impls}
 use Rattle.rules.specs.Limits.{limit_definitions, limit_impls}
 use Rattle.rules.specs.Sheet.{at, many}
 use Rattle.rules.specs.Members.{In, in_cases, in_empty}
-use Rattle.rules.specs.CheckLaws.{Checked, passed}
+use Rattle.rules.specs.CheckLaws.{Checked}
+use Rattle.rules.proofs.CheckLaws.{passed}
 use Rattle.rules.specs.CheckedSheet.{valid}
 use Rattle.rules.specs.Candidates.{node_count, admitted, general_candidates}
 use Rattle.rules.specs.Listing.{decimal, line_text}

@@ -16,7 +16,8 @@ use Rattle.rules.specs.Chains.{cells_keep, nodes_keep, impl_question_keeps, flex
 use Rattle.rules.specs.Values.{in_table, args_ok, impl_question_values, flex_question_values}
 use Rattle.rules.specs.Check.{refusal, of_sheet, of_ids, of_impl_question, of_flex_question, impl_checks, flex_checks}
 use Rattle.rules.specs.CheckLaws.{both, part, unrefused, not_not}
-use Rattle.rules.specs.CheckedTables.{table_length_lem, impl_ready, flex_ready}
+use Rattle.rules.specs.CheckedTables.{table_length_lem}
+use Rattle.rules.proofs.CheckedTables.{impl_ready, flex_ready}
 use Rattle.rules.specs.Neat.{in_checked, question_neat}
 use Rattle.rules.specs.Calls.{question_types, impl_query}
 use Rattle.queries.specs.declared.Query.{Query}

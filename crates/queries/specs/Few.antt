@@ -17,7 +17,8 @@ use Rattle.rules.specs.Values.{is_optional, arity, args_ok, generics_ok, impl_ok
 use Rattle.rules.specs.Check.{refusal, of_sheet, of_ids, of_impl_question, impl_checks}
 use Rattle.rules.specs.CheckLaws.{part, unrefused, not_not}
 use Rattle.rules.specs.CheckedSheet.{Valid}
-use Rattle.rules.specs.CheckedTables.{Ready, impl_ready}
+use Rattle.rules.specs.CheckedTables.{Ready}
+use Rattle.rules.proofs.CheckedTables.{impl_ready}
 use Rattle.rules.specs.Members.{all_get}
 use Rattle.rules.specs.Calls.{impl_query}
 

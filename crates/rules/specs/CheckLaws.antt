@@ -48,13 +48,3 @@ pub record Passed (s : Words) : Type 0 where
   pub chains : T (sheet_keeps s)
   pub values : T (sheet_values s)
   pub types : T (sheet_acyclic s)
-
--- A checked sheet promises that.
-pub passed : (s : Words) → Checked s → Passed s
-unfolding of_sheet
-passed s e = let h = unrefused (of_sheet s) e in record {
-  edition = not_not (eqb (at s header_edition) edition_1) (h 0);
-  chains = not_not (sheet_keeps s) (h 1);
-  values = not_not (sheet_values s) (h 2);
-  types = not_not (sheet_acyclic s) (h 3);
-}

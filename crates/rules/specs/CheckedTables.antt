@@ -1,11 +1,10 @@
 -- The tables of a call that no check refused are well formed and acyclic, as Robinson's theorem wants them: the question's, and those of the sheet's generics and impls.
-use Rattle.std.specs.Prelude.{ℕ, zero, suc, ◌+◌, ◌≤◌, ◌<◌, ◌≡◌, Bool, List, [], ◌∷◌, map, ◌↔◌, ltb, leb, length, get_or}
+use Rattle.std.specs.Prelude.{ℕ, zero, suc, ◌+◌, ◌≤◌, ◌<◌, ◌≡◌, Bool, List, [], ◌∷◌, map, ◌↔◌, ltb, length, get_or}
 use Rattle.std.proofs.Math.Path.{refl, ap, subst}
 use Rattle.std.proofs.Common.{sym, ◌∙◌, le_of_suc-le-suc, not-suc-le-zero, zero-add, add-zero, add-suc, suc-add, ltb→lt}
 use Rattle.std.proofs.Math.Bool.{true, false}
-use Rattle.std.proofs.Math.Option.{none}
 use Rattle.std.proofs.Math.Dec.{T, eqb}
-use Rattle.rules.specs.Lists.{Words, all, holds}
+use Rattle.rules.specs.Lists.{Words, all}
 use Rattle.rules.specs.Limits.{limit_sheet}
 use Rattle.rules.specs.Layout.{header_edition, header_definitions, header_generics, header_impls, edition_1, generics_type_params, generics_table_word, impl_generics_word, impl_table_word, node_kind, node_children, question_table, kind_unknown}
 use Rattle.rules.specs.Sheet.{at, chain, records, field, type_params, generics_table, impl_table, many}
@@ -14,14 +13,13 @@ use Rattle.rules.specs.Transfer.{cell_types, node_state, new_nodes, table}
 use Rattle.rules.specs.Solutions.{rep, AllIn, ChildrenIn, WellFormed, Readable}
 use Rattle.rules.specs.Search.{Finder}
 use Rattle.rules.specs.Chains.{sheet_keeps}
-use Rattle.rules.specs.Values.{is_id, in_table, node_fits, node_ok, table_ok, generics_ok, impl_ok, sheet_values, impl_question_values, flex_question_values}
+use Rattle.rules.specs.Values.{in_table, node_fits, node_ok, table_ok, generics_ok, impl_ok}
 use Rattle.rules.specs.Acyclic.{acyclic, sheet_acyclic, question_acyclic}
-use Rattle.rules.specs.Check.{refusal, of_sheet, of_ids, of_impl_question, of_flex_question, impl_checks, flex_checks}
 use Rattle.rules.specs.AcyclicLaws.{Down, all_at, map-length}
 use Rattle.rules.specs.NoCycles.{acyclic_iff}
 use Rattle.rules.specs.Readings.{Acyclic, readable_ranked, flat_inside, flat_readable}
-use Rattle.rules.specs.CheckLaws.{part, both, unrefused, not_not}
-use Rattle.rules.specs.CheckedSheet.{Valid, valid}
+use Rattle.rules.specs.CheckLaws.{part, both}
+use Rattle.rules.specs.CheckedSheet.{Valid}
 
 pub new_nodes-length : (i : ℕ) (sts : List TypeState) → length (new_nodes i sts) ≡ length sts
 unfolding new_nodes
@@ -101,40 +99,6 @@ pub record Ready (a : Finder) (q : Words) : Type 0 where
   pub typed : T (table_ok a.sheet q (type_params a.sheet a.generics) (at q question_table))
   pub asked : T (acyclic (table q (at q question_table)))
 
-pub impl_ready : (a : Finder) (basic : ℕ) (q : Words) → length a.sheet ≤ limit_sheet → refusal (impl_checks a basic q) ≡ none → Ready a q
-unfolding impl_checks of_sheet of_ids of_impl_question impl_question_values question_acyclic is_id
-impl_ready a basic q few e =
-    let h = unrefused (impl_checks a basic q) e in
-    let i = part _ (not_not (holds (is_id a.sheet header_definitions a.source ∷ is_id a.sheet header_generics a.generics ∷ leb basic 1 ∷ [])) (h 4)) in
-    record {
-      short = few;
-      edition = not_not (eqb (at a.sheet header_edition) edition_1) (h 0);
-      chains = not_not (sheet_keeps a.sheet) (h 1);
-      values = valid a.sheet (not_not (sheet_values a.sheet) (h 2));
-      end = not_not (sheet_acyclic a.sheet) (h 3);
-      source = ltb→lt a.source (many a.sheet header_definitions) (i 0);
-      generics = ltb→lt a.generics (many a.sheet header_generics) (i 1);
-      typed = part _ (not_not (impl_question_values a.sheet a.generics q) (h 6)) 0;
-      asked = not_not (question_acyclic q) (h 7);
-    }
-
-pub flex_ready : (a : Finder) (q : Words) → length a.sheet ≤ limit_sheet → refusal (flex_checks a q) ≡ none → Ready a q
-unfolding flex_checks of_sheet of_ids of_flex_question flex_question_values question_acyclic is_id
-flex_ready a q few e =
-    let h = unrefused (flex_checks a q) e in
-    let i = part _ (not_not (holds (is_id a.sheet header_definitions a.source ∷ is_id a.sheet header_generics a.generics ∷ leb 0 1 ∷ [])) (h 4)) in
-    record {
-      short = few;
-      edition = not_not (eqb (at a.sheet header_edition) edition_1) (h 0);
-      chains = not_not (sheet_keeps a.sheet) (h 1);
-      values = valid a.sheet (not_not (sheet_values a.sheet) (h 2));
-      end = not_not (sheet_acyclic a.sheet) (h 3);
-      source = ltb→lt a.source (many a.sheet header_definitions) (i 0);
-      generics = ltb→lt a.generics (many a.sheet header_generics) (i 1);
-      typed = part _ (not_not (flex_question_values a.sheet a.generics q) (h 6)) 0;
-      asked = not_not (question_acyclic q) (h 7);
-    }
-
 -- Its tables: the question's, and those of each generics and each impl.
 module _ (a : Finder) (q : Words) (r : Ready a q) where
   pub question-formed : WellFormed (table q (at q question_table))
@@ -175,7 +139,7 @@ pub record CheckedTables (a : Finder) (q : Words) : Type 0 where
   pub impl_formed : (i : ℕ) → i < many a.sheet header_impls → WellFormed (table a.sheet (impl_table a.sheet i))
   pub impl_acyclic : (i : ℕ) → i < many a.sheet header_impls → Acyclic (table a.sheet (impl_table a.sheet i))
 
-checked_tables : (a : Finder) (q : Words) → Ready a q → CheckedTables a q
+pub checked_tables : (a : Finder) (q : Words) → Ready a q → CheckedTables a q
 unfolding generics_table impl_table
 checked_tables a q r = record {
   question-formed = question-formed a q r;
@@ -185,10 +149,3 @@ checked_tables a q r = record {
   impl_formed = impl_formed a q r;
   impl_acyclic = λ i h. readable_ranked _ (impl_formed a q r i h) (impl_free a q r i h);
 }
-
--- An impl call that no check refuses, and a flex call: all their tables are well formed and acyclic to start with.
-pub impl_tables : (a : Finder) (basic : ℕ) (q : Words) → length a.sheet ≤ limit_sheet → refusal (impl_checks a basic q) ≡ none → CheckedTables a q
-impl_tables a basic q few e = checked_tables a q (impl_ready a basic q few e)
-
-pub flex_tables : (a : Finder) (q : Words) → length a.sheet ≤ limit_sheet → refusal (flex_checks a q) ≡ none → CheckedTables a q
-flex_tables a q few e = checked_tables a q (flex_ready a q few e)

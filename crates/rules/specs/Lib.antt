@@ -38,9 +38,6 @@ pub mod SheetFuel
 -- Components against Tarjan (1972), and what a set admits.
 pub mod ReachLaws
 pub mod Admission
-pub mod Components
-pub mod AncestorLaws
-pub mod AdmissionLaws
 -- The type table: Robinson (1965), acyclicity, fuel.
 pub mod Solutions
 pub mod Joining
@@ -80,9 +77,7 @@ pub mod SignedTerms
 pub mod SignedJoins
 pub mod SignedImports
 pub mod Loose
-pub mod CallKeeps
 pub mod ResultLimits
-pub mod AnswerSize
 -- Laws in the form in which code asks for them.
 pub mod WordLaws
 pub mod ListingLaws

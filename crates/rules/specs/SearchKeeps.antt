@@ -5,23 +5,23 @@ use Rattle.std.proofs.Math.Path.{refl}
 use Rattle.std.proofs.Math.Bool.{true, false}
 use mathlib.Core.List.{List, [], ◌∷◌, ◌++◌, map}
 use Rattle.std.proofs.Math.Option.{Option, none, some}
-use Rattle.std.proofs.Math.Nat.{le_refl, le_trans}
+use Rattle.std.proofs.Math.Nat.{le_refl}
 use Rattle.std.proofs.Common.{arith}
 use Rattle.std.proofs.Math.Dec.{ltb}
 use Rattle.rules.specs.Lists.{Words, range, optional}
 use Rattle.rules.specs.Limits.{limit_nodes, limit_results, limit_tree_nodes}
-use Rattle.rules.specs.Layout.{header_impls, tree_param, tree_def}
+use Rattle.rules.specs.Layout.{header_impls, tree_param}
 use Rattle.rules.specs.Sheet.{many, type_params, trait_def, inherent_params, impl_generics}
 use Rattle.rules.specs.Types.{Types, UnifyResult, success, failure, indeterminate, Unified, ImplType, unify_impl_type, approx_eq}
 use Rattle.rules.specs.Transfer.{import_impl_type, import_impl_types}
 use Rattle.rules.specs.Candidates.{within_def, within_ancestors, admitted, get_candidates}
 use Rattle.rules.specs.Run.{Run, ◌>>=◌}
-use Rattle.rules.specs.Search.{Finder, Trees, end, tree, tree_size, leaf, Result, add_results, collect, check_nodes, impl_signature, impl_params, find_auto_impls, from_impl_params, inherent_mods, find_impl_candidates, before, find_subimpls, fresh_params, with_fresh, try_candidate, before_candidates, question}
+use Rattle.rules.specs.Search.{Finder, Trees, tree_size, leaf, Result, add_results, collect, check_nodes, impl_signature, impl_params, find_auto_impls, from_impl_params, inherent_mods, find_impl_candidates, fresh_params, with_fresh, before_candidates}
 use Rattle.rules.specs.Robinson.{AllIn}
 use Rattle.rules.specs.CheckedTables.{Ready}
-use Rattle.rules.specs.Yields.{Every, every_append, every_map, every_weaken, every_select, Yields, yields_bind, yields_any}
+use Rattle.rules.specs.Yields.{Every, every_append, every_select, Yields, yields_bind, yields_any}
 use Rattle.rules.specs.TransferCount.{row}
-use Rattle.rules.specs.Neat.{Neat, QueriesIn, in_more, from_row, Brought, Joined, low_none, query_brought, query_under, queries_under, unify_query_neat, fresh_neat, fresh-length, impl_generics_in, signature_neat, signature_in, signature_plain, impl_params_neat, impl_params_in, impl_params-plain}
+use Rattle.rules.specs.Neat.{Neat, QueriesIn, in_more, Brought, Joined, low_none, query_brought, query_under, queries_under, unify_query_neat, fresh_neat, fresh-length, impl_generics_in, signature_neat, signature_in, signature_plain, impl_params_neat, impl_params_in, impl_params-plain}
 
 -- Adding results, and collecting them list by list, adds nothing that was not there.
 module _ (P : Result → Type 0) where
@@ -35,7 +35,7 @@ module _ (P : Result → Type 0) where
       go true e true q ih = rw (e, q, add_results) tt
       go true e false q ih = rw (e, q, add_results) ih
 
-  collect_keeps : {B : Type 0} (Q : B → Type 0) (f : B → Run (List Result)) → ((b : B) → Q b → Yields (Every P) (f b)) → (bs : List B) (fs : List Result) → Every Q bs → Every P fs → Yields (Every P) (collect f bs fs)
+  pub collect_keeps : {B : Type 0} (Q : B → Type 0) (f : B → Run (List Result)) → ((b : B) → Q b → Yields (Every P) (f b)) → (bs : List B) (fs : List Result) → Every Q bs → Every P fs → Yields (Every P) (collect f bs fs)
   unfolding collect
   collect_keeps Q f each [] fs h k = k
   collect_keeps Q f each (b ∷ bs) fs h k =
@@ -87,19 +87,6 @@ candidates_in a ts q basic = go (optional q.0) refl
 abbrev pub Asks : (Types → ImplType → Run (List Result)) → Type 0
 Asks ask = (us : Types) (r : ImplType) → Neat us → AllIn (length us) r.1 → Yields (AllKept us) (ask us r)
 
--- Sub-questions from left to right.
-pub subimpls_keep : (ask : Types → ImplType → Run (List Result)) → Asks ask → (ts : Types) (qs : List ImplType) → Neat ts → QueriesIn (length ts) qs → Yields (AllKept ts) (find_subimpls ask ts qs)
-unfolding find_subimpls
-subimpls_keep ask keeps ts [] n h = (record { neat = n; grown = le_refl (length ts) }, tt)
-subimpls_keep ask keeps ts (q ∷ qs) n h =
-    yields_bind (AllKept ts) (AllKept ts) (ask ts q) _ (keeps ts q n h.0) λ rs k.
-    collect_keeps (Kept ts) (Kept ts) _
-    (λ r m.
-    yields_bind (AllKept r.0) (AllKept ts) (find_subimpls ask r.0 qs) _
-    (subimpls_keep ask keeps r.0 qs m.neat (every_weaken (λ (p : ImplType). AllIn (length ts) p.1) (λ (p : ImplType). AllIn (length r.0) p.1) (λ p. in_more (length ts) (length r.0) m.grown p.1) qs h.1))
-    λ us l. every_map (Kept r.0) (Kept ts) (λ (u : Result). (u.0, before r.1 u.1)) (λ u w. record { neat = w.neat; grown = le_trans m.grown w.grown }) us l)
-    rs [] k tt
-
 -- The tables of one candidate: how many fresh unknowns it takes, its signature's import behind them, the join with the question, and the import of its impl parameters.
 abbrev pub fresh_count : Words → ℕ → ℕ
 fresh_count s i = type_params s (impl_generics s i)
@@ -120,7 +107,7 @@ module _ (a : Finder) (w₀ : Words) (ready : Ready a w₀) (ts : Types) (q : Im
     abbrev g : ℕ
     g = impl_generics a.sheet i
 
-    abbrev n : ℕ
+    abbrev pub n : ℕ
     n = fresh_count a.sheet i
 
     -- Its signature comes into a neat table,
@@ -135,24 +122,8 @@ module _ (a : Finder) (w₀ : Words) (ready : Ready a w₀) (ts : Types) (q : Im
     pub needs-brought : Brought (met a.sheet ts q i).1 (row (needs a.sheet ts q i).0) (needs a.sheet ts q i).1
     needs-brought = queries_under (impl_params a.sheet g).0 (impl_params_neat a w₀ ready g (impl_generics_in a w₀ ready i h)) ts n (impl_params-plain a w₀ ready g (impl_generics_in a w₀ ready i h)) (met a.sheet ts q i).1 signature_met.neat (omega (arith, fresh-length ts n, signature_brought.grown, signature_met.len)) (impl_params a.sheet g).1 (impl_params_in a w₀ ready g (impl_generics_in a w₀ ready i h))
 
-    needs_grown : length ts ≤ length (needs a.sheet ts q i).1
+    pub needs_grown : length ts ≤ length (needs a.sheet ts q i).1
     needs_grown = omega (arith, fresh-length ts n, signature_brought.grown, signature_met.len, needs-brought.grown)
-
-    -- Its results.
-    pub candidate_keeps : (ask : Types → ImplType → Run (List Result)) → Asks ask → Yields (AllKept ts) (try_candidate ask a.sheet ts q i)
-    unfolding try_candidate
-    candidate_keeps ask keeps = go (met a.sheet ts q i).0 refl
-      where
-        go : (v : UnifyResult) → (met a.sheet ts q i).0 ≡ v → Yields (AllKept ts) (try_candidate ask a.sheet ts q i)
-        go failure e = rw (e, try_candidate) (nodes_keep (AllKept ts) (signed a.sheet ts i).1 _ tt)
-        go indeterminate e = rw (e, try_candidate) (nodes_keep (AllKept ts) (signed a.sheet ts i).1 _ tt)
-        go success e =
-            rw (e, try_candidate)
-            (nodes_keep (AllKept ts) (signed a.sheet ts i).1 _
-            (nodes_keep (AllKept ts) (needs a.sheet ts q i).1 _
-            (yields_bind (AllKept (needs a.sheet ts q i).1) (AllKept ts) (find_subimpls ask (needs a.sheet ts q i).1 (needs a.sheet ts q i).0) _
-            (subimpls_keep ask keeps (needs a.sheet ts q i).1 (needs a.sheet ts q i).0 needs-brought.neat (from_row (length (needs a.sheet ts q i).1) (needs a.sheet ts q i).0 needs-brought.inside))
-            (λ rs k. every_map (Kept (needs a.sheet ts q i).1) (Kept ts) (λ (r : Result). (r.0, tree tree_def i r.1 end)) (λ r m. record { neat = m.neat; grown = le_trans needs_grown m.grown }) rs k))))
 
   -- The impl parameters of the caller's generics.
   params_keep : (n : ℕ) (ps : List ImplType) (fs : List Result) → QueriesIn (length (impl_params a.sheet a.generics).0) ps → AllKept ts fs → Yields (AllKept ts) (from_impl_params a ts q n ps fs)
@@ -184,7 +155,7 @@ module _ (a : Finder) (w₀ : Words) (ready : Ready a w₀) (ts : Types) (q : Im
           (λ gs l. ih gs h.1 l)))
 
   -- Built-ins leave the table as it is.
-  before_keeps : (basic : Bool) → Yields (AllKept ts) (before_candidates a basic ts q)
+  pub before_keeps : (basic : Bool) → Yields (AllKept ts) (before_candidates a basic ts q)
   unfolding before_candidates
   before_keeps true = tt
   before_keeps false =
@@ -195,13 +166,3 @@ module _ (a : Finder) (w₀ : Words) (ready : Ready a w₀) (ts : Types) (q : Im
       each : (us : List Trees) → AllKept ts (map (λ (t : Trees). (ts, t)) us)
       each [] = tt
       each (t ∷ us) = (record { neat = neat; grown = le_refl (length ts) }, each us)
-
--- Tables stay neat through the whole search: whatever a question of a neat table, with types of it, comes to, at whatever depth.
-pub question_keeps : (a : Finder) (w₀ : Words) → Ready a w₀ → (d : ℕ) (basic : Bool) (ts : Types) (q : ImplType) → Neat ts → AllIn (length ts) q.1 → Yields (AllKept ts) (question d a basic ts q)
-unfolding question
-question_keeps a w₀ ready zero basic ts q neat inside = tt
-question_keeps a w₀ ready (suc d) basic ts q neat inside =
-    yields_bind (AllKept ts) (AllKept ts) (before_candidates a basic ts q) _ (before_keeps a w₀ ready ts q neat inside basic) λ fs k.
-    yields_bind (Every (λ i. i < many a.sheet header_impls)) (AllKept ts) (find_impl_candidates a ts q basic) _ (candidates_in a ts q basic) λ is h.
-    collect_keeps (Kept ts) (λ i. i < many a.sheet header_impls) (try_candidate (λ us r. question d a false us r) a.sheet ts q)
-    (λ i l. candidate_keeps a w₀ ready ts q neat inside i l (λ us r. question d a false us r) (question_keeps a w₀ ready d false)) is fs h k

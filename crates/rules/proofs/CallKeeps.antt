@@ -21,10 +21,12 @@ use Rattle.rules.specs.Calls.{question_types, impl_query, impl_search, or_nothin
 use Rattle.rules.specs.Robinson.{AllIn, flip_in}
 use Rattle.rules.specs.CheckedSheet.{part}
 use Rattle.rules.specs.CheckLaws.{unrefused, not_not}
-use Rattle.rules.specs.CheckedTables.{table_length_lem, Ready, impl_ready, flex_ready}
+use Rattle.rules.specs.CheckedTables.{table_length_lem, Ready}
+use Rattle.rules.proofs.CheckedTables.{impl_ready, flex_ready}
 use Rattle.rules.specs.Yields.{Every, Yields, Comes}
 use Rattle.rules.specs.Neat.{Neat, in_more, in_append, in_checked, Brought, Joined, low_none, types_brought, query_brought, types_exported, query_exported, unify_neat, unify_query_neat, question_neat}
-use Rattle.rules.specs.SearchKeeps.{Kept, AllKept, question_keeps}
+use Rattle.rules.specs.SearchKeeps.{Kept, AllKept}
+use Rattle.rules.proofs.SearchKeeps.{question_keeps}
 
 -- The impl call.
 module _ (a : Finder) (basic : ℕ) (q : Words) (short : length a.sheet ≤ limit_sheet) (passed : refusal (impl_checks a basic q) ≡ none) where

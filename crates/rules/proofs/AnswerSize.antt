@@ -22,14 +22,16 @@ use Rattle.rules.specs.Check.{Checks, refusal, of_length, entry, impl_checks, fl
 use Rattle.rules.specs.Calls.{question_types, impl_query, impl_search, impl_outcome, impl_free, impl_within, in_turn, flex_searches, first_tree, is_found, import_result, unify_first, flex_results, flex_outcome, unset, plainly, flex_free, flex_within, free_find_impl, free_find_flex, try_find_impl, find_flex}
 use Rattle.rules.specs.AcyclicLaws.{map-length}
 use Rattle.rules.specs.CheckLaws.{unrefused}
-use Rattle.rules.specs.Yields.{Every, every_at, Yields, yields_both, yields_free, yields_within, Comes, came}
+use Rattle.rules.specs.Yields.{Every, every_at, Yields, yields_both, yields_free, Comes, came}
+use Rattle.rules.proofs.Yields.{yields_within}
 use Rattle.rules.specs.Carried.{each_length}
 use Rattle.rules.specs.TransferCount.{export_most}
 use Rattle.rules.specs.Slim.{Slim, SlimState, most_children}
 use Rattle.rules.specs.Neat.{Neat, Brought, Joined, range_in, types_exported}
 use Rattle.rules.specs.SearchKeeps.{AllKept}
-use Rattle.rules.specs.ResultLimits.{Few, few_none, question_few}
-use Rattle.rules.specs.CallKeeps.{impl_search_keeps, impl_last, impl_closed, in_turn_comes, flex_searches_keep, fork_brought, drop-brought, flex_joined, flex_closed}
+use Rattle.rules.specs.ResultLimits.{Few, few_none}
+use Rattle.rules.proofs.ResultLimits.{question_few}
+use Rattle.rules.proofs.CallKeeps.{impl_search_keeps, impl_last, impl_closed, in_turn_comes, flex_searches_keep, fork_brought, drop-brought, flex_joined, flex_closed}
 
 -- Words of trees, cells and nodes.
 trees_words : (p : ℕ) (t : Trees) → length (pack_trees p t) ≡ tree_length * tree_size t

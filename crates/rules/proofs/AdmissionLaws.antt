@@ -15,11 +15,12 @@ use Rattle.rules.specs.Reach.{marked, marks_of}
 use Rattle.rules.specs.Candidates.{within_def, within_ancestors, Edge, edges, node_count, graph, linked, same_component, ancestors, visible, open_edge, may_take, binds, may_enter, gets_to, admitted, get_candidates, general_candidates}
 use Rattle.rules.specs.Members.{In, first, later, in_cases, in_empty, any_in, and_iff, not_iff, is_in_in, select_in, range_in, Rising, range_rising, select_rising}
 use Rattle.rules.specs.ReachLaws.{From, here, then, closure_paths, marks_in, marks_length}
-use Rattle.rules.specs.CheckLaws.{Checked, passed}
+use Rattle.rules.specs.CheckLaws.{Checked}
+use Rattle.rules.proofs.CheckLaws.{passed}
 use Rattle.rules.specs.CheckedSheet.{valid, graph-length, graph_at, trait_def_in, binding_impl_in}
 use Rattle.rules.specs.Admission.{EdgeFrom, Reaches, arrived, along, Together, Ancestor, LetsIn, public, names, OpenPath, stays, onward, binding_node, Binds, Admits, SomeAdmits}
-use Rattle.rules.specs.AncestorLaws.{ancestors_in}
-use Rattle.rules.specs.Components.{reaches_on, linked_edge, linked_from, edge_to, linked_to, components}
+use Rattle.rules.proofs.AncestorLaws.{ancestors_in}
+use Rattle.rules.proofs.Components.{reaches_on, linked_edge, linked_from, edge_to, linked_to, components}
 
 -- The level of a node, and the definition, from its number.
 abbrev level : Bool → ℕ

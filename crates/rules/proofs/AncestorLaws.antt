@@ -9,7 +9,8 @@ use Rattle.rules.specs.Sheet.{many, parent}
 use Rattle.rules.specs.Candidates.{ancestors_of, ancestors}
 use Rattle.rules.specs.Members.{In, first, later, in_cases, in_empty}
 use Rattle.rules.specs.Admission.{Ancestor, itself, of_parent}
-use Rattle.rules.specs.CheckLaws.{Checked, passed}
+use Rattle.rules.specs.CheckLaws.{Checked}
+use Rattle.rules.proofs.CheckLaws.{passed}
 use Rattle.rules.specs.CheckedSheet.{valid, parent_low}
 
 -- One more of the count: the definition itself, and the parent's ancestors where it has one.

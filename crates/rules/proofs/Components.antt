@@ -6,7 +6,8 @@ use Rattle.rules.specs.Lists.{Words, any}
 use Rattle.rules.specs.Reach.{reach, marks_of}
 use Rattle.rules.specs.Candidates.{direct, within_def, within_ancestors, Edge, Graph, for_each_child, edges, node_count, graph, linked, same_component}
 use Rattle.rules.specs.Admission.{EdgeFrom, Reaches, arrived, along}
-use Rattle.rules.specs.CheckLaws.{Checked, passed}
+use Rattle.rules.specs.CheckLaws.{Checked}
+use Rattle.rules.proofs.CheckLaws.{passed}
 use Rattle.rules.specs.CheckedSheet.{Valid, valid, graph-length, graph_at, edges_lead}
 use Rattle.rules.specs.Members.{In, first, in_cases, in_empty, any_in, and_iff}
 use Rattle.rules.specs.ReachLaws.{From, here, then, closure_paths, marks_in, marks_length}

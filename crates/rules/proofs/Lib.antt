@@ -1,0 +1,21 @@
+-- Theorems that rest on the definitions of document 01 as they stand: an edit of a definition is refused here.
+pub mod Pinned
+pub mod Witnesses
+pub mod RunLaws
+pub mod Stops
+pub mod FlexLaws
+pub mod Limit
+pub mod Outcomes
+pub mod Refusals
+pub mod CheckLaws
+pub mod SheetFuel
+pub mod Components
+pub mod AncestorLaws
+pub mod AdmissionLaws
+pub mod CheckedTables
+pub mod Yields
+pub mod SearchKeeps
+pub mod SubQuestions
+pub mod CallKeeps
+pub mod ResultLimits
+pub mod AnswerSize
