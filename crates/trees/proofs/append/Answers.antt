@@ -1,0 +1,7 @@
+-- `append`: the words of the second behind those of the first, and the count of both.
+use Rattle.std.proofs.Common.{rules}
+use Rattle.trees.specs.Changes.{appended}
+use Rattle.trees.proofs.append.Goals as goal
+
+pub returns : goal.returns
+returns c = search (rules, appended)
