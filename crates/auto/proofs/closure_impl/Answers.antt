@@ -1,0 +1,10 @@
+-- `closure_impl`: the test of the bit.
+use Rattle.std.proofs.Common.{rules}
+use Rattle.auto.specs.Built.{own_some, own_none}
+use Rattle.auto.proofs.closure_impl.Goals as goal
+
+pub returns-then-flex-bit-eq1 : goal.returns-then-flex-bit-eq1
+returns-then-flex-bit-eq1 c = search (rules, own_some)
+
+pub returns : goal.returns
+returns c = search (rules, own_none)

@@ -1,0 +1,16 @@
+-- `find_auto_impls`: no trait, Fork, Drop, another.
+use Rattle.std.proofs.Common.{rules}
+use Rattle.auto.specs.Built.{autos_none, autos_fork, autos_drop, autos_other}
+use Rattle.auto.proofs.find_auto_impls.Goals as goal
+
+pub returns-then-tr-eq0 : goal.returns-then-tr-eq0
+returns-then-tr-eq0 c = search (rules, autos_none)
+
+pub returns-then-tr-word : goal.returns-then-tr-word
+returns-then-tr-word c = search (rules, autos_fork)
+
+pub returns-then-tr-word-2 : goal.returns-then-tr-word-2
+returns-then-tr-word-2 c = search (rules, autos_drop)
+
+pub returns : goal.returns
+returns c = search (rules, autos_other)
