@@ -1,0 +1,19 @@
+-- `gather_wrapped`: k of the results are added.
+use Rattle.std.proofs.Common.{◌-◌, rules}
+use Rattle.slots.specs.Gathering.{filled_next, gathering_none, gathering_more, gathering_stops, gathering_done}
+use Rattle.slots.proofs.gather_wrapped.Goals as goal
+
+pub loop-k-init : goal.loop-k-init
+loop-k-init c = (search (rules, gathering_none), search rules)
+
+pub add_wrapped-one-requires-clause-filled : goal.add_wrapped-one-requires-clause-filled
+add_wrapped-one-requires-clause-filled c = search (rules, filled_next)
+
+pub returns-in-Refused : goal.returns-in-Refused
+returns-in-Refused c = search (rules, gathering_stops)
+
+pub loop-k-preserved : goal.loop-k-preserved
+loop-k-preserved c = (search (rules, gathering_more), search rules)
+
+pub returns : goal.returns
+returns c = search (rules, gathering_done)
