@@ -1,0 +1,13 @@
+-- `note_members`: all that lies further on is noted.
+use Rattle.std.proofs.Common.{◌≤◌, length}
+use Rattle.rules.specs.Values.{member_ok}
+use Rattle.values.specs.Folds.{Folded, chain_most}
+use Rattle.values.specs.NodeLaws.{bad}
+use Rattle.values.specs.Tables.{plane_members}
+use Rattle.values.proofs.planes.note_members.Given as goal
+
+abbrev pub invariant-loop-i : goal.invariant-loop-i
+invariant-loop-i l = (l.i ≤ length l.s) × Folded l.s plane_members (chain_most (bad (member_ok l.s)) l.s) l.i l.initial.ws l.ws
+
+abbrev pub decreases-loop-i : goal.decreases-loop-i
+decreases-loop-i l = l.i

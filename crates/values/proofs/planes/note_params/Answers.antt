@@ -1,0 +1,17 @@
+-- `note_params`: all that lies further on is noted.
+use Rattle.std.proofs.Common.{rules}
+use Rattle.values.specs.Folds.{fold-none}
+use Rattle.values.specs.Tables.{known_fold, params_more, most-made}
+use Rattle.values.proofs.planes.note_params.Goals as goal
+
+pub loop-i-init : goal.loop-i-init
+loop-i-init c = search (rules, fold-none)
+
+pub param_mark-v-requires : goal.param_mark-v-requires
+param_mark-v-requires c = search (rules, known_fold)
+
+pub loop-i-preserved : goal.loop-i-preserved
+loop-i-preserved c = search (rules, params_more)
+
+pub returns : goal.returns
+returns c = search (rules, most-made)
