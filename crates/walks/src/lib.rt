@@ -36,7 +36,7 @@ fn mark(marks: &mut [u32], n: u32)
 }
 
 // Whether the class of root v is that of a type, or of a type within it. Marked nodes have nothing of v within them.
-#[cycle(occurs_among_occurs_in)]
+#[cycle(occurs_walk)]
 fn occurs_in(ws: &[u32], marks: &mut [u32], v: u32, t: u32) -> bool
     requires good { Good ws.now }
     requires t_in_bounds { t / 2 < length (types_of ws.now) }
@@ -59,7 +59,7 @@ fn occurs_in(ws: &[u32], marks: &mut [u32], v: u32, t: u32) -> bool
 }
 
 // Whether it is that of a type within root n.
-#[cycle(occurs_among_occurs_in)]
+#[cycle(occurs_walk)]
 fn occurs_among(ws: &[u32], marks: &mut [u32], v: u32, n: u32) -> bool
     requires good { Good ws.now }
     requires n_in_bounds { n < length (types_of ws.now) }
@@ -108,7 +108,7 @@ fn own_inverse_of(s: &[u32], ws: &[u32], n: u32) -> bool
 }
 
 // Whether every type in a type is its own inverse. Marked nodes are.
-#[cycle(self_inverse_all_self_inverse_in)]
+#[cycle(self_inverse_walk)]
 pub fn self_inverse_in(s: &[u32], ws: &[u32], marks: &mut [u32], t: u32) -> bool
     requires good { Good ws.now }
     requires t_in_bounds { t / 2 < length (types_of ws.now) }
@@ -131,7 +131,7 @@ pub fn self_inverse_in(s: &[u32], ws: &[u32], marks: &mut [u32], t: u32) -> bool
 }
 
 // Whether the types within root n are.
-#[cycle(self_inverse_all_self_inverse_in)]
+#[cycle(self_inverse_walk)]
 fn self_inverse_all(s: &[u32], ws: &[u32], marks: &mut [u32], n: u32) -> bool
     requires good { Good ws.now }
     requires n_in_bounds { n < length (types_of ws.now) }

@@ -1,0 +1,10 @@
+-- `own_inverse_of`: an unknown is not.
+use Rattle.std.proofs.Common.{rules}
+use Rattle.walks.specs.SelfInverse.{own_none, own_flag}
+use Rattle.walks.proofs.own_inverse_of.Goals as goal
+
+pub returns-then-k-eq0 : goal.returns-then-k-eq0
+returns-then-k-eq0 c = search (rules, own_none)
+
+pub returns : goal.returns
+returns c = search (rules, own_flag)
