@@ -1,13 +1,13 @@
 -- Types of records that went already: each is its own root.
 use Rattle.std.specs.Prelude.{ℕ, suc, ◌+◌, ◌-◌, ◌/◌, ◌≤◌, ◌<◌, ◌≡◌, refl, ◌≢◌, Bool, true, false, List, length, set, take}
-use Rattle.std.proofs.Common.{sym, ◌∙◌, ap, arith}
+use Rattle.std.proofs.Common.{◌∙◌, ap, arith}
 use Rattle.std.proofs.Math.Option.{Option}
 use Rattle.rules.specs.Lists.{Words}
 use Rattle.rules.specs.Sheet.{at}
 use Rattle.rules.specs.Types.{Ty, Types, find}
 use Rattle.rules.specs.Transfer.{Transfer, transfer_in, type_of_word}
 use Rattle.rules.specs.Answer.{word_of_type}
-use Rattle.transfer.specs.Source.{indexed, source, source-records}
+use Rattle.transfer.specs.Source.{source, source-records}
 use Rattle.transfer.specs.Records.{indexed-count, find_own}
 use Rattle.transfer.specs.Moving.{Levels, Gone, GoneRecord, Transfers}
 use Rattle.transfer.specs.Leaves.{settles_there}

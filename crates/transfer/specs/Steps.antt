@@ -1,5 +1,5 @@
 -- Laws of `transfer_type` on tables, whatever form they have: the ways that it goes, that tables only grow, and that lists go in parts.
-use Rattle.std.specs.Prelude.{ℕ, zero, suc, ◌+◌, ◌≤◌, ◌<◌, ◌≡◌, ◌≢◌, Bool, false, get_or, set}
+use Rattle.std.specs.Prelude.{ℕ, zero, suc, ◌≤◌, ◌<◌, ◌≡◌, ◌≢◌, Bool, false, get_or, set}
 use Rattle.std.proofs.Math.Path.{refl, ap, subst}
 use Rattle.std.proofs.Common.{sym, ◌∙◌, le_refl, le_trans, arith, length-set, length-append}
 use mathlib.Core.List.{List, [], ◌∷◌, ◌++◌}

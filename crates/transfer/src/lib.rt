@@ -149,7 +149,7 @@ fn fill(packed: bool, s: &[u32], places: &[u32], r: u32, dst: &mut [u32], n: u32
 
 // `transfer_type`: moves a type, with all that it reaches, from which every way down has at most `left` steps. 1 and its type word in the table that is
 // filled; 0 where that has no room.
-#[cycle(transfer_each_transfer_known_transfer_root_transfer_type)]
+#[cycle(transfer)]
 pub fn transfer_type(
     packed: bool,
     s: &[u32],
@@ -177,7 +177,7 @@ pub fn transfer_type(
 }
 
 // Moves root type r, for which nothing stands yet: a new node, and then its children.
-#[cycle(transfer_each_transfer_known_transfer_root_transfer_type)]
+#[cycle(transfer)]
 fn transfer_root(
     packed: bool,
     s: &[u32],
@@ -207,7 +207,7 @@ fn transfer_root(
 }
 
 // Moves the children of root type r, and fills its node n in.
-#[cycle(transfer_each_transfer_known_transfer_root_transfer_type)]
+#[cycle(transfer)]
 fn transfer_known(
     packed: bool,
     s: &[u32],
@@ -239,7 +239,7 @@ fn transfer_known(
 }
 
 // Moves the first m types of ts, in place, from each of which every way down has fewer than `left` steps; false where there is no room.
-#[cycle(transfer_each_transfer_known_transfer_root_transfer_type)]
+#[cycle(transfer)]
 fn transfer_each(
     packed: bool,
     s: &[u32],

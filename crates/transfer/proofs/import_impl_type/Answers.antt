@@ -1,0 +1,7 @@
+-- `import_impl_type`: `import` of its arguments.
+use Rattle.std.proofs.Common.{rules}
+use Rattle.transfer.specs.Imports.{imports_impl}
+use Rattle.transfer.proofs.import_impl_type.Goals as goal
+
+pub returns : goal.returns
+returns c = search (rules, imports_impl)

@@ -1,0 +1,7 @@
+-- `import_impl_types`: `import` of the row of their arguments.
+use Rattle.std.proofs.Common.{rules}
+use Rattle.transfer.specs.Imports.{imports_impls}
+use Rattle.transfer.proofs.import_impl_types.Goals as goal
+
+pub returns : goal.returns
+returns c = search (rules, imports_impls)

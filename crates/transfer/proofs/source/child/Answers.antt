@@ -1,0 +1,10 @@
+-- `child` of either source.
+use Rattle.std.proofs.Common.{rules}
+use Rattle.transfer.specs.Source.{packed_child, record_child}
+use Rattle.transfer.proofs.source.child.Goals as goal
+
+pub returns-then-packed : goal.returns-then-packed
+returns-then-packed c = search (rules, packed_child)
+
+pub returns-else-packed : goal.returns-else-packed
+returns-else-packed c = search (rules, record_child)

@@ -1,0 +1,10 @@
+-- `inverted_of` of either source.
+use Rattle.std.proofs.Common.{rules}
+use Rattle.transfer.specs.Source.{packed_inverted, record_inverted}
+use Rattle.transfer.proofs.source.inverted_of.Goals as goal
+
+pub returns-then-packed : goal.returns-then-packed
+returns-then-packed c = search (rules, packed_inverted)
+
+pub returns-else-packed : goal.returns-else-packed
+returns-else-packed c = search (rules, record_inverted)

@@ -1,0 +1,10 @@
+-- `kind_of` of either source.
+use Rattle.std.proofs.Common.{rules}
+use Rattle.transfer.specs.Source.{packed_kind, record_kind}
+use Rattle.transfer.proofs.source.kind_of.Goals as goal
+
+pub returns-then-packed : goal.returns-then-packed
+returns-then-packed c = search (rules, packed_kind)
+
+pub returns-else-packed : goal.returns-else-packed
+returns-else-packed c = search (rules, record_kind)

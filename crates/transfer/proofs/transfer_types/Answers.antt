@@ -1,0 +1,10 @@
+-- `transfer_types`: steps left are one more than the source has nodes.
+use Rattle.std.proofs.Common.{rules}
+use Rattle.transfer.specs.Imports.{inside_levels, moves_types}
+use Rattle.transfer.proofs.transfer_types.Goals as goal
+
+pub transfer_each-requires-clause-levels : goal.transfer_each-requires-clause-levels
+transfer_each-requires-clause-levels c = search (rules, inside_levels)
+
+pub returns : goal.returns
+returns c = search (rules, moves_types)
