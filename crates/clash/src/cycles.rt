@@ -62,7 +62,7 @@ fn finish(places: &[u32], marks: &mut [u32; 2048], notes: &mut [u32; 512], x: u3
 }
 
 // Whether the class of a type is open, or one within it is, at most `left` deep.
-#[cycle(among_among_cells_below_within)]
+#[cycle(walk)]
 fn within(
     sheet: &[u32],
     places: &[u32],
@@ -103,7 +103,7 @@ fn within(
 }
 
 // Whether a class of a child of ref r, which has kind k, is.
-#[cycle(among_among_cells_below_within)]
+#[cycle(walk)]
 fn below(
     sheet: &[u32],
     places: &[u32],
@@ -142,7 +142,7 @@ fn below(
 }
 
 // Whether one of the n children of node r is. Most have been walked; a child is marked as done itself, beside its root.
-#[cycle(among_among_cells_below_within)]
+#[cycle(walk)]
 fn among(
     sheet: &[u32],
     places: &[u32],
@@ -174,7 +174,7 @@ fn among(
 }
 
 // Whether one of the first eight types in the cells from a head is.
-#[cycle(among_among_cells_below_within)]
+#[cycle(walk)]
 fn among_cells(
     sheet: &[u32],
     places: &[u32],

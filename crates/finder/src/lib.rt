@@ -371,7 +371,7 @@ fn keep(noted: &mut [u32; 26], answer: Asked, limit: u32, count: u32)
 }
 
 // A question, with `depth` levels left for it and what it asks: `_find_impl`.
-#[cycle(candidate_candidates_question_recall_or_ask_result_results_sub_questions)]
+#[cycle(search)]
 pub fn question(
     sheet: &[u32],
     sets: &[u32],
@@ -412,7 +412,7 @@ pub fn question(
 
 // The candidates of a question by id: what each gives is added behind the n results that stand. The notes of their tests are lent from one to the next,
 // and so are the sub-questions that were asked last, with their table.
-#[cycle(candidate_candidates_question_recall_or_ask_result_results_sub_questions)]
+#[cycle(search)]
 fn candidates(
     sheet: &[u32],
     sets: &[u32],
@@ -468,7 +468,7 @@ fn candidates(
 }
 
 // One candidate: its sub-questions are asked behind slot 4, and what they give is added behind the n results that stand, under its Def.
-#[cycle(candidate_candidates_question_recall_or_ask_result_results_sub_questions)]
+#[cycle(search)]
 fn candidate(
     sheet: &[u32],
     sets: &[u32],
@@ -506,7 +506,7 @@ fn candidate(
 }
 
 // All sub-questions of a candidate. Where the last candidate's were the same, of the same table, and found nothing, these find nothing either, in as many steps.
-#[cycle(candidate_candidates_question_recall_or_ask_result_results_sub_questions)]
+#[cycle(search)]
 fn recall_or_ask(
     sheet: &[u32],
     sets: &[u32],
@@ -539,7 +539,7 @@ fn recall_or_ask(
 }
 
 // Sub-questions from one on, from left to right: `find_subimpls`. The last one's results are those of all.
-#[cycle(candidate_candidates_question_recall_or_ask_result_results_sub_questions)]
+#[cycle(search)]
 fn sub_questions(
     sheet: &[u32],
     sets: &[u32],
@@ -572,7 +572,7 @@ fn sub_questions(
 }
 
 // The m results of a sub-question, which stand in slots 5 to 8, each with the sub-questions that are left, from one on.
-#[cycle(candidate_candidates_question_recall_or_ask_result_results_sub_questions)]
+#[cycle(search)]
 fn results(
     sheet: &[u32],
     sets: &[u32],
@@ -615,7 +615,7 @@ fn results(
 }
 
 // Result k of a sub-question: those that are left are asked of its table behind slot 8, and what they give is added behind the n results that stand, behind its tree.
-#[cycle(candidate_candidates_question_recall_or_ask_result_results_sub_questions)]
+#[cycle(search)]
 fn result(
     sheet: &[u32],
     sets: &[u32],

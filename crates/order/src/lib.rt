@@ -278,7 +278,7 @@ fn mark(m: &mut [u32; 8192], x: u32)
 }
 
 // Whether a type is its own inverse, or may be.
-#[cycle(own_own_all)]
+#[cycle(own_walk)]
 fn own(sheet: &[u32], places: &[u32], ws: &[u32], m: &mut [u32; 8192], t: u32, left: usize) -> bool
     requires { Packed ws.now }
     ensures { Owns sheet.now places.now ws.now m.old t m.new result }
@@ -305,7 +305,7 @@ fn own(sheet: &[u32], places: &[u32], ws: &[u32], m: &mut [u32; 8192], t: u32, l
 }
 
 // Whether the children of a ref are.
-#[cycle(own_own_all)]
+#[cycle(own_walk)]
 fn own_all(
     sheet: &[u32],
     places: &[u32],
@@ -381,7 +381,7 @@ fn rejoin(ws: &[u32], m: &mut [u32; 8192], x: u32, y: u32) -> u32
 }
 
 // The rule's `unify` of two types.
-#[cycle(across_below_beside_cell_go_meet_meet_known_pair_pairs_rows)]
+#[cycle(meeting)]
 fn go(
     sheet: &[u32],
     places: &[u32],
@@ -417,7 +417,7 @@ fn go(
 }
 
 // Two different roots.
-#[cycle(across_below_beside_cell_go_meet_meet_known_pair_pairs_rows)]
+#[cycle(meeting)]
 fn meet(
     sheet: &[u32],
     places: &[u32],
@@ -446,7 +446,7 @@ fn meet(
 }
 
 // Two different roots that have known states p and q, of kinds k and l.
-#[cycle(across_below_beside_cell_go_meet_meet_known_pair_pairs_rows)]
+#[cycle(meeting)]
 fn meet_known(
     sheet: &[u32],
     places: &[u32],
@@ -486,7 +486,7 @@ fn meet_known(
 }
 
 // The children of two refs, those of the second turned by b.
-#[cycle(across_below_beside_cell_go_meet_meet_known_pair_pairs_rows)]
+#[cycle(meeting)]
 fn below(
     sheet: &[u32],
     places: &[u32],
@@ -509,7 +509,7 @@ fn below(
 }
 
 // The same of a ref that has a record and of a node.
-#[cycle(across_below_beside_cell_go_meet_meet_known_pair_pairs_rows)]
+#[cycle(meeting)]
 fn across(
     sheet: &[u32],
     places: &[u32],
@@ -541,7 +541,7 @@ fn across(
 }
 
 // The types in the cells from a head and the n children of node z, turned by b.
-#[cycle(across_below_beside_cell_go_meet_meet_known_pair_pairs_rows)]
+#[cycle(meeting)]
 fn beside(
     sheet: &[u32],
     places: &[u32],
@@ -580,7 +580,7 @@ fn beside(
 }
 
 // The type in the cell at c and type y, turned by b.
-#[cycle(across_below_beside_cell_go_meet_meet_known_pair_pairs_rows)]
+#[cycle(meeting)]
 fn cell(
     sheet: &[u32],
     places: &[u32],
@@ -600,7 +600,7 @@ fn cell(
 }
 
 // Two types, unless they are linked to one, or one to the other.
-#[cycle(across_below_beside_cell_go_meet_meet_known_pair_pairs_rows)]
+#[cycle(meeting)]
 fn pair(
     sheet: &[u32],
     places: &[u32],
@@ -624,7 +624,7 @@ fn pair(
 }
 
 // The children of two refs, whichever they are, those of the second turned by b.
-#[cycle(across_below_beside_cell_go_meet_meet_known_pair_pairs_rows)]
+#[cycle(meeting)]
 fn rows(
     sheet: &[u32],
     places: &[u32],
@@ -653,7 +653,7 @@ fn rows(
 }
 
 // The types of two rows, those of the second turned by b.
-#[cycle(across_below_beside_cell_go_meet_meet_known_pair_pairs_rows)]
+#[cycle(meeting)]
 fn pairs(
     sheet: &[u32],
     places: &[u32],

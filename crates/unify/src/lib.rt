@@ -215,7 +215,7 @@ fn met_child(ws: &[u32], n: u32, j: usize, inverted: bool) -> u32
 }
 
 // The rules' `unify-in`: to `left` levels.
-#[cycle(unify_children_unify_each_unify_in_unify_known_unify_last_unify_noted_unify_roots_unify_states)]
+#[cycle(joining)]
 fn unify_in(
     s: &[u32],
     ws: &mut [u32],
@@ -244,7 +244,7 @@ fn unify_in(
 }
 
 // Two roots, through the memo: a pair that did not succeed and left the table as it is comes to the same again.
-#[cycle(unify_children_unify_each_unify_in_unify_known_unify_last_unify_noted_unify_roots_unify_states)]
+#[cycle(joining)]
 fn unify_noted(
     s: &[u32],
     ws: &mut [u32],
@@ -274,7 +274,7 @@ fn unify_noted(
 }
 
 // Two roots. A type against its own inverse succeeds if `self_inverse` holds.
-#[cycle(unify_children_unify_each_unify_in_unify_known_unify_last_unify_noted_unify_roots_unify_states)]
+#[cycle(joining)]
 fn unify_roots(
     s: &[u32],
     ws: &mut [u32],
@@ -300,7 +300,7 @@ fn unify_roots(
 }
 
 // Two different roots, by what they are. An unknown joins Error.
-#[cycle(unify_children_unify_each_unify_in_unify_known_unify_last_unify_noted_unify_roots_unify_states)]
+#[cycle(joining)]
 fn unify_states(
     s: &[u32],
     ws: &mut [u32],
@@ -327,7 +327,7 @@ fn unify_states(
 }
 
 // Two known types. Error against a known type is indeterminate. Met inverted, only kinds whose flag allows it go on, their children met inverted.
-#[cycle(unify_children_unify_each_unify_in_unify_known_unify_last_unify_noted_unify_roots_unify_states)]
+#[cycle(joining)]
 fn unify_known(
     s: &[u32],
     ws: &mut [u32],
@@ -357,7 +357,7 @@ fn unify_known(
 }
 
 // The children of two types of one kind and id: none is tried where counts differ, but for the return types of Closures.
-#[cycle(unify_children_unify_each_unify_in_unify_known_unify_last_unify_noted_unify_roots_unify_states)]
+#[cycle(joining)]
 fn unify_children(
     s: &[u32],
     ws: &mut [u32],
@@ -385,7 +385,7 @@ fn unify_children(
 }
 
 // The last children of two types.
-#[cycle(unify_children_unify_each_unify_in_unify_known_unify_last_unify_noted_unify_roots_unify_states)]
+#[cycle(joining)]
 fn unify_last(
     s: &[u32],
     ws: &mut [u32],
@@ -428,7 +428,7 @@ fn next_pair(ws: &[u32], x: u32, y: u32, inverted: bool, left: u32, i: usize, m:
 }
 
 // The children of two types in turn.
-#[cycle(unify_children_unify_each_unify_in_unify_known_unify_last_unify_noted_unify_roots_unify_states)]
+#[cycle(joining)]
 fn unify_each(
     s: &[u32],
     ws: &mut [u32],

@@ -8,16 +8,16 @@ use borrow.Fn.Kinds.{In}
 use borrow.Fn.PlainCycle.{Measures, is, falls, and}
 use Rattle.clash.proofs.cycles.among.Reads as among
 use Rattle.clash.proofs.cycles.among.Kinds as among-kinds
-use Rattle.clash.proofs.cycles.+among_among_cells_below_within.Lts-among as among-lts
+use Rattle.clash.proofs.cycles.+walk.Lts-among as among-lts
 use Rattle.clash.proofs.cycles.among_cells.Reads as among-cells
 use Rattle.clash.proofs.cycles.among_cells.Kinds as among-cells-kinds
-use Rattle.clash.proofs.cycles.+among_among_cells_below_within.Lts-among_cells as among-cells-lts
+use Rattle.clash.proofs.cycles.+walk.Lts-among_cells as among-cells-lts
 use Rattle.clash.proofs.cycles.below.Reads as below
 use Rattle.clash.proofs.cycles.below.Kinds as below-kinds
-use Rattle.clash.proofs.cycles.+among_among_cells_below_within.Lts-below as below-lts
+use Rattle.clash.proofs.cycles.+walk.Lts-below as below-lts
 use Rattle.clash.proofs.cycles.within.Reads as within
 use Rattle.clash.proofs.cycles.within.Kinds as within-kinds
-use Rattle.clash.proofs.cycles.+among_among_cells_below_within.Lts-within as within-lts
+use Rattle.clash.proofs.cycles.+walk.Lts-within as within-lts
 use Rattle.clash.proofs.cycles.finish.Reads as finish-reads
 use Rattle.clash.proofs.cycles.is_walked.Reads as is-walked-reads
 use Rattle.clash.proofs.cycles.mark.Reads as mark-reads
@@ -31,8 +31,8 @@ use Rattle.table.proofs.own_children.Reads as own-children-reads
 use Rattle.words.proofs.next.Reads as next-reads
 use Rattle.words.proofs.offset.Reads as offset-reads
 use Rattle.words.proofs.wide.Reads as wide-reads
-use Rattle.clash.proofs.cycles.+among_among_cells_below_within.{statement}
-use Rattle.clash.proofs.cycles.+among_among_cells_below_within.Tie.{close}
+use Rattle.clash.proofs.cycles.+walk.{statement}
+use Rattle.clash.proofs.cycles.+walk.Tie.{close}
 
 abbrev μ-among : Measures 6 among-kinds.ps ℕ
 μ-among κs a = 4 * a.1.1.1.1.1.1.1.1.0 + 1

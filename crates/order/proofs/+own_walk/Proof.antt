@@ -9,18 +9,18 @@ use borrow.Fn.Kinds.{In}
 use borrow.Fn.PlainCycle.{Measures, is, falls, and}
 use Rattle.order.proofs.own.Reads as own
 use Rattle.order.proofs.own.Kinds as own-kinds
-use Rattle.order.proofs.+own_own_all.Lts-own as own-lts
+use Rattle.order.proofs.+own_walk.Lts-own as own-lts
 use Rattle.order.proofs.own_all.Reads as own-all
 use Rattle.order.proofs.own_all.Kinds as own-all-kinds
-use Rattle.order.proofs.+own_own_all.Lts-own_all as own-all-lts
+use Rattle.order.proofs.+own_walk.Lts-own_all as own-all-lts
 use Rattle.order.proofs.children.Reads as children-reads
 use Rattle.order.proofs.mark.Reads as mark-reads
 use Rattle.order.proofs.may_own.Reads as may-own-reads
 use Rattle.order.proofs.ref_of.Reads as ref-of-reads
 use Rattle.order.proofs.root.Reads as root-reads
 use Rattle.order.proofs.state.Reads as state-reads
-use Rattle.order.proofs.+own_own_all.{statement}
-use Rattle.order.proofs.+own_own_all.Tie.{close}
+use Rattle.order.proofs.+own_walk.{statement}
+use Rattle.order.proofs.+own_walk.Tie.{close}
 
 abbrev μ-own : Measures 4 own-kinds.ps ℕ
 μ-own κs a = 2 * a.1.1.1.1.1.0

@@ -11,34 +11,34 @@ use borrow.Fn.Kinds.{In}
 use borrow.Fn.PlainCycle.{Measures, is, falls, and}
 use Rattle.order.proofs.across.Reads as across
 use Rattle.order.proofs.across.Kinds as across-kinds
-use Rattle.order.proofs.+across_below_beside_cell_go_meet_meet_known_pair_pairs_rows.Lts-across as across-lts
+use Rattle.order.proofs.+meeting.Lts-across as across-lts
 use Rattle.order.proofs.below.Reads as below
 use Rattle.order.proofs.below.Kinds as below-kinds
-use Rattle.order.proofs.+across_below_beside_cell_go_meet_meet_known_pair_pairs_rows.Lts-below as below-lts
+use Rattle.order.proofs.+meeting.Lts-below as below-lts
 use Rattle.order.proofs.beside.Reads as beside
 use Rattle.order.proofs.beside.Kinds as beside-kinds
-use Rattle.order.proofs.+across_below_beside_cell_go_meet_meet_known_pair_pairs_rows.Lts-beside as beside-lts
+use Rattle.order.proofs.+meeting.Lts-beside as beside-lts
 use Rattle.order.proofs.cell.Reads as cell
 use Rattle.order.proofs.cell.Kinds as cell-kinds
-use Rattle.order.proofs.+across_below_beside_cell_go_meet_meet_known_pair_pairs_rows.Lts-cell as cell-lts
+use Rattle.order.proofs.+meeting.Lts-cell as cell-lts
 use Rattle.order.proofs.go.Reads as go
 use Rattle.order.proofs.go.Kinds as go-kinds
-use Rattle.order.proofs.+across_below_beside_cell_go_meet_meet_known_pair_pairs_rows.Lts-go as go-lts
+use Rattle.order.proofs.+meeting.Lts-go as go-lts
 use Rattle.order.proofs.meet.Reads as meet
 use Rattle.order.proofs.meet.Kinds as meet-kinds
-use Rattle.order.proofs.+across_below_beside_cell_go_meet_meet_known_pair_pairs_rows.Lts-meet as meet-lts
+use Rattle.order.proofs.+meeting.Lts-meet as meet-lts
 use Rattle.order.proofs.meet_known.Reads as meet-known
 use Rattle.order.proofs.meet_known.Kinds as meet-known-kinds
-use Rattle.order.proofs.+across_below_beside_cell_go_meet_meet_known_pair_pairs_rows.Lts-meet_known as meet-known-lts
+use Rattle.order.proofs.+meeting.Lts-meet_known as meet-known-lts
 use Rattle.order.proofs.pair.Reads as pair
 use Rattle.order.proofs.pair.Kinds as pair-kinds
-use Rattle.order.proofs.+across_below_beside_cell_go_meet_meet_known_pair_pairs_rows.Lts-pair as pair-lts
+use Rattle.order.proofs.+meeting.Lts-pair as pair-lts
 use Rattle.order.proofs.pairs.Reads as pairs
 use Rattle.order.proofs.pairs.Kinds as pairs-kinds
-use Rattle.order.proofs.+across_below_beside_cell_go_meet_meet_known_pair_pairs_rows.Lts-pairs as pairs-lts
+use Rattle.order.proofs.+meeting.Lts-pairs as pairs-lts
 use Rattle.order.proofs.rows.Reads as rows
 use Rattle.order.proofs.rows.Kinds as rows_kinds
-use Rattle.order.proofs.+across_below_beside_cell_go_meet_meet_known_pair_pairs_rows.Lts-rows as rows-lts
+use Rattle.order.proofs.+meeting.Lts-rows as rows-lts
 use Rattle.order.proofs.children.Reads as children-reads
 use Rattle.order.proofs.compare.Reads as compare-reads
 use Rattle.order.proofs.join.Reads as join-reads
@@ -58,10 +58,10 @@ use Rattle.table.proofs.own_children.Reads as own-children-reads
 use Rattle.words.proofs.next.Reads as next-reads
 use Rattle.words.proofs.offset.Reads as offset-reads
 use Rattle.words.proofs.wide.Reads as wide-reads
-use Rattle.order.proofs.+across_below_beside_cell_go_meet_meet_known_pair_pairs_rows.{
+use Rattle.order.proofs.+meeting.{
   statement,
 }
-use Rattle.order.proofs.+across_below_beside_cell_go_meet_meet_known_pair_pairs_rows.Tie.{
+use Rattle.order.proofs.+meeting.Tie.{
   close,
 }
 

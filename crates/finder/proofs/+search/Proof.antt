@@ -12,25 +12,25 @@ use borrow.Fn.Kinds.{In}
 use borrow.Fn.PlainCycle.{Measures, is, falls, and}
 use Rattle.finder.proofs.candidate.Reads as candidate
 use Rattle.finder.proofs.candidate.Kinds as candidate-kinds
-use Rattle.finder.proofs.+candidate_candidates_question_recall_or_ask_result_results_sub_questions.Lts-candidate as candidate-lts
+use Rattle.finder.proofs.+search.Lts-candidate as candidate-lts
 use Rattle.finder.proofs.candidates.Reads as candidates
 use Rattle.finder.proofs.candidates.Kinds as candidates-kinds
-use Rattle.finder.proofs.+candidate_candidates_question_recall_or_ask_result_results_sub_questions.Lts-candidates as candidates-lts
+use Rattle.finder.proofs.+search.Lts-candidates as candidates-lts
 use Rattle.finder.proofs.question.Reads as question
 use Rattle.finder.proofs.question.Kinds as question-kinds
-use Rattle.finder.proofs.+candidate_candidates_question_recall_or_ask_result_results_sub_questions.Lts-question as question-lts
+use Rattle.finder.proofs.+search.Lts-question as question-lts
 use Rattle.finder.proofs.recall_or_ask.Reads as recall-or-ask
 use Rattle.finder.proofs.recall_or_ask.Kinds as recall-or-ask-kinds
-use Rattle.finder.proofs.+candidate_candidates_question_recall_or_ask_result_results_sub_questions.Lts-recall_or_ask as recall-or-ask-lts
+use Rattle.finder.proofs.+search.Lts-recall_or_ask as recall-or-ask-lts
 use Rattle.finder.proofs.result.Reads as result
 use Rattle.finder.proofs.result.Kinds as result-kinds
-use Rattle.finder.proofs.+candidate_candidates_question_recall_or_ask_result_results_sub_questions.Lts-result as result-lts
+use Rattle.finder.proofs.+search.Lts-result as result-lts
 use Rattle.finder.proofs.results.Reads as results
 use Rattle.finder.proofs.results.Kinds as results-kinds
-use Rattle.finder.proofs.+candidate_candidates_question_recall_or_ask_result_results_sub_questions.Lts-results as results-lts
+use Rattle.finder.proofs.+search.Lts-results as results-lts
 use Rattle.finder.proofs.sub_questions.Reads as sub-questions
 use Rattle.finder.proofs.sub_questions.Kinds as sub-questions-kinds
-use Rattle.finder.proofs.+candidate_candidates_question_recall_or_ask_result_results_sub_questions.Lts-sub_questions as sub-questions-lts
+use Rattle.finder.proofs.+search.Lts-sub_questions as sub-questions-lts
 use Rattle.finder.proofs.begin.Reads as begin-reads
 use Rattle.finder.proofs.keep.Reads as keep-reads
 use Rattle.finder.proofs.open_one.Reads as open-one-reads
@@ -42,10 +42,10 @@ use Rattle.slots.proofs.settle_wrapped.Reads as settle-wrapped-reads
 use Rattle.steps.proofs.find_candidates.Reads as find-candidates-reads
 use Rattle.steps.proofs.next_id.Reads as next-id-reads
 use Rattle.steps.proofs.none_left.Reads as none-left-reads
-use Rattle.finder.proofs.+candidate_candidates_question_recall_or_ask_result_results_sub_questions.{
+use Rattle.finder.proofs.+search.{
   statement,
 }
-use Rattle.finder.proofs.+candidate_candidates_question_recall_or_ask_result_results_sub_questions.Tie.{
+use Rattle.finder.proofs.+search.Tie.{
   close,
 }
 

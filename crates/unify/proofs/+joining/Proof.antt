@@ -14,28 +14,28 @@ use borrow.Fn.Kinds.{In}
 use borrow.Fn.PlainCycle.{Measures, is, falls, and}
 use Rattle.unify.proofs.unify_children.Reads as unify_children
 use Rattle.unify.proofs.unify_children.Kinds as unify-children-kinds
-use Rattle.unify.proofs.+unify_children_unify_each_unify_in_unify_known_unify_last_unify_noted_unify_roots_unify_states.Lts-unify_children as unify-children-lts
+use Rattle.unify.proofs.+joining.Lts-unify_children as unify-children-lts
 use Rattle.unify.proofs.unify_each.Reads as unify_each
 use Rattle.unify.proofs.unify_each.Kinds as unify-each-kinds
-use Rattle.unify.proofs.+unify_children_unify_each_unify_in_unify_known_unify_last_unify_noted_unify_roots_unify_states.Lts-unify_each as unify-each-lts
+use Rattle.unify.proofs.+joining.Lts-unify_each as unify-each-lts
 use Rattle.unify.proofs.unify_in.Reads as unify_in
 use Rattle.unify.proofs.unify_in.Kinds as unify-in-kinds
-use Rattle.unify.proofs.+unify_children_unify_each_unify_in_unify_known_unify_last_unify_noted_unify_roots_unify_states.Lts-unify_in as unify-in-lts
+use Rattle.unify.proofs.+joining.Lts-unify_in as unify-in-lts
 use Rattle.unify.proofs.unify_known.Reads as unify_known
 use Rattle.unify.proofs.unify_known.Kinds as unify-known-kinds
-use Rattle.unify.proofs.+unify_children_unify_each_unify_in_unify_known_unify_last_unify_noted_unify_roots_unify_states.Lts-unify_known as unify-known-lts
+use Rattle.unify.proofs.+joining.Lts-unify_known as unify-known-lts
 use Rattle.unify.proofs.unify_last.Reads as unify-last
 use Rattle.unify.proofs.unify_last.Kinds as unify-last-kinds
-use Rattle.unify.proofs.+unify_children_unify_each_unify_in_unify_known_unify_last_unify_noted_unify_roots_unify_states.Lts-unify_last as unify-last-lts
+use Rattle.unify.proofs.+joining.Lts-unify_last as unify-last-lts
 use Rattle.unify.proofs.unify_noted.Reads as unify-noted
 use Rattle.unify.proofs.unify_noted.Kinds as unify-noted-kinds
-use Rattle.unify.proofs.+unify_children_unify_each_unify_in_unify_known_unify_last_unify_noted_unify_roots_unify_states.Lts-unify_noted as unify-noted-lts
+use Rattle.unify.proofs.+joining.Lts-unify_noted as unify-noted-lts
 use Rattle.unify.proofs.unify_roots.Reads as unify_roots
 use Rattle.unify.proofs.unify_roots.Kinds as unify-roots-kinds
-use Rattle.unify.proofs.+unify_children_unify_each_unify_in_unify_known_unify_last_unify_noted_unify_roots_unify_states.Lts-unify_roots as unify-roots-lts
+use Rattle.unify.proofs.+joining.Lts-unify_roots as unify-roots-lts
 use Rattle.unify.proofs.unify_states.Reads as unify_states
 use Rattle.unify.proofs.unify_states.Kinds as unify-states-kinds
-use Rattle.unify.proofs.+unify_children_unify_each_unify_in_unify_known_unify_last_unify_noted_unify_roots_unify_states.Lts-unify_states as unify-states-lts
+use Rattle.unify.proofs.+joining.Lts-unify_states as unify-states-lts
 use Rattle.memo.proofs.begin.Reads as begin-reads
 use Rattle.memo.proofs.end.Reads as end_reads
 use Rattle.memo.proofs.recall.Reads as recall-reads
@@ -54,10 +54,10 @@ use Rattle.unify.proofs.met_child.Reads as met-child-reads
 use Rattle.unify.proofs.next_pair.Reads as next-pair-reads
 use Rattle.unify.proofs.own_inverse.Reads as own-inverse-reads
 use Rattle.unify.proofs.stops.Reads as stops-reads
-use Rattle.unify.proofs.+unify_children_unify_each_unify_in_unify_known_unify_last_unify_noted_unify_roots_unify_states.{
+use Rattle.unify.proofs.+joining.{
   statement,
 }
-use Rattle.unify.proofs.+unify_children_unify_each_unify_in_unify_known_unify_last_unify_noted_unify_roots_unify_states.Tie.{
+use Rattle.unify.proofs.+joining.Tie.{
   close,
 }
 
