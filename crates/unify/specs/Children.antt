@@ -8,7 +8,6 @@ use borrow.Author.Tests.{eq-eqb, ne_eqb}
 use Rattle.rules.specs.Lists.{Words}
 use Rattle.rules.specs.Sheet.{at}
 use Rattle.rules.specs.Types.{Ty, Types, invert_if, success, failure, Unified, unify_each, last_of, unify_children}
-use Rattle.rules.specs.Types as rules
 use Rattle.rules.specs.AcyclicLaws.{children_at}
 use Rattle.rules.specs.Transfer.{type_of_word}
 use Rattle.rules.specs.Answer.{word_of_type}

@@ -26,7 +26,7 @@ use Rattle.table.specs.Nodes.{type_word}
 use Rattle.table.specs.Reads.{unknown_here}
 use Rattle.unify.specs.declared.UnifyResult.{UnifyResult}
 use Rattle.unify.specs.declared.UnifyResult.TheVariants.{Success, Failure}
-use Rattle.unify.specs.Results.{result_of, Meets, Unifies, Exact, TwoRoots, KnownRoots, met_inverted, unify_fields}
+use Rattle.unify.specs.Results.{result_of, Unifies, Exact, TwoRoots, KnownRoots, met_inverted, unify_fields}
 use Rattle.unify.specs.Trying.{Ready, Fuelled, Noted, Binds, Met, Went, noted_then, moves_noted, met_as, met-moved, met_still, met_noted, went_still}
 
 -- `unify` with no fuel left, and with some.

@@ -1,19 +1,19 @@
 -- Two roots met through the memo: what is kept, and what may be kept.
-use Rattle.std.specs.Prelude.{ℕ, suc, ◌+◌, ◌/◌, ◌<◌, ◌≤◌, ◌≡◌, refl, Bool, true, false, [], ◌∷◌, ◌≢◌, eqb, length, set}
-use Rattle.std.proofs.Common.{sym, ◌∙◌, ap, subst, inl, inr, arith, length-set, get_or-set_other}
+use Rattle.std.specs.Prelude.{ℕ, suc, ◌+◌, ◌<◌, ◌≡◌, refl, true, [], ◌∷◌, ◌≢◌, set}
+use Rattle.std.proofs.Common.{sym, ◌∙◌, ap, subst, inl, arith, length-set, get_or-set_other}
 use Rattle.rules.specs.Lists.{Words}
 use Rattle.rules.specs.Sheet.{at}
 use Rattle.rules.specs.Types.{Ty, Types, success, failure, indeterminate, Unified, unify_roots, unify_in}
 use Rattle.rules.specs.Types as rules
 use Rattle.rules.specs.Transfer.{type_of_word}
-use Rattle.rules.specs.UnifyEnds.{Enough, roots_any}
+use Rattle.rules.specs.UnifyEnds.{roots_any}
 use Rattle.table.specs.Packing.{types_of, Good}
 use Rattle.table.specs.Nodes.{types_few}
-use Rattle.memo.specs.Memo.{verdict, Settled, Memo, Recalls, Ends, recalled, memo_begun, memo_ends}
+use Rattle.memo.specs.Memo.{verdict, Settled, Recalls, Ends, recalled, memo_begun, memo_ends}
 use Rattle.unify.specs.declared.UnifyResult.{UnifyResult}
 use Rattle.unify.specs.declared.UnifyResult.TheVariants.{Success, Failure, Indeterminate}
 use Rattle.unify.specs.Results.{result_of, code_of, TwoRoots}
-use Rattle.unify.specs.Trying.{Ready, Fuelled, Met, noted_still, failure_not, indeterminate_not}
+use Rattle.unify.specs.Trying.{Ready, Fuelled, Met, noted_still}
 
 pub root_small : (ws : Words) (x y : ℕ) → TwoRoots (types_of ws) (type_of_word x) (type_of_word y) → x < 512
 unfolding type_of_word

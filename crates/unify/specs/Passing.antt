@@ -1,5 +1,5 @@
 -- Pairs of children that are of one root and side already: each is a success that leaves the table as it is, so they are passed over.
-use Rattle.std.specs.Prelude.{ℕ, zero, suc, ◌+◌, ◌-◌, ◌≤◌, ◌<◌, ◌≡◌, refl, Bool, true, false, not, ◌||◌, ◌≢◌, eqb, length, get_or, drop}
+use Rattle.std.specs.Prelude.{ℕ, zero, suc, ◌+◌, ◌-◌, ◌≤◌, ◌<◌, ◌≡◌, refl, Bool, true, false, not, ◌||◌, ◌≢◌, length, get_or, drop}
 use Rattle.std.proofs.Common.{sym, ◌∙◌, subst, arith, drop-cons, eq-eqb}
 use Rattle.std.proofs.Math.Path.{ap, ap₂}
 use mathlib.Core.List.{List, map}
@@ -8,7 +8,7 @@ use Rattle.rules.specs.Lists.{Words}
 use Rattle.rules.specs.Types.{Ty, Types, xor, invert_if, find, self_inverse, from_bool, success, Unified, unify_each, unify_roots, unify_in}
 use Rattle.rules.specs.AcyclicLaws.{children_at}
 use Rattle.rules.specs.Solutions.{AllIn}
-use Rattle.table.specs.Packing.{types_of, kind_at, Good}
+use Rattle.table.specs.Packing.{types_of, Good}
 use Rattle.table.specs.Alike.{Matched, Alike, alike_none}
 use Rattle.unify.specs.declared.UnifyResult.{UnifyResult}
 use Rattle.unify.specs.Results.{result_of, KnownRoots}

@@ -1,6 +1,5 @@
 -- What the functions of `unify` come to, in the words of the rules: a verdict, and the table that the words are.
-use Rattle.std.specs.Prelude.{ℕ, ◌<◌, ◌≡◌, refl, Bool, true, false, not, ◌≢◌, ◌⊎◌, length}
-use Rattle.std.proofs.Common.{sym, ◌∙◌, ap, inl, inr}
+use Rattle.std.specs.Prelude.{ℕ, ◌<◌, ◌≡◌, Bool, true, false, ◌≢◌, ◌⊎◌, length}
 use Rattle.rules.specs.Lists.{Words}
 use Rattle.rules.specs.Types.{Ty, Types, xor, success, failure, indeterminate, Unified, unify_known}
 use Rattle.rules.specs.Types as rules

@@ -1,5 +1,5 @@
 -- How the functions of `unify` go together: what each asks of fuel and memo, what it leaves in the memo, and how one's result becomes another's.
-use Rattle.std.specs.Prelude.{ℕ, suc, ◌+◌, ◌-◌, ◌/◌, ◌<◌, ◌≤◌, ◌≡◌, Bool, true, false, not, List, [], ◌∷◌, ◌++◌, ◌≢◌, ◌⊎◌, eqb, length, take, drop}
+use Rattle.std.specs.Prelude.{ℕ, ◌+◌, ◌-◌, ◌<◌, ◌≤◌, ◌≡◌, Bool, true, false, not, List, ◌++◌, ◌≢◌, ◌⊎◌, eqb, length, take, drop}
 use Rattle.std.proofs.Math.Path.{refl, sym, ap}
 use Rattle.std.proofs.Common.{◌∙◌, subst, true≢false, inl, arith, ne_eqb, length-drop, get_or-append-add, get_or-take, get_or-drop, length-take-le}
 use Rattle.std.proofs.Math.Logic.{inr}
@@ -11,7 +11,7 @@ use Rattle.rules.specs.Types.{Ty, Types, self_inverse, success, failure, indeter
 use Rattle.rules.specs.Types as rules
 use Rattle.rules.specs.UnifyEnds.{Enough}
 use Rattle.rules.specs.OwnInverse.{Later, own_later}
-use Rattle.table.specs.Packing.{types_of, Packed, Good}
+use Rattle.table.specs.Packing.{types_of, Packed}
 use Rattle.table.specs.Nodes.{types_few}
 use Rattle.walks.specs.Marking.{is_marked}
 use Rattle.walks.specs.SelfInverse.{Own, Inverted}
