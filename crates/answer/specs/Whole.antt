@@ -1,5 +1,5 @@
 -- The answer put together: trees, nodes and type words one after the other from place 6 on, and the six words before them.
-use Rattle.std.specs.Prelude.{ℕ, ◌+◌, ◌-◌, ◌*◌, ◌≤◌, ◌≡◌, refl, Bool, false, List, [], ◌∷◌, ◌++◌, map, length, drop}
+use Rattle.std.specs.Prelude.{ℕ, ◌+◌, ◌*◌, ◌≤◌, ◌≡◌, refl, Bool, false, List, [], ◌∷◌, ◌++◌, map, length, drop}
 use Rattle.std.proofs.Common.{◌∙◌, ap, ap₂, arith, length-append}
 use Rattle.rules.specs.Lists.{Words, range, bit}
 use Rattle.rules.specs.Sheet.{at}

@@ -1,7 +1,10 @@
-// Stored cases: little-endian words read from a descriptor, a case at a time. oracle/stored/README.md says how they are laid out.
+// Stored cases: little-endian words read from a source, a case at a time. oracle/stored/README.md says how they are laid out.
 #![tactic(auto)]
 
 ghost use Rattle.std.specs.Prelude.{◌<◌};
+
+use std::io;
+use std::io::{ErrorKind, Read};
 
 // A word of four bytes, the lowest first.
 pub fn word_of(b: [u8; 4]) -> u32 {
@@ -15,20 +18,24 @@ fn wide(b: u8) -> u32
 }
 
 // The next word; 0 at the end.
-pub fn read_word(fd: i32) -> u32 {
+pub fn read_word<R: Read>(source: &mut R) -> io::Result<u32> {
     let mut b = [0u8; 4];
-    let n = io::read_full(fd, &mut b);
-    if n == 4 { word_of(b) } else { 0 }
+    match source.read_exact(&mut b) {
+        Ok(()) => Ok(word_of(b)),
+        Err(e) if e.kind() == ErrorKind::UnexpectedEof => Ok(0),
+        Err(e) => Err(e),
+    }
 }
 
 // Reads n words into the front of a buffer, or as many as it has room for.
-pub fn read_words(fd: i32, buf: &mut [u32], n: usize) {
+pub fn read_words<R: Read>(source: &mut R, buf: &mut [u32], n: usize) -> io::Result<()> {
     let mut i = 0;
     while i < n {
         if buf.len() <= i {
-            return;
+            return Ok(());
         }
-        buf[i] = read_word(fd);
+        buf[i] = read_word(source)?;
         i += 1;
     }
+    Ok(())
 }

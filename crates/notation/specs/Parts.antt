@@ -1,6 +1,6 @@
 -- The length of the front of a slice, as lending it asks, and bytes that are put.
 use Rattle.std.specs.Prelude.{ℕ, ◌+◌, ◌≤◌, ◌<◌, ◌≡◌, List, length, take, set}
-use Rattle.std.proofs.Common.{sym, subst, arith, length-set, length-take-le}
+use Rattle.std.proofs.Common.{sym, arith, length-set, length-take-le}
 
 pub front_length : {A : Type 0} (n : ℕ) (xs : List A) → n ≤ length xs → n ≡ length (take n xs)
 front_length n xs h = sym (length-take-le n xs h)

@@ -1,5 +1,5 @@
 -- `pack_trees`: the first record, the trees below it and those behind it. The measure is how many words there are.
-use Rattle.std.proofs.Common.{rules, ◌-◌}
+use Rattle.std.proofs.Common.{rules}
 use Rattle.answer.specs.Records.{packs_none, packs_more}
 use Rattle.answer.proofs.+pack_trees.Goals as goal
 

@@ -1,5 +1,5 @@
 -- `pack_cells`: the cells passed are written; the rest of them is to come.
-use Rattle.std.proofs.Common.{◌-◌, rules}
+use Rattle.std.proofs.Common.{rules}
 use Rattle.answer.specs.Cells.{cells_start, cells_more, cells_done}
 use Rattle.answer.proofs.pack_cells.Goals as goal
 

@@ -1,5 +1,5 @@
 -- `pack_nodes`: the nodes passed are written; the rest of them is to come.
-use Rattle.std.proofs.Common.{◌-◌, rules}
+use Rattle.std.proofs.Common.{rules}
 use Rattle.answer.specs.Nodes.{nodes_start, nodes_more, nodes_done, left_nodes, count_few}
 use Rattle.answer.proofs.pack_nodes.Goals as goal
 
