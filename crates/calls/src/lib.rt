@@ -219,8 +219,7 @@ fn packed(o: Outcome) -> u64
 }
 
 // The C interface (include/vine_finder.h): the impl call.
-#[unsafe(no_mangle)]
-pub extern "C" fn vine_find_impl(
+pub fn vine_find_impl(
     sheet: &[u32],
     question: &[u32],
     source: u32,
@@ -239,8 +238,7 @@ pub extern "C" fn vine_find_impl(
 }
 
 // The flex call.
-#[unsafe(no_mangle)]
-pub extern "C" fn vine_find_flex(
+pub fn vine_find_flex(
     sheet: &[u32],
     question: &[u32],
     source: u32,
@@ -256,8 +254,7 @@ pub extern "C" fn vine_find_flex(
 }
 
 // The workspace's words.
-#[unsafe(no_mangle)]
-pub extern "C" fn vine_workspace_words() -> u32
+pub fn vine_workspace_words() -> u32
     ensures { result ≡ limit_workspace }
 {
     662794

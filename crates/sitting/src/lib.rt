@@ -107,8 +107,7 @@ pub fn find_flex(
 }
 
 // The C interface (include/vine_finder.h): the sitting is its count.
-#[unsafe(no_mangle)]
-pub extern "C" fn vine_sitting_find_impl(
+pub fn vine_sitting_find_impl(
     sheet: &[u32],
     question: &[u32],
     source: u32,
@@ -129,8 +128,7 @@ pub extern "C" fn vine_sitting_find_impl(
 }
 
 // The flex call.
-#[unsafe(no_mangle)]
-pub extern "C" fn vine_sitting_find_flex(
+pub fn vine_sitting_find_flex(
     sheet: &[u32],
     question: &[u32],
     source: u32,
