@@ -10,7 +10,7 @@ pub loop-k-preserved : goal.loop-k-preserved
 loop-k-preserved c =
     let p = c.args.a + c.loop-k.k in
     let q = c.args.b + c.loop-k.k in
-    (search rules, search rules, search (rules, join_more), moved_more _ c.loop-k.ws c.loop-k.changed p (get_or c.loop-k.ws q 0) (omega arith) (c.slice_known-in-loop-k-1.given p) (c.slice_known-in-loop-k-1.given q) c.loop-k.invariant.3)
+    (search rules, search rules, search (rules, join_more), moved_more _ c.loop-k.ws c.loop-k.changed p (get_or c.loop-k.ws q 0) (omega arith) (search rules) (search rules) c.loop-k.invariant.3)
 
 pub returns : goal.returns
 returns c = search (rules, join_done)
