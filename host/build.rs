@@ -1,4 +1,4 @@
-// Finds the archives that `rt staticlib calls` and `rt staticlib sitting` write, libcalls.a and libsitting.a in
+// Finds the archives that `bash .ci/build` writes, libcalls.a and libsitting.a in
 // target/staticlib of this repository, or in the directory that VINE_FINDER_LIB names.
 
 use std::{env, path::PathBuf};
@@ -16,7 +16,7 @@ fn main() {
     println!("cargo::rerun-if-changed={}", archive.display());
     if !archive.exists() {
       let archive = archive.display();
-      panic!("{archive} is not there: run `rt staticlib {name}` in the repository first");
+      panic!("{archive} is not there: run `bash .ci/build` in the repository first");
     }
     println!("cargo::rustc-link-lib=static={name}");
   }

@@ -1,7 +1,6 @@
 /* Document 01's question of its sheet Pin, asked from C, and twice more in a sitting:
  *
- *     rt staticlib calls
- *     rt staticlib sitting
+ *     bash .ci/build
  *     cc -Iinclude host/pin.c target/staticlib/libcalls.a target/staticlib/libsitting.a -o pin
  */
 #include "vine_finder.h"

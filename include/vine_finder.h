@@ -1,7 +1,8 @@
-/* Vine's impl finder, for C: two calls, alone and in a sitting. Two archives of target/staticlib have them:
+/* Vine's impl finder, for C: two calls, alone and in a sitting. Two archives of target/staticlib have them, which
+ * `bash .ci/build` writes:
  *
- *     rt staticlib calls      libcalls.a      vine_find_impl, vine_find_flex, vine_workspace_words
- *     rt staticlib sitting    libsitting.a    vine_sitting_find_impl, vine_sitting_find_flex
+ *     libcalls.a      vine_find_impl, vine_find_flex, vine_workspace_words
+ *     libsitting.a    vine_sitting_find_impl, vine_sitting_find_flex
  *
  * Neither has the functions of the other, and neither needs the other; a program may link one or both.
  *

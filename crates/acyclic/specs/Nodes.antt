@@ -2,10 +2,9 @@
 use Prim.Native.Nat.{ℕ, zero, suc, ◌+◌, ◌/◌, ◌≤◌, ◌<◌}
 use Rattle.std.specs.Prelude.{◌≡◌, Bool, ◌≢◌, eqb, length}
 use Rattle.std.proofs.Math.Path.{refl, sym, ap, subst}
-use Rattle.std.proofs.Common.{◌∙◌, le_trans, le_of_suc-le-suc, not-suc-le-zero, eq-eqb, ne_eqb}
+use Rattle.std.proofs.Common.{◌∙◌, le_of_suc-le-suc, not-suc-le-zero, eq-eqb, ne_eqb}
 use Rattle.std.proofs.Math.Bool.{true, false}
 use mathlib.Core.List.{List, [], ◌∷◌, map}
-use Rattle.std.proofs.Math.Nat.{le-max_left, le-max_right}
 use native.Mathlib.Omega.{arith}
 use Rattle.std.proofs.Math.Dec.{T}
 use Rattle.std.proofs.Math.ListN.{get_or}
@@ -15,7 +14,7 @@ use Rattle.rules.specs.Sheet.{at, chain, chain_of}
 use Rattle.rules.specs.Types.{Ty}
 use Rattle.rules.specs.Transfer.{type_of_word, cell_types, node_state, table}
 use Rattle.rules.specs.Values.{table_ok}
-use Rattle.rules.specs.Acyclic.{children, above, heights, acyclic}
+use Rattle.rules.specs.Acyclic.{children, heights, acyclic}
 use Rattle.rules.specs.AcyclicLaws.{children_at, child, flat_rank, flat_rank_below, height_step, map-length, above-child}
 use Rattle.rules.specs.Members.{In, first, later, in_at}
 use Rattle.rules.specs.Readings.{flat_inside}

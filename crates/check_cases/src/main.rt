@@ -3,7 +3,9 @@
 
 ghost use Rattle.std.specs.Prelude.{◌≤◌};
 
-use libc::STDOUT_FILENO;
+use std::io::{BufReader, Read};
+use std::rt::Files;
+use std::{env, fs, io};
 
 // What is counted: under 0 to 13 the numbers, then all cases, then the wrong ones.
 const CASES: usize = 14;
@@ -60,101 +62,107 @@ fn number_of(head: &[u32], s: &[u32], n: usize, q: &[u32], m: usize, ws: &mut [u
 }
 
 // Reads a slice's length and words, and answers the length.
-fn read_slice(fd: i32, buf: &mut [u32]) -> usize {
-    let n = cases::read_word(fd) as usize;
-    cases::read_words(fd, buf, n);
-    n
+fn read_slice<R: Read>(source: &mut R, buf: &mut [u32]) -> io::Result<usize> {
+    let n = cases::read_word(source)? as usize;
+    cases::read_words(source, buf, n)?;
+    Ok(n)
 }
 
 // Reads past an answer's length and words.
-fn skip(fd: i32) {
-    let n = cases::read_word(fd) as usize;
+fn skip<R: Read>(source: &mut R) -> io::Result<()> {
+    let n = cases::read_word(source)? as usize;
     let mut i = 0;
     while i < n {
-        cases::read_word(fd);
+        cases::read_word(source)?;
         i += 1;
     }
+    Ok(())
 }
 
 // The stored number, as the checks know it: a case that they let pass has 0.
-fn read_number(fd: i32) -> u32 {
-    let n = cases::read_word(fd);
-    cases::read_word(fd);
-    skip(fd);
-    if n <= 13 { n } else { 0 }
+fn read_number<R: Read>(source: &mut R) -> io::Result<u32> {
+    let n = cases::read_word(source)?;
+    cases::read_word(source)?;
+    skip(source)?;
+    Ok(if n <= 13 { n } else { 0 })
 }
 
 // Replays the next case.
-fn replay(fd: i32, s: &mut [u32], q: &mut [u32], ws: &mut [u32], counts: &mut [u32]) {
-    cases::read_word(fd);
+fn replay<R: Read>(
+    source: &mut R,
+    s: &mut [u32],
+    q: &mut [u32],
+    ws: &mut [u32],
+    counts: &mut [u32],
+) -> io::Result<()> {
+    cases::read_word(source)?;
     let mut head = [0u32; 7];
-    cases::read_words(fd, &mut head, 7);
-    let n = read_slice(fd, s);
-    let m = read_slice(fd, q);
-    let stored = read_number(fd);
+    cases::read_words(source, &mut head, 7)?;
+    let n = read_slice(source, s)?;
+    let m = read_slice(source, q)?;
+    let stored = read_number(source)?;
     let got = number_of(&head, s, n, q, m, ws);
     tally(counts, CASES);
     tally(counts, got as usize);
     if got != stored {
         tally(counts, WRONG);
     }
+    Ok(())
 }
 
 // Replays all cases of a file.
-fn replay_all(fd: i32, ws: &mut [u32], counts: &mut [u32]) {
+fn replay_all<R: Read>(source: &mut R, ws: &mut [u32], counts: &mut [u32]) -> io::Result<()> {
     let mut s = [0u32; 8192];
     let mut q = [0u32; 8192];
-    let n = cases::read_word(fd);
+    let n = cases::read_word(source)?;
     let mut i = 0;
     while i < n {
-        replay(fd, &mut s, &mut q, ws, counts);
+        replay(source, &mut s, &mut q, ws, counts)?;
         i += 1;
     }
+    Ok(())
 }
 
-fn print_line(name: &[u8], n: u32) {
-    io::write_all(STDOUT_FILENO, name);
-    io::print_decimal(STDOUT_FILENO, n as u64);
-    io::write_all(STDOUT_FILENO, &[b'\n']);
+fn print_line(rt: &impl Print, name: &str, n: u32) -> io::Result<()> {
+    println!(rt; "{name}{n}")
 }
 
-fn print_numbers(counts: &[u32]) {
+fn print_numbers(rt: &impl Print, counts: &[u32]) -> io::Result<()> {
     let mut k = 0;
     while k < CASES {
-        io::print_decimal(STDOUT_FILENO, k as u64);
-        print_line(&[b':', b' '], words::word(counts, k));
+        print!(rt; "{k}")?;
+        print_line(rt, ": ", words::word(counts, k))?;
         k += 1;
     }
+    Ok(())
 }
 
 // Replays the file of an argument, and prints what came of it.
-fn run(k: usize, ws: &mut [u32]) {
-    let mut path = io::buffer();
-    let n = os::arg(k, &mut path);
-    let fd = os::open_read(&path[..n]);
-    if fd < 0 {
-        os::fail(&path[..n]);
-        return;
-    }
+fn run(
+    rt: &(impl Files + Print + Eprint + AllocGlobal),
+    args: &[String],
+    k: usize,
+    ws: &mut [u32],
+) -> io::Result<()> {
+    let path = programs::argument(args, k);
+    let file = match fs::open(rt, path) {
+        Ok(file) => file,
+        Err(why) => return programs::fail(rt, path, &why),
+    };
+    let mut source = BufReader::new(rt.alloc(), file)?;
     let mut counts = [0u32; 16];
-    replay_all(fd, ws, &mut counts);
-    libc::close(fd);
-    io::write_all(STDOUT_FILENO, &path[..n]);
-    print_line(
-        &[b' ', b'c', b'a', b's', b'e', b's', b' '],
-        words::word(&counts, CASES),
-    );
-    print_line(
-        &[b'w', b'r', b'o', b'n', b'g', b' '],
-        words::word(&counts, WRONG),
-    );
-    print_numbers(&counts);
+    replay_all(&mut source, ws, &mut counts)?;
+    print!(rt; "{path}")?;
+    print_line(rt, " cases ", words::word(&counts, CASES))?;
+    print_line(rt, "wrong ", words::word(&counts, WRONG))?;
+    print_numbers(rt, &counts)
 }
 
 // The workspace is the one that document 01 asks for.
-fn main() {
+fn main(rt: HostRuntime) -> io::Result<()> {
+    let args: Vec<String> = env::args(&rt)?.collect(rt.alloc())?;
     let mut ws = [0u32; 662794];
-    run(1, &mut ws);
-    run(2, &mut ws);
-    run(3, &mut ws);
+    run(&rt, args.as_slice(), 1, &mut ws)?;
+    run(&rt, args.as_slice(), 2, &mut ws)?;
+    run(&rt, args.as_slice(), 3, &mut ws)
 }

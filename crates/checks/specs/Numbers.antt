@@ -1,5 +1,5 @@
 -- The number of the first check that refuses, 0 for none; and the laws by which code that tests one after the other proves itself.
-use Rattle.std.specs.Prelude.{ℕ, ◌<◌, ◌≤◌, ◌≡◌, Bool, ◌||◌, ◌≢◌, T, eqb, leb, length}
+use Rattle.std.specs.Prelude.{ℕ, ◌<◌, ◌≤◌, ◌≡◌, Bool, ◌||◌, ◌≢◌, T, leb, length}
 use Rattle.std.proofs.Math.Path.{refl, sym}
 use Rattle.std.proofs.Common.{◌∙◌, ap, subst, arith}
 use Rattle.std.proofs.Math.Bool.{true, false, not}
@@ -17,7 +17,7 @@ use Rattle.rules.specs.Acyclic.{sheet_acyclic, question_acyclic}
 use Rattle.rules.specs.Search.{Finder}
 use Rattle.acyclic.specs.Nodes.{Inside}
 use Rattle.acyclic.specs.Sheets.{impl_question_inside, flex_question_inside}
-use Rattle.rules.specs.CheckLaws.{unrefused, not_not}
+use Rattle.rules.specs.CheckLaws.{unrefused}
 use Rattle.rules.specs.Check.{Checks, refusal, of_length, entry, of_sheet, of_ids, of_impl_question, of_flex_question, impl_checks, flex_checks}
 
 -- The number of some checks: that of the first condition that holds, 0 for none.

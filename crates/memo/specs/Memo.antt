@@ -1,12 +1,12 @@
 -- The memo's words, and what it may say: pairs of roots of a table that do not succeed in it and leave it as it is.
 -- Word 512 is how many there are, word 513 is 1 where the table stands since the pair in hand was begun, from 514 on stands each pair's place in the row, from 262658 on the row.
-use Rattle.std.specs.Prelude.{ℕ, zero, suc, ◌+◌, ◌*◌, ◌≤◌, ◌<◌, ◌≡◌, refl, Bool, true, false, List, [], ◌∷◌, ◌≢◌, ◌⊎◌, eqb, length, get_or, set}
+use Rattle.std.specs.Prelude.{ℕ, zero, suc, ◌+◌, ◌*◌, ◌≤◌, ◌<◌, ◌≡◌, refl, true, false, [], ◌∷◌, ◌≢◌, ◌⊎◌, eqb, length, set}
 use Rattle.std.proofs.Common.{sym, ◌∙◌, ap, subst, inl, inr, ⊎_elim, le_of_suc-le-suc, not-suc-le-zero, arith, length-set, get_or-set_same, get_or-set_other}
 use Rattle.std.proofs.Math.Seq.{set_out}
 use Rattle.rules.specs.Lists.{Words}
 use Rattle.rules.specs.Sheet.{at}
 use Rattle.rules.specs.WordLaws.{word_past}
-use Rattle.rules.specs.Types.{Ty, Types, UnifyResult, failure, indeterminate, Unified, unify_roots, unify_in}
+use Rattle.rules.specs.Types.{Types, UnifyResult, failure, indeterminate, Unified, unify_roots, unify_in}
 use Rattle.rules.specs.Transfer.{type_of_word}
 use Rattle.rules.specs.Pigeonholes.{lt_or}
 use Rattle.rules.specs.UnifyEnds.{Enough}

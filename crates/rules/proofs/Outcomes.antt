@@ -8,7 +8,6 @@ use Rattle.std.proofs.Math.Option.{Option, none, some, some-injective, none-ne-s
 use native.Mathlib.Omega.{arith}
 use Rattle.rules.specs.Lists.{Words}
 use Rattle.rules.specs.Limits.{limit_depth}
-use Rattle.rules.specs.Sheet.{at}
 use Rattle.rules.specs.Run.{Out, got, refused, within}
 use Rattle.rules.specs.RunLaws.{same_number, above, at_most, Says, said, Refuses, free_stops, Between}
 use Rattle.rules.proofs.RunLaws.{rises_asking, rises_to, passes, within_stops}

@@ -4,7 +4,6 @@ use Rattle.std.proofs.Math.Path.{refl}
 use Rattle.std.proofs.Common.{sym, ◌∙◌, inl, inr, arith}
 use Rattle.std.proofs.Math.Option.{Option, none, some, some-ne-none}
 use Rattle.rules.specs.Lists.{Words}
-use Rattle.rules.specs.Sheet.{at}
 use Rattle.rules.specs.Run.{Out, refused}
 use Rattle.rules.specs.RunLaws.{same_number, Between, said}
 use Rattle.rules.specs.Search.{Finder}

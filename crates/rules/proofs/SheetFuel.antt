@@ -1,6 +1,6 @@
 -- No walk of a checked sheet's or question's chain is cut short: the count that only serves termination is never used up.
 -- (Ancestors: AncestorLaws. The rounds of `closure`: ReachLaws.)
-use Rattle.std.specs.Prelude.{◌+◌, ◌<◌}
+use Rattle.std.specs.Prelude.{◌+◌}
 use Rattle.std.proofs.Common.{lit<}
 use Rattle.rules.specs.Lists.{Words}
 use Rattle.rules.specs.Layout.{header_length, header_definitions, header_generics, header_traits, header_impls, header_opaques, header_structs, header_enums, header_unions, header_closures, header_imports, import_length, generics_table_word, generics_impl_params, trait_length, impl_table_word, impl_args_word, opaque_length, struct_length, enum_length, union_length, closure_length}

@@ -14,7 +14,7 @@ use Rattle.rules.specs.Solutions.{rep, AllIn, ChildrenIn, WellFormed, Readable}
 use Rattle.rules.specs.Search.{Finder}
 use Rattle.rules.specs.Chains.{sheet_keeps}
 use Rattle.rules.specs.Values.{in_table, node_fits, node_ok, table_ok, generics_ok, impl_ok}
-use Rattle.rules.specs.Acyclic.{acyclic, sheet_acyclic, question_acyclic}
+use Rattle.rules.specs.Acyclic.{acyclic, sheet_acyclic}
 use Rattle.rules.specs.AcyclicLaws.{Down, all_at, map-length}
 use Rattle.rules.specs.NoCycles.{acyclic_iff}
 use Rattle.rules.specs.Readings.{Acyclic, readable_ranked, flat_inside, flat_readable}

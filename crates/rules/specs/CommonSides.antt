@@ -1,5 +1,5 @@
 -- Sides, inverted or not: inversions one on another, which types of their roots nodes are after a join, and that two known types that met have one side where their kind is not its own inverse.
-use Rattle.std.specs.Prelude.{ℕ, zero, suc, ◌+◌, ◌*◌, ◌<◌, ◌≡◌, refl, Bool, true, false, not, ◌&&◌, ◌||◌, List, [], ◌≢◌, T, eqb, length}
+use Rattle.std.specs.Prelude.{ℕ, zero, suc, ◌+◌, ◌*◌, ◌<◌, ◌≡◌, refl, Bool, true, false, not, ◌&&◌, ◌||◌, List, ◌≢◌, T, eqb, length}
 use Rattle.std.proofs.Math.Path.{sym, ap, subst}
 use Rattle.std.proofs.Common.{◌∙◌, true≢false, ⊎_elim, not-suc-le-zero, arith, eqb→eq}
 use Rattle.std.proofs.Math.Decide.{ℕ_discrete}

@@ -9,7 +9,7 @@ use Rattle.std.proofs.Math.ListN.{length}
 use Rattle.rules.specs.Lists.{Words, all}
 use Rattle.rules.specs.Sheet.{kind_flag, row_own_inverse}
 use Rattle.rules.specs.Types.{Ty, TypeState, unknown, known, Types, invert_if, invert_state, find, state_at, kind, self_inverse_in, self_inverse}
-use Rattle.rules.specs.Solutions.{Term, var, con, nil, cons, term_size, Sol, terms, rep, Fits, Solves, AllIn, ChildrenIn, WellFormed, Free, Fuel, fuel_none, fuel_step, fuel_less, fuel_full}
+use Rattle.rules.specs.Solutions.{Term, var, con, nil, cons, term_size, Sol, terms, rep, Fits, Solves, AllIn, ChildrenIn, WellFormed, Free, Fuel, fuel_none, fuel_step, fuel_full}
 
 -- A term of types that are their own inverse, and no unknown.
 abbrev pub Own : Words → Term → Type 0

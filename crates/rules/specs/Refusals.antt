@@ -10,7 +10,6 @@ use Rattle.rules.specs.Limits.{limit_workspace}
 use Rattle.rules.specs.Sheet.{at}
 use Rattle.rules.specs.Run.{Out, got, refused}
 use Rattle.rules.specs.RunLaws.{got_not_refused, same_number, Between, Says, said, Refuses}
-use Rattle.rules.specs.Check.{entry}
 use Rattle.rules.specs.Calls.{answer_after, work_after}
 use Rattle.rules.specs.Outcomes.{Counted, Flex_late, Searched}
 

@@ -1,19 +1,19 @@
 -- One result more behind n of a question: as it stands, under a Def, or as the trees behind a tree. `add_results` of the rules, for one result.
-use Rattle.std.specs.Prelude.{ℕ, suc, ◌+◌, ◌*◌, ◌≤◌, ◌<◌, ◌≡◌, refl, List, [], ◌∷◌, ◌++◌, ◌≢◌, ◌⊎◌, ltb, length, drop}
-use Rattle.std.proofs.Common.{sym, ◌∙◌, ap, subst, inl, inr, ⊎_elim, arith, lt-ltb, le-ltb, length-append}
+use Rattle.std.specs.Prelude.{ℕ, ◌+◌, ◌*◌, ◌≤◌, ◌<◌, ◌≡◌, refl, List, [], ◌∷◌, ◌++◌, ◌≢◌, length, drop}
+use Rattle.std.proofs.Common.{◌∙◌, ap, subst, inl, inr, arith, lt-ltb, le-ltb}
 use Rattle.rules.specs.Lists.{Words}
 use Rattle.rules.specs.Limits.{limit_results, limit_tree_nodes}
 use Rattle.rules.specs.Layout.{tree_def}
 use Rattle.rules.specs.Sheet.{at}
 use Rattle.rules.specs.Types.{Types}
-use Rattle.rules.specs.Run.{Run, stop}
+use Rattle.rules.specs.Run.{stop}
 use Rattle.rules.specs.Search.{Trees, end, tree, tree_size, leaf, before, Result, add_results}
-use Rattle.table.specs.Packing.{types_of, Packed}
-use Rattle.trees.specs.Forests.{Holds, Held, Single, Apart}
+use Rattle.table.specs.Packing.{types_of}
+use Rattle.trees.specs.Forests.{Held, Single}
 use Rattle.trees.specs.Changes.{Copies, Appends, Wraps, size-before, holds-apart}
 use Rattle.slots.specs.declared.Adding.{Adding}
 use Rattle.slots.specs.declared.Adding.TheVariants.{Added, Refused}
-use Rattle.slots.specs.Slots.{slot_length, slot_trees, Table, Slot, Slots, Written, table_move, slots_kept, slots_more}
+use Rattle.slots.specs.Slots.{slot_length, Slot, Slots, Written, table_move, slots_kept, slots_more}
 use Rattle.slots.specs.Copies.{Beside, Filled, Tabled, Doubles, trees_apart, trees_few, trees_kept, with_trees}
 
 -- Where a question's results end: its part has slots 0 to 4 for itself.

@@ -1,16 +1,15 @@
 -- Slots copied within one slice: what the code is told and leaves, with the laws that it cites.
 use Rattle.std.specs.Prelude.{ℕ, ◌+◌, ◌*◌, ◌≤◌, ◌<◌, ◌≡◌, refl, ◌⊎◌, length, drop}
-use Rattle.std.proofs.Common.{sym, ◌∙◌, ap, subst, inl, inr, ⊎_elim, arith, length-drop, get_or-drop}
+use Rattle.std.proofs.Common.{◌∙◌, ap, subst, inl, inr, ⊎_elim, arith, length-drop, get_or-drop}
 use Rattle.rules.specs.Lists.{Words}
-use Rattle.rules.specs.Limits.{limit_nodes}
 use Rattle.rules.specs.Sheet.{at}
 use Rattle.rules.specs.Types.{Types}
-use Rattle.rules.specs.Search.{Trees, end, Result, tree_size}
+use Rattle.rules.specs.Search.{Trees, Result}
 use Rattle.table.specs.Packing.{types_of, Packed}
 use Rattle.trees.specs.Forests.{Holds, Held, Apart}
 use Rattle.trees.specs.Carries.{Carries, Clear}
 use Rattle.trees.specs.Changes.{Copies, holds_same}
-use Rattle.slots.specs.Slots.{slot_length, slot_trees, Table, Slot, Written, table_move, slot_move}
+use Rattle.slots.specs.Slots.{slot_length, slot_trees, Table, Slot, Written, table_move}
 
 -- Two slots that have no word in common.
 pub record Beside (a b : ℕ) : Type 0 where

@@ -1,12 +1,11 @@
 -- Results of a sub-search added behind those of a search, one by one: `add_results` of the rules.
-use Rattle.std.specs.Prelude.{ℕ, suc, ◌+◌, ◌*◌, ◌≤◌, ◌<◌, ◌≡◌, refl, Bool, List, [], ◌∷◌, ◌++◌, map, length, drop}
-use Rattle.std.proofs.Common.{sym, ◌∙◌, subst, add-one, arith, length-append, length-drop, drop-cons}
+use Rattle.std.specs.Prelude.{ℕ, ◌+◌, ◌*◌, ◌≤◌, ◌<◌, ◌≡◌, refl, Bool, List, [], ◌∷◌, ◌++◌, map, length, drop}
+use Rattle.std.proofs.Common.{sym, ◌∙◌, add-one, arith, length-append, length-drop, drop-cons}
 use Rattle.std.proofs.Math.Path.{ap}
 use Rattle.std.proofs.Math.ListN.{get_or}
 use Rattle.rules.specs.Lists.{Words}
-use Rattle.rules.specs.Limits.{limit_results}
 use Rattle.rules.specs.Sheet.{at}
-use Rattle.rules.specs.Run.{Run, done, stop, ◌>>=◌, Out, got, refused, within}
+use Rattle.rules.specs.Run.{within}
 use Rattle.rules.specs.Search.{end, Result, add_results}
 use Rattle.trees.specs.Forests.{Single}
 use Rattle.slots.specs.declared.Adding.{Adding}
@@ -15,8 +14,8 @@ use Rattle.slots.specs.declared.Asked.{Asked}
 use Rattle.slots.specs.declared.Asked.TheVariants.{Found, Refused}
 use Rattle.slots.specs.Slots.{slot_length, Slot, Slots, slot_kept, slots_kept}
 use Rattle.slots.specs.Copies.{Filled}
-use Rattle.slots.specs.Adding.{results_end, Enters, Adds, Gives, behind, Element, Joins}
-use Rattle.slots.specs.Turns.{count_most, Answers, answers_refused, answers_found}
+use Rattle.slots.specs.Adding.{results_end, Adds, Gives, behind, Element, Joins}
+use Rattle.slots.specs.Turns.{Answers, answers_refused, answers_found}
 
 -- Some m results stand from a place on.
 pub record Row (ws : Words) (a m : ℕ) : Type 0 where

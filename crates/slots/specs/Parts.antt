@@ -1,14 +1,13 @@
 -- A part of a slice that was lent and came back: what stands in the one stands in the other.
-use Rattle.std.specs.Prelude.{ℕ, ◌+◌, ◌-◌, ◌*◌, ◌≤◌, ◌<◌, min, ◌≡◌, refl, List, [], ◌∷◌, ◌++◌, length, get_or, take, drop}
-use Rattle.std.proofs.Common.{sym, ◌∙◌, ap, subst, arith, length-drop, length-take, get_or-append-add, get_or-take, get_or-drop, length-take-le}
+use Rattle.std.specs.Prelude.{ℕ, ◌+◌, ◌-◌, ◌*◌, ◌≤◌, ◌<◌, ◌≡◌, List, ◌++◌, length, take, drop}
+use Rattle.std.proofs.Common.{sym, ◌∙◌, ap, arith, length-drop, get_or-append-add, get_or-take, get_or-drop, length-take-le}
 use Rattle.std.proofs.Math.ListN.{get_or-append}
 use borrow.Rule.Slice.PartMut.{put_mid, post_of, same_len_mid}
 use Rattle.rules.specs.Lists.{Words}
 use Rattle.rules.specs.Sheet.{at}
 use Rattle.rules.specs.Types.{Types}
 use Rattle.rules.specs.Search.{Result}
-use Rattle.table.specs.Packing.{types_of, Packed}
-use Rattle.slots.specs.Slots.{slot_length, Table, Slot, Slots, table_move, slot_move, slots_move}
+use Rattle.slots.specs.Slots.{slot_length, Table, Slots, table_move, slots_move}
 
 -- The words from a on, as they are lent.
 abbrev pub part : ℕ → Words → Words

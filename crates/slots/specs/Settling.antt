@@ -1,12 +1,12 @@
 -- What a sub-search answered is added behind the results of a search, or its refusal is handed on; and that this is a step of the search's loop.
-use Rattle.std.specs.Prelude.{ℕ, ◌+◌, ◌*◌, ◌≤◌, ◌<◌, ◌≡◌, ltb}
+use Rattle.std.specs.Prelude.{ℕ, ◌+◌, ◌≤◌, ◌<◌, ◌≡◌, ltb}
 use Rattle.std.proofs.Math.Path.{refl}
 use Rattle.std.proofs.Common.{sym, ◌∙◌, ap, subst, arith}
-use mathlib.Core.List.{List, [], ◌∷◌, map}
+use mathlib.Core.List.{List, map}
 use Rattle.std.proofs.Math.ListN.{length}
 use Rattle.rules.specs.Lists.{Words}
 use Rattle.rules.specs.Sheet.{at}
-use Rattle.rules.specs.Run.{Run, done, ◌>>=◌, Out, got, refused, within}
+use Rattle.rules.specs.Run.{Run, done, ◌>>=◌, within}
 use Rattle.rules.specs.Search.{Result, add_results}
 use Rattle.trees.specs.Forests.{Single}
 use Rattle.slots.specs.declared.Asked.{Asked}
@@ -14,7 +14,7 @@ use Rattle.slots.specs.declared.Asked.TheVariants.{Found, Refused}
 use Rattle.slots.specs.Slots.{slot_length, Slot, Slots}
 use Rattle.slots.specs.Adding.{results_end, behind}
 use Rattle.slots.specs.Gathering.{Row, Gathers, JoinGathers}
-use Rattle.slots.specs.Turns.{count_most, Got, Answers, answers_refused, answers_same, then_got, then_refused, bind_assoc, adding, Stepped}
+use Rattle.slots.specs.Turns.{Answers, answers_refused, answers_same, then_got, then_refused, bind_assoc, adding, Stepped}
 use Rattle.slots.specs.Parts.{Lent, slots_back, slots_front}
 
 -- If a sub-search found results, they stand from a place on.

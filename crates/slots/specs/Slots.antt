@@ -1,6 +1,6 @@
 -- Results of a search (`Result`: types and trees) in slots of one lent slice. A slot is a packed table and a buffer of trees behind it.
 -- What stands in slots, and that it depends on their words alone.
-use Rattle.std.specs.Prelude.{ℕ, zero, suc, ◌+◌, ◌*◌, ◌≤◌, ◌<◌, min, ◌≡◌, refl, List, [], ◌∷◌, ◌++◌, ◌⊎◌, length, get_or, drop}
+use Rattle.std.specs.Prelude.{ℕ, ◌+◌, ◌*◌, ◌≤◌, ◌<◌, min, ◌≡◌, List, [], ◌∷◌, ◌++◌, ◌⊎◌, length, get_or, drop}
 use Rattle.std.proofs.Common.{sym, ◌∙◌, ap, subst, ⊎_elim, eq-or-lt_of_le, arith, length-drop, length-append, get_or-drop}
 use Rattle.std.proofs.Math.ListN.{get_or-append}
 use Rattle.std.proofs.Math.Seq.{get_or-append_seam}
@@ -8,9 +8,9 @@ use Rattle.rules.specs.Lists.{Words}
 use Rattle.rules.specs.Limits.{limit_nodes}
 use Rattle.rules.specs.Sheet.{at}
 use Rattle.rules.specs.Types.{Types}
-use Rattle.rules.specs.Search.{Trees, end, Result, tree_size}
-use Rattle.table.specs.Packing.{up_to, node_of, types_of, Counted, Packed, Becomes}
-use Rattle.table.specs.Nodes.{up_to-same, types_length}
+use Rattle.rules.specs.Search.{Trees, end, Result}
+use Rattle.table.specs.Packing.{up_to, node_of, types_of, Counted, Packed}
+use Rattle.table.specs.Nodes.{up_to-same}
 use Rattle.table.specs.Writes.{node-same}
 use Rattle.trees.specs.Forests.{Holds}
 use Rattle.trees.specs.Changes.{lies_same}

@@ -1,6 +1,6 @@
 -- A search's answer in the code's words, and its loops: the whole run is what is left of it from the results that stand at the front.
 -- The step limit is a parameter.
-use Rattle.std.specs.Prelude.{ℕ, ◌+◌, ◌*◌, ◌≤◌, ◌<◌, ◌≡◌, refl, Bool, List, [], ◌∷◌, ◌++◌, map, ltb, length}
+use Rattle.std.specs.Prelude.{ℕ, ◌≤◌, ◌≡◌, refl, Bool, List, [], ◌∷◌, ltb, length}
 use Rattle.std.proofs.Common.{sym, ◌∙◌, ap, arith}
 use Rattle.rules.specs.Lists.{Words}
 use Rattle.rules.specs.Limits.{limit_results}

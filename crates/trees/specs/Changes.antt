@@ -1,5 +1,5 @@
 -- Laws of the changes of a buffer of trees: what it holds after each, and that what lies outside it is as it was.
-use Rattle.std.specs.Prelude.{ℕ, zero, suc, ◌+◌, ◌-◌, ◌≤◌, ◌<◌, ◌≡◌, refl, ◌∷◌, ◌++◌, ◌≢◌, ◌⊎◌, length, set, drop}
+use Rattle.std.specs.Prelude.{ℕ, zero, suc, ◌+◌, ◌-◌, ◌≤◌, ◌<◌, ◌≡◌, refl, ◌∷◌, ◌++◌, ◌≢◌, length, set, drop}
 use Rattle.std.proofs.Common.{sym, ◌∙◌, ap, append-nil, inl, inr, ⊎_elim, arith, length-set, length-append, get_or-set_same, get_or-set_other, get_or-append-add, get_or-drop}
 use Rattle.std.proofs.Math.ListN.{get_or-append}
 use Rattle.rules.specs.Lists.{Words}

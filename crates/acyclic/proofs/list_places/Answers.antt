@@ -1,5 +1,5 @@
 -- `list_places`: the places written and those still to come are the chain's.
-use Rattle.std.proofs.Common.{◌-◌, rules}
+use Rattle.std.proofs.Common.{rules}
 use Rattle.acyclic.specs.Tables.{list_start, list_end, list_on, list_full}
 use Rattle.acyclic.proofs.list_places.Goals as goal
 

@@ -1,5 +1,5 @@
 -- `walk_table`: the nodes passed are finished.
-use Rattle.std.proofs.Common.{◌-◌, rules}
+use Rattle.std.proofs.Common.{rules}
 use Rattle.acyclic.specs.Tables.{walks_start, node_in, walks_place, walks_on, walks_past, walks_deep, walks_end}
 use Rattle.acyclic.proofs.walk_table.Goals as goal
 

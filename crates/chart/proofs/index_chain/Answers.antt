@@ -1,5 +1,4 @@
 -- `index_chain`: the places written and those still to come are the chain's.
-use Prim.Native.Nat.{◌-◌}
 use Rattle.chart.specs.Index.{index_start, index_end, index_full, index_room, index_on}
 use borrow.Author.Rules.{rules}
 use Rattle.chart.proofs.index_chain.Goals as goal

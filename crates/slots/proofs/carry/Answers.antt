@@ -1,5 +1,5 @@
 -- `carry`: the words from i on are carried; no word is overwritten before it is read.
-use Rattle.std.proofs.Common.{◌-◌, rules}
+use Rattle.std.proofs.Common.{rules}
 use Rattle.trees.specs.Carries.{lasts_none, lasts_more, lasts_done}
 use Rattle.slots.proofs.carry.Goals as goal
 

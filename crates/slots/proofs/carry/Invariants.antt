@@ -1,5 +1,5 @@
 -- `carry`: the words from i on are carried; no word is overwritten before it is read.
-use Rattle.std.proofs.Common.{◌≤◌, ◌-◌}
+use Rattle.std.proofs.Common.{◌≤◌}
 use Rattle.trees.specs.Carries.{Lasts}
 use Rattle.slots.proofs.carry.Given as goal
 

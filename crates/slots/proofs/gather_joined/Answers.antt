@@ -1,5 +1,5 @@
 -- `gather_joined`: k of the results are added.
-use Rattle.std.proofs.Common.{◌-◌, rules}
+use Rattle.std.proofs.Common.{rules}
 use Rattle.slots.specs.Gathering.{element_next, join_filled_next, joining_none, joining_more, joining_few, joining_stops, joining_done}
 use Rattle.slots.proofs.gather_joined.Goals as goal
 

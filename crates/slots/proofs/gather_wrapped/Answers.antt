@@ -1,5 +1,5 @@
 -- `gather_wrapped`: k of the results are added.
-use Rattle.std.proofs.Common.{◌-◌, rules}
+use Rattle.std.proofs.Common.{rules}
 use Rattle.slots.specs.Gathering.{filled_next, gathering_none, gathering_more, gathering_stops, gathering_done}
 use Rattle.slots.proofs.gather_wrapped.Goals as goal
 

@@ -10,11 +10,6 @@
 -- src/lib.rt:242:1
 use Rattle.table.specs.ChildTypes.{digit_small, child_type_at}
 use borrow.Author.Rules.{rules}
-use Rattle.table.proofs.child_type.Reads as reads
-use Rattle.table.proofs.child_type.Lts as lts
-use Rattle.table.proofs.digit_of.Reads as digit-of-reads
-use Rattle.table.proofs.type_read.Reads as type-read-reads
-use Rattle.table.proofs.wide.Reads as wide-reads
 use Rattle.table.proofs.child_type.Goals as goal
 
 pub type_read-requires-clause-t_bound : goal.type_read-requires-clause-t_bound

@@ -1,6 +1,5 @@
 -- `next_apart`: the children passed are alike.
 use borrow.Author.Rules.{rules}
-use Prim.Native.Nat.{◌-◌}
 use Rattle.table.specs.Alike.{parent_low, child_low, alike_none, alike_more}
 use Rattle.table.proofs.next_apart.Goals as goal
 

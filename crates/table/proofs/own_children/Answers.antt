@@ -8,10 +8,6 @@
 -- src/lib.rt:233:1
 use Rattle.table.specs.ChildTypes.{known_place, own_row}
 use borrow.Author.Rules.{rules}
-use Rattle.table.proofs.own_children.Reads as reads
-use Rattle.table.proofs.own_children.Lts as lts
-use Rattle.table.proofs.own_arity.Reads as own-arity-reads
-use Rattle.table.proofs.wide.Reads as wide-reads
 use Rattle.table.proofs.own_children.Goals as goal
 
 pub bounds-ws-wide : goal.bounds-ws-wide

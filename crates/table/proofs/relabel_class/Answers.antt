@@ -1,6 +1,5 @@
 -- `relabel_class`: the nodes passed are relabelled.
 use borrow.Author.Rules.{rules}
-use Prim.Native.Nat.{◌-◌}
 use Rattle.table.specs.Joins.{firsts-none, firsts_long, firsts_in, firsts_more, firsts_done}
 use Rattle.table.proofs.relabel_class.Goals as goal
 

@@ -10,9 +10,6 @@
 -- src/lib.rt:177:1
 use Rattle.table.specs.ChildTypes.{type_read_word}
 use borrow.Author.Rules.{rules}
-use Rattle.table.proofs.type_read.Reads as reads
-use Rattle.table.proofs.type_read.Lts as lts
-use Rattle.table.proofs.wide.Reads as wide-reads
 use Rattle.table.proofs.type_read.Goals as goal
 
 pub returns : goal.returns

@@ -1,5 +1,5 @@
 -- `carry`: so many words are carried.
-use Rattle.std.proofs.Common.{◌-◌, rules}
+use Rattle.std.proofs.Common.{rules}
 use Rattle.trees.specs.Carries.{carries_none, carries_more, carries_done}
 use Rattle.trees.proofs.carry.Goals as goal
 

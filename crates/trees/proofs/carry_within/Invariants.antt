@@ -1,5 +1,5 @@
 -- `carry_within`: the words from i on are carried; no word is overwritten before it is read.
-use Rattle.std.proofs.Common.{◌≤◌, ◌-◌}
+use Rattle.std.proofs.Common.{◌≤◌}
 use Rattle.trees.specs.Carries.{Lasts}
 use Rattle.trees.proofs.carry_within.Given as goal
 

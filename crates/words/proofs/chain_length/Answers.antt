@@ -1,5 +1,4 @@
 -- `chain_length`: the records passed and those still to come are the chain's.
-use Prim.Native.Nat.{◌-◌}
 use borrow.Author.Rules.{rules}
 use Rattle.rules.specs.WordLaws.{count_start, count_end, count_on, count_full}
 use Rattle.words.proofs.chain_length.Goals as goal

@@ -1,5 +1,4 @@
 -- `clear`: so many words are cleared.
-use Prim.Native.Nat.{◌-◌}
 use Rattle.words.specs.Buffers.{cleared-none, cleared_more, cleared-all, cleared_done}
 use borrow.Author.Rules.{rules}
 use Rattle.words.proofs.clear.Goals as goal

@@ -1,5 +1,4 @@
 -- `copy`: so many words are copied.
-use Prim.Native.Nat.{◌-◌}
 use Rattle.words.specs.Buffers.{copied_none, copied_more, copied_all_from, copied_all_to, copied_done}
 use borrow.Author.Rules.{rules}
 use Rattle.words.proofs.copy.Goals as goal

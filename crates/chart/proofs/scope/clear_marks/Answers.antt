@@ -1,5 +1,4 @@
 -- `clear_marks`: so many words are 0.
-use Prim.Native.Nat.{◌-◌}
 use Rattle.chart.specs.Ancestors.{blank_none, blank_more, blank_all}
 use borrow.Author.Rules.{rules}
 use Rattle.chart.proofs.scope.clear_marks.Goals as goal

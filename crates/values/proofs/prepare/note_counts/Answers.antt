@@ -1,5 +1,5 @@
 -- `note_counts`: so many header words are counted.
-use Rattle.std.proofs.Common.{◌-◌, rules}
+use Rattle.std.proofs.Common.{rules}
 use Rattle.values.specs.Tables.{counted_none, counted_more, counted-all, count_fits}
 use Rattle.values.proofs.prepare.note_counts.Goals as goal
 
