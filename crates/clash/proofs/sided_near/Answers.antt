@@ -1,0 +1,10 @@
+-- `sided_near`: by the kind table.
+use Rattle.std.proofs.Common.{rules}
+use Rattle.refs.specs.Refs.{sided_not, sided_flag}
+use Rattle.clash.proofs.sided_near.Goals as goal
+
+pub returns-then-kind_flag : goal.returns-then-kind_flag
+returns-then-kind_flag c = search (rules, sided_not)
+
+pub returns : goal.returns
+returns c = search (rules, sided_flag)
