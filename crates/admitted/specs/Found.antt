@@ -3,7 +3,7 @@ use Prim.Native.Nat.{ℕ, zero, suc, ◌+◌, ◌*◌, ◌-◌, ◌≤◌, ◌<�
 use Rattle.std.specs.Prelude.{◌≡◌, Bool, true, false, ◌≢◌, ◌↔◌, T, eqb, ltb, leb, length, get_or, set}
 use Rattle.std.proofs.Math.Path.{refl, sym, ap, ap₂}
 use Rattle.std.proofs.Common.{◌∙◌, subst, ltb→lt, lt→ltb, le→leb, length-set, eq-eqb, ne_eqb}
-use Rattle.std.proofs.Math.Option.{Option, none, some}
+use Rattle.std.proofs.Math.Option.{some}
 use mathlib.Core.List.{List, [], ◌∷◌, ◌++◌, map}
 use native.Mathlib.Omega.{arith}
 use Rattle.std.proofs.Math.ListN.{take}
@@ -18,7 +18,6 @@ use Rattle.rules.proofs.CheckLaws.{passed}
 use Rattle.rules.specs.CheckedSheet.{valid}
 use Rattle.rules.specs.Members.{In, in_empty, select_in, rising_unique}
 use Rattle.rules.specs.Candidates.{within_def, within_ancestors, node_count, get_candidates}
-use Rattle.rules.specs.Admission.{Admits, SomeAdmits}
 use Rattle.rules.proofs.AdmissionLaws.{candidates, candidates_rise}
 use Rattle.rules.specs.Run.{Run, done, stop, asks, ◌>>=◌}
 use Rattle.rules.specs.Search.{Finder, inherent_mods, find_impl_candidates}

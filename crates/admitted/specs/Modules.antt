@@ -1,9 +1,8 @@
 -- The modules of the inherent arguments, as nodes that are written one behind the other. A node that is none of the sheet's is left out: no set is its own.
 use Rattle.std.specs.Prelude.{ℕ, zero, suc, ◌+◌, ◌*◌, ◌/◌, ◌≤◌, ◌<◌, ◌≡◌, Bool, true, false, ◌≢◌, List, [], ◌∷◌, ◌++◌, map, ltb, length, get_or, set, take, drop}
 use Rattle.std.proofs.Math.Path.{refl, sym, ap}
-use Rattle.std.proofs.Common.{◌∙◌, subst, append_assoc, append-nil, add-one, arith, drop_of_length-le, take_all, take_at, length-take-le, drop-cons, lt-ltb, le-ltb}
+use Rattle.std.proofs.Common.{◌∙◌, subst, append_assoc, append-nil, add-one, arith, drop_of_length-le, take_all, drop-cons, lt-ltb, le-ltb}
 use Rattle.std.proofs.Math.Seq.{take-length}
-use Rattle.std.proofs.lemmas.List.{set_split}
 use Rattle.rules.specs.Lists.{Words, select}
 use Rattle.rules.specs.Types.{Ty, TypeState, unknown, known, Types, invert_if, invert_state, find, state_at, kind}
 use Rattle.rules.specs.Transfer.{type_of_word}

@@ -1,6 +1,6 @@
 -- Bits of words, and rows of bits: bit j of the row at place p is bit j % 32 of word p + j / 32. What setting a bit and joining two rows make of a buffer.
-use Rattle.std.specs.Prelude.{ℕ, zero, suc, ◌+◌, ◌*◌, ◌-◌, ◌/◌, ◌%◌, ◌^◌, ◌≤◌, ◌<◌, max, ◌≡◌, refl, Bool, true, false, not, ◌||◌, List, [], ◌∷◌, ◌⊎◌, ◌≢◌, T, eqb, length, get_or, set}
-use Rattle.std.proofs.Common.{sym, ◌∙◌, ap, ap₂, subst, inl, inr, ⊎_elim, add-one, le_refl, not-suc-le-zero, le_of_suc-le-suc, zero-lt-suc, mod-lt, one-mul, mod-eq_of_lt, pow-suc, arith, length-set, pow_pos, pow-add, Fits, eq-eqb, ne_eqb, eqb-true}
+use Rattle.std.specs.Prelude.{ℕ, zero, suc, ◌+◌, ◌*◌, ◌-◌, ◌/◌, ◌%◌, ◌^◌, ◌≤◌, ◌<◌, max, ◌≡◌, refl, Bool, true, false, not, ◌||◌, [], ◌∷◌, ◌≢◌, T, eqb, length, set}
+use Rattle.std.proofs.Common.{sym, ◌∙◌, ap, subst, add-one, not-suc-le-zero, le_of_suc-le-suc, zero-lt-suc, mod-lt, pow-suc, arith, pow-add, Fits, eq-eqb, ne_eqb, eqb-true}
 use Rattle.std.proofs.Math.Nat.{div-eq_of_lt}
 use Rattle.std.specs.Int.Bits.{bit_or, or_step, or_add_and}
 use Rattle.std.proofs.lemmas.Nat.{or_shr, or_lt, and_le_r, shl-shr}

@@ -1,24 +1,24 @@
 -- What is built for a source: rows of reach, of which the components are those of the rules, and the candidate sets, which hold what the rules say that they admit.
-use Rattle.std.specs.Prelude.{ℕ, zero, suc, ◌+◌, ◌*◌, ◌-◌, ◌/◌, ◌%◌, ◌≤◌, ◌<◌, ◌≡◌, Bool, true, false, not, ◌||◌, ◌&&◌, List, [], ◌∷◌, ◌⊎◌, ◌↔◌, ◌≢◌, length}
+use Rattle.std.specs.Prelude.{ℕ, ◌+◌, ◌*◌, ◌/◌, ◌%◌, ◌≤◌, ◌<◌, ◌≡◌, Bool, true, false, not, ◌||◌, ◌&&◌, [], ◌∷◌, ◌⊎◌, ◌↔◌, ◌≢◌, length}
 use Rattle.std.proofs.Math.Path.{refl, ap, subst}
-use Rattle.std.proofs.Common.{sym, ◌∙◌, ap₂, inl, inr, ⊎_elim, not-suc-le-zero, le_of_suc-le-suc, arith, eqb→eq, T_not}
+use Rattle.std.proofs.Common.{sym, ◌∙◌, ap₂, inl, inr, ⊎_elim, arith, eqb→eq, T_not}
 use Rattle.std.proofs.Math.Dec.{T, eqb, eqb_refl, not_T}
 use Rattle.rules.specs.Lists.{Words, any, is_in}
-use Rattle.rules.specs.Layout.{header_definitions, header_impls, binding_vis, binding_impl, flag_manual, flag_unsafe, flag_named}
+use Rattle.rules.specs.Layout.{header_definitions, binding_vis, binding_impl, flag_manual, flag_unsafe, flag_named}
 use Rattle.rules.specs.Sheet.{at, many, bindings, impl_flag, impl_trait}
 use Rattle.rules.specs.Reach.{reach}
-use Rattle.rules.specs.Members.{In, first, later, in_cases, in_empty, any_in, and_iff, not_iff, is_in_in, same_test}
+use Rattle.rules.specs.Members.{In, first, in_cases, in_empty, any_in, and_iff, not_iff, is_in_in, same_test}
 use Rattle.rules.specs.CheckLaws.{Checked}
 use Rattle.rules.proofs.CheckLaws.{passed}
-use Rattle.rules.specs.CheckedSheet.{valid, graph-length}
-use Rattle.rules.specs.Candidates.{Edge, edges, node_count, graph, linked, same_component, ancestors, visible, may_enter, admitted}
+use Rattle.rules.specs.CheckedSheet.{valid}
+use Rattle.rules.specs.Candidates.{Edge, edges, node_count, graph, linked, same_component, may_enter, admitted}
 use Rattle.rules.specs.Admission.{EdgeFrom, Reaches, arrived, along, Together, LetsIn, OpenPath, stays, onward, binding_node, Binds, Admits}
 use Rattle.rules.proofs.Components.{reaches_on, edge_to, reaches_node, reach_paths, components}
 use Rattle.rules.proofs.AdmissionLaws.{visible_iff, open_node, admission}
 use Rattle.words.specs.Buffers.{cleared}
 use Rattle.candidates.specs.Layout.{rows_links, rows_open, rows_reach, rows_sets, rows_end, index_definitions, candidates_length}
 use Rattle.candidates.specs.Bits.{bit, on}
-use Rattle.candidates.specs.Spread.{leads, has, Walk, stay, step, walk_on, walk_same, Comes, Grown, Spread, spread_back, spread_has, Rows, Kin, Kindred, kin_selves, kin_open}
+use Rattle.candidates.specs.Spread.{leads, has, Walk, stay, step, walk_on, walk_same, Comes, Spread, spread_back, spread_has, Rows, Kin, Kindred, kin_selves, kin_open}
 use Rattle.candidates.specs.Index.{Indexes, IndexedAll, indexes_keep, indexes_same}
 use Rattle.candidates.specs.Source.{Sourced, seen, seen_is, cleared_at}
 use Rattle.candidates.specs.Links.{LinkingAll, Built, to, lets, seen_same, bit-zero}

@@ -1,13 +1,12 @@
 -- Candidates by id from the sets that stand in the workspace. The ids that are found one after the other are the lists of the rules.
-use Rattle.std.specs.Prelude.{ℕ, zero, suc, ◌+◌, ◌*◌, ◌-◌, ◌/◌, ◌%◌, ◌≤◌, ◌<◌, ◌≡◌, refl, Bool, true, false, not, ◌||◌, ◌&&◌, List, [], ◌∷◌, ◌⊎◌, ◌↔◌, ◌≢◌, T, eqb, leb, length, get_or, drop}
-use Rattle.std.proofs.Common.{sym, ◌∙◌, ap, ap₂, subst, inl, inr, ⊎_elim, not-suc-le-zero, le_of_suc-le-suc, add-one, arith, leb→le, le→leb, eqb→eq, drop_of_length-le, drop-cons, eqb-true, eq-eqb, ne_eqb}
+use Rattle.std.specs.Prelude.{ℕ, zero, suc, ◌+◌, ◌*◌, ◌-◌, ◌/◌, ◌%◌, ◌≤◌, ◌<◌, ◌≡◌, refl, Bool, true, false, not, ◌||◌, ◌&&◌, [], ◌∷◌, ◌↔◌, ◌≢◌, T, eqb, leb, length, get_or, drop}
+use Rattle.std.proofs.Common.{sym, ◌∙◌, ap, ap₂, subst, ⊎_elim, add-one, arith, leb→le, le→leb, eqb→eq, drop_of_length-le, drop-cons, eqb-true, eq-eqb, ne_eqb}
 use Rattle.std.proofs.Math.Dec.{eqb_refl}
 use Rattle.std.proofs.lemmas.Bool.{eqb-false}
 use Rattle.rules.specs.Lists.{Words, any, select, is_in}
 use Rattle.rules.specs.Layout.{header_definitions, header_impls, flag_basic}
-use Rattle.rules.specs.Limits.{limit_impls}
 use Rattle.rules.specs.Sheet.{at, many, field, impl_flag, impl_trait}
-use Rattle.rules.specs.Members.{In, first, later, in_cases, in_empty, any_in, and_iff, is_in_in, same_test, select_in, select_rising, Rising, rising_unique}
+use Rattle.rules.specs.Members.{In, first, later, in_cases, in_empty, any_in, and_iff, is_in_in, select_in, select_rising, Rising, rising_unique}
 use Rattle.rules.specs.CheckLaws.{Checked}
 use Rattle.rules.proofs.CheckLaws.{passed}
 use Rattle.rules.specs.CheckedSheet.{valid}

@@ -1,20 +1,19 @@
 -- The rows of the edges: row x at `rows_links` says to which nodes an edge leads from node x, row x at `rows_open` to which an edge leads whose vis lets the source in.
 use Prim.Native.Nat.{ℕ, zero, suc, ◌+◌, ◌*◌, ◌-◌, ◌/◌, ◌%◌, ◌^◌, ◌≤◌, ◌<◌}
-use Rattle.std.specs.Prelude.{◌≡◌, Bool, true, false, ◌||◌, ◌&&◌, ◌⊎◌, ◌≢◌, T, ltb, eqb, length, get_or, set}
+use Rattle.std.specs.Prelude.{◌≡◌, Bool, true, false, ◌||◌, ◌&&◌, ◌⊎◌, ◌≢◌, ltb, eqb, length, set}
 use Rattle.std.proofs.Math.Path.{refl, sym, ap, subst}
 use Rattle.std.proofs.Common.{◌∙◌, ap₂, inl, inr, not-suc-le-zero, one-mul, mod-eq_of_lt, arith, get_or-set_same, ltb-true, eqb-true, eq-eqb, ne_eqb}
 use mathlib.Core.List.{List, [], ◌∷◌, ◌++◌, map}
 use Rattle.std.proofs.Math.Logic.{⊎_elim}
-use Rattle.std.proofs.Math.Option.{none, some}
 use Rattle.std.proofs.Math.Nat.{zero-div, suc-sub-suc, sub-zero}
 use Rattle.std.specs.Int.Bits.{bit_or}
 use Rattle.std.proofs.Math.Pow.{pow-lt}
 use Rattle.std.proofs.Math.Seq.{get_or-set_other}
 use Rattle.std.proofs.lemmas.Bool.{eqb-false}
 use Rattle.rules.specs.Lists.{Words, any, concat_map, optional, optional_list}
-use Rattle.rules.specs.Layout.{header_definitions, header_prelude, header_impls, flag_named, impl_flags, impl_trait_word, member_vis, member_import, member_id, binding_vis, binding_impl}
+use Rattle.rules.specs.Layout.{header_definitions, header_prelude, header_impls, flag_named}
 use Rattle.rules.specs.Sheet.{at, chain, chain_of, field, parent, trait_vis, def_trait, bindings, named_members, implicit_members, trait_def, import_def, impl_flag, impl_trait}
-use Rattle.rules.specs.Candidates.{Edge, direct, within_def, within_ancestors, get_member, member_edges, binding_edges, for_each_child, edges}
+use Rattle.rules.specs.Candidates.{Edge, direct, within_def, get_member, member_edges, binding_edges, for_each_child, edges}
 use Rattle.rules.proofs.Components.{edges-direct, edges-within, edges-ancestors}
 use Rattle.candidates.specs.Layout.{rows_links, rows_open, rows_reach, rows_end, candidates_length}
 use Rattle.candidates.specs.Bits.{bit, on, bit-bit_or, bit_power, with_bit}

@@ -1,6 +1,6 @@
 -- The rows of what each node binds itself: row x at rows·sets, a bit for each impl.
 use Prim.Native.Nat.{ℕ, zero, suc, ◌+◌, ◌*◌, ◌-◌, ◌/◌, ◌%◌, ◌≤◌, ◌<◌}
-use Rattle.std.specs.Prelude.{◌≡◌, refl, Bool, ◌||◌, ◌&&◌, List, [], ◌∷◌, ◌++◌, ◌⊎◌, ◌≢◌, T, length}
+use Rattle.std.specs.Prelude.{◌≡◌, refl, Bool, ◌||◌, ◌&&◌, [], ◌∷◌, ◌++◌, ◌⊎◌, ◌≢◌, length}
 use Rattle.std.proofs.Math.Path.{sym, ap, subst}
 use Rattle.std.proofs.Common.{◌∙◌, ap₂, inl, inr, not-suc-le-zero, arith}
 use Rattle.std.proofs.Math.Bool.{true, false, not}
@@ -14,7 +14,7 @@ use Rattle.rules.specs.Sheet.{at, chain, chain_of, field, bindings, impl_flag, i
 use Rattle.rules.specs.Candidates.{may_enter}
 use Rattle.rules.specs.Admission.{binding_node}
 use Rattle.candidates.specs.Layout.{rows_sets, rows_end, candidates_length}
-use Rattle.candidates.specs.Bits.{bit, on, with_bit}
+use Rattle.candidates.specs.Bits.{on, with_bit}
 use Rattle.candidates.specs.Index.{Indexes, indexes_keep}
 use Rattle.candidates.specs.Source.{seen}
 use Rattle.candidates.specs.Links.{set_other, set-row, set_elsewhere, seen_same, any_append, any_same, off_clear}

@@ -1,21 +1,19 @@
 -- The source's ancestors as marks, the first 128 words of the workspace, and which vis lets the source in.
-use Prim.Native.Nat.{ℕ, zero, suc, ◌+◌, ◌*◌, ◌-◌, ◌≤◌, ◌<◌}
-use Rattle.std.specs.Prelude.{◌≡◌, refl, true, false, ◌||◌, List, [], ◌∷◌, ◌⊎◌, ◌≢◌, T, ltb, length, set}
+use Prim.Native.Nat.{ℕ, zero, suc, ◌-◌, ◌≤◌, ◌<◌}
+use Rattle.std.specs.Prelude.{◌≡◌, refl, true, false, ◌||◌, [], ◌∷◌, ◌≢◌, ltb, length, set}
 use Rattle.std.proofs.Math.Path.{sym, ap, ap₂}
-use Rattle.std.proofs.Common.{◌∙◌, subst, inl, inr, ⊎_elim, not-suc-le-zero, le_of_suc-le-suc, arith, get_or-set_same, get_or-set_other, lt-ltb, le-ltb, ltb-true, ltb-false, eqb-true, eq-eqb, ne_eqb}
+use Rattle.std.proofs.Common.{◌∙◌, not-suc-le-zero, le_of_suc-le-suc, arith, get_or-set_same, get_or-set_other, lt-ltb, le-ltb, ltb-true, ltb-false, eqb-true, ne_eqb}
 use Rattle.std.proofs.Math.Bool.{Bool}
-use Rattle.std.proofs.Math.Option.{none, some}
 use Rattle.std.proofs.Math.Nat.{suc-sub-suc, sub-zero}
 use Rattle.std.proofs.Math.Dec.{eqb}
 use Rattle.std.proofs.lemmas.Bool.{eqb-false}
 use Rattle.rules.specs.Lists.{Words, any, optional, is_in}
 use Rattle.rules.specs.Layout.{header_definitions, definition_parent}
-use Rattle.rules.specs.Limits.{limit_definitions}
 use Rattle.rules.specs.Sheet.{at, many, field, parent}
 use Rattle.rules.specs.Members.{is_in_in, same_test}
 use Rattle.rules.specs.CheckLaws.{Checked}
 use Rattle.rules.proofs.CheckLaws.{passed}
-use Rattle.rules.specs.CheckedSheet.{Valid, valid}
+use Rattle.rules.specs.CheckedSheet.{valid}
 use Rattle.rules.specs.Candidates.{ancestors, ancestors_of, visible}
 use Rattle.rules.specs.Admission.{Ancestor, itself, of_parent}
 use Rattle.rules.proofs.AncestorLaws.{ancestors_in, parent_below}

@@ -1,9 +1,9 @@
 -- Rows that spread along a relation: n rows of 384 bits at place m say which node leads to which, and each of the n rows at m + rows·behind takes what the rows that its node leads to have.
 -- What is there in the end is what walks along the relation reach.
 use Prim.Native.Nat.{ℕ, zero, suc, ◌+◌, ◌*◌, ◌-◌, ◌/◌, ◌%◌, ◌^◌, ◌≤◌, ◌<◌}
-use Rattle.std.specs.Prelude.{◌≡◌, Bool, true, false, not, ◌||◌, List, [], ◌∷◌, ◌⊎◌, ◌↔◌, ◌≢◌, T, eqb, length, set}
+use Rattle.std.specs.Prelude.{◌≡◌, Bool, true, false, ◌||◌, ◌⊎◌, ◌↔◌, ◌≢◌, T, eqb, length, set}
 use Rattle.std.proofs.Math.Path.{refl, ap}
-use Rattle.std.proofs.Common.{sym, ◌∙◌, ap₂, subst, not-suc-le-zero, le_of_suc-le-suc, div-one, add-one, arith, eqb→eq, shr-shr, get_or-set_same, eqb-true, eq-eqb, ne_eqb}
+use Rattle.std.proofs.Common.{sym, ◌∙◌, ap₂, subst, not-suc-le-zero, le_of_suc-le-suc, div-one, arith, eqb→eq, shr-shr, get_or-set_same, eqb-true, eq-eqb, ne_eqb}
 use Rattle.std.proofs.Math.Logic.{inl, inr, ⊎_elim}
 use Rattle.std.proofs.Math.Nat.{pow-succ', div-div-eq-div-mul}
 use Rattle.std.specs.Int.Bits.{bit_or}

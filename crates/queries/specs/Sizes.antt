@@ -1,6 +1,6 @@
 -- How many nodes a table of a checked sheet or question has at most: its records are of five words, each past the one before it.
 use Prim.Native.Nat.{ℕ, zero, suc, ◌+◌, ◌*◌, ◌≤◌, ◌<◌}
-use Rattle.std.specs.Prelude.{◌≡◌, Bool, true, false, ◌&&◌, ◌⊎◌, [], ◌∷◌, T}
+use Rattle.std.specs.Prelude.{◌≡◌, Bool, true, false, ◌⊎◌, [], ◌∷◌, T}
 use Rattle.std.proofs.Math.Path.{refl, ap}
 use Rattle.std.proofs.Common.{inl, inr, not-suc-le-zero, zero-lt-suc, lit<}
 use native.Mathlib.Omega.{arith}
@@ -8,7 +8,7 @@ use Rattle.std.proofs.Math.ListN.{length}
 use Rattle.rules.specs.Lists.{Words}
 use Rattle.rules.specs.Layout.{header_length, header_generics, header_impls, generics_length, generics_table_word, generics_impl_params, impl_length, impl_table_word, impl_args_word, node_length}
 use Rattle.rules.specs.Sheet.{at, chain, chain_of, records, many, field}
-use Rattle.rules.specs.Members.{In, in_at}
+use Rattle.rules.specs.Members.{in_at}
 use Rattle.rules.specs.Chains.{zero_or_from, chain_keeps, head_keeps, cells_keep, nodes_keep, impl_params_keep, generics_keep, impls_keep, sheet_keeps}
 use Rattle.rules.specs.CheckLaws.{both, part}
 use Rattle.rules.specs.ChainLaws.{Keeps, at_end, at_record, chain_rule, keeps_heads}

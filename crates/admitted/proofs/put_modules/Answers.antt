@@ -1,5 +1,5 @@
 -- `put_modules`: what is written and what is left come to the whole.
-use Rattle.std.proofs.Common.{◌-◌, rules}
+use Rattle.std.proofs.Common.{rules}
 use Rattle.admitted.specs.Modules.{gather_end, gather_on, gather_start, gather_stops}
 use Rattle.admitted.proofs.put_modules.Goals as goal
 

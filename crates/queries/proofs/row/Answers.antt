@@ -1,5 +1,5 @@
 -- `row`. The loop's invariant: the words of k sub-questions are written. The measure is how many are left.
-use Rattle.std.proofs.Common.{rules, ◌-◌}
+use Rattle.std.proofs.Common.{rules}
 use Rattle.queries.specs.Rows.{rowing_start, rowing_few, rowing_room, rowing_below, rowing_next, rowed}
 use Rattle.queries.proofs.row.Goals as goal
 

@@ -1,5 +1,5 @@
 -- `in_some`: what is left of the nodes decides.
-use Rattle.std.proofs.Common.{rules, ◌-◌}
+use Rattle.std.proofs.Common.{rules}
 use Rattle.candidates.specs.Find.{left_start, left-found, left_on, left_end}
 use Rattle.candidates.proofs.find.in_some.Goals as goal
 

@@ -1,5 +1,5 @@
 -- `next_admitted`: none so far.
-use Rattle.std.proofs.Common.{rules, ◌-◌}
+use Rattle.std.proofs.Common.{rules}
 use Rattle.candidates.specs.Find.{admitted_start, admitted-found, admitted_on, admitted_end}
 use Rattle.candidates.proofs.find.next_admitted.Goals as goal
 

@@ -1,5 +1,5 @@
 -- `next_candidate`: none so far.
-use Rattle.std.proofs.Common.{rules, ◌-◌}
+use Rattle.std.proofs.Common.{rules}
 use Rattle.candidates.specs.Find.{candidate_start, candidate_found, candidate_on, candidate_end}
 use Rattle.candidates.proofs.find.next_candidate.Goals as goal
 

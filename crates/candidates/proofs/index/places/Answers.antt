@@ -1,5 +1,5 @@
 -- `places`: so many places are written, and i is the place of the next record.
-use Rattle.std.proofs.Common.{rules, arith, ◌-◌}
+use Rattle.std.proofs.Common.{rules, arith}
 use Rattle.candidates.specs.Index.{listed_start, listed_more, listed_end, listed_full}
 use Rattle.candidates.proofs.index.places.Goals as goal
 

@@ -1,5 +1,5 @@
 -- `inner`: the edges of the nodes below x.
-use Rattle.std.proofs.Common.{rules, ◌-◌}
+use Rattle.std.proofs.Common.{rules}
 use Rattle.candidates.specs.Inner.{all_none, all_more, all_done}
 use Rattle.candidates.proofs.inner.inner.Goals as goal
 

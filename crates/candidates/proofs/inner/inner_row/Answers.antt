@@ -1,5 +1,5 @@
 -- `inner_row`: the edges to nodes below y have been looked at.
-use Rattle.std.proofs.Common.{◌-◌, rules}
+use Rattle.std.proofs.Common.{rules}
 use Rattle.candidates.specs.Inner.{opening_start, opening_leads, opening_next, inner_done}
 use Rattle.candidates.proofs.inner.inner_row.Goals as goal
 

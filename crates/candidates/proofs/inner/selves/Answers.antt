@@ -1,5 +1,5 @@
 -- `selves`: so many nodes have their own bit.
-use Rattle.std.proofs.Common.{rules, arith, ◌-◌}
+use Rattle.std.proofs.Common.{rules, arith}
 use Rattle.candidates.specs.Inner.{selves_none, selves_more, selves_done}
 use Rattle.candidates.proofs.inner.selves.Goals as goal
 

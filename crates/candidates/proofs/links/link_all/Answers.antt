@@ -1,5 +1,5 @@
 -- `link_all`: the rows of the first d definitions hold their edges.
-use Rattle.std.proofs.Common.{rules, ◌-◌}
+use Rattle.std.proofs.Common.{rules}
 use Rattle.candidates.specs.Links.{built_start, built_more, built_done, built_linking}
 use Rattle.candidates.proofs.links.link_all.Goals as goal
 

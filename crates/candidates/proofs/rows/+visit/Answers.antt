@@ -1,5 +1,5 @@
 -- `visit`: rows grow, whatever the order.
-use Rattle.std.proofs.Common.{◌-◌, rules}
+use Rattle.std.proofs.Common.{rules}
 use Rattle.candidates.specs.Spread.{visited_none, way_down, way_after, child_visited, left_visited}
 use Rattle.candidates.proofs.rows.+visit.Goals as goal
 

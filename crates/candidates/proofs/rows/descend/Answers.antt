@@ -1,5 +1,5 @@
 -- `descend`: rows grow with each visit.
-use Rattle.std.proofs.Common.{rules, ◌-◌}
+use Rattle.std.proofs.Common.{rules}
 use Rattle.candidates.specs.Spread.{settling_none, settling_room, settling_more}
 use Rattle.candidates.proofs.rows.descend.Goals as goal
 

@@ -1,5 +1,5 @@
 -- `first_on`: no bit so far.
-use Rattle.std.proofs.Common.{◌-◌, rules}
+use Rattle.std.proofs.Common.{rules}
 use Rattle.candidates.specs.Spread.{clear_none, clear_word, first_here, first_past}
 use Rattle.candidates.proofs.rows.first_on.Goals as goal
 

@@ -1,5 +1,5 @@
 -- `gather`: the nodes below y have been looked at.
-use Rattle.std.proofs.Common.{◌-◌, rules}
+use Rattle.std.proofs.Common.{rules}
 use Rattle.candidates.specs.Spread.{row_fits, taking_start, taking_leads, taking_fits, taking_few, taking_next, taking_done}
 use Rattle.candidates.proofs.rows.gather.Goals as goal
 

@@ -1,5 +1,5 @@
 -- `join`: so many words are joined, and the flag says whether any changed.
-use Rattle.std.proofs.Common.{◌+◌, ◌-◌, arith, get_or, rules}
+use Rattle.std.proofs.Common.{◌+◌, arith, get_or, rules}
 use Rattle.candidates.specs.Bits.{join-none, moved_none, join_more, moved_more, join_done}
 use Rattle.candidates.proofs.rows.join.Goals as goal
 

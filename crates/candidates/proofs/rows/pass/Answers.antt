@@ -1,5 +1,5 @@
 -- `pass`: so many nodes have had their turn.
-use Rattle.std.proofs.Common.{rules, ◌-◌}
+use Rattle.std.proofs.Common.{rules}
 use Rattle.candidates.specs.Spread.{passed_none, pass_more, pass_done, rows_same, rows_room}
 use Rattle.candidates.proofs.rows.pass.Goals as goal
 

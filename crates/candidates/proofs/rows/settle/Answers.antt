@@ -1,5 +1,5 @@
 -- `settle`: rows grow.
-use Rattle.std.proofs.Common.{◌-◌, rules}
+use Rattle.std.proofs.Common.{rules}
 use Rattle.candidates.specs.Spread.{settling_more, settling_none}
 use Rattle.candidates.proofs.rows.settle.Goals as goal
 

@@ -1,5 +1,5 @@
 -- `bind_all`: what the first d definitions bind is entered.
-use Rattle.std.proofs.Common.{rules, ◌-◌}
+use Rattle.std.proofs.Common.{rules}
 use Rattle.candidates.specs.Sets.{bound_start, bound_more, bound_done, bound_binding}
 use Rattle.candidates.proofs.sets.bind_all.Goals as goal
 
