@@ -1,10 +1,9 @@
 -- A sheet that the listing's checks do not refuse, and the numbers of those that they refuse.
-use Rattle.std.specs.Prelude.{ℕ, zero, suc, ◌≤◌, ◌<◌, ◌≡◌, refl, Bool, true, false, ◌||◌, ◌≢◌, eqb, length}
+use Rattle.std.specs.Prelude.{ℕ, ◌≤◌, ◌<◌, ◌≡◌, refl, Bool, true, false, ◌||◌, ◌≢◌, eqb, length}
 use Rattle.std.proofs.Common.{sym, ◌∙◌, ap, arith, ltb-false}
 use Rattle.std.proofs.Math.Path.{subst}
 use Rattle.std.proofs.Math.Bool.{not}
 use mathlib.Core.List.{[], ◌∷◌, ◌++◌}
-use Rattle.std.proofs.Math.Option.{none}
 use Rattle.std.proofs.Math.Dec.{ltb}
 use Rattle.rules.specs.Lists.{Words}
 use Rattle.rules.specs.Layout.{header_length, header_edition, header_definitions, edition_1}

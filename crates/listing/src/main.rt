@@ -2,11 +2,12 @@
 // A refused sheet prints its number alone; bytes that are no whole words, or too many, print 1.
 #![tactic(auto)]
 
-ghost use Rattle.std.specs.Prelude.{◌≡◌, ◌≤◌, ◌<◌, length};
+ghost use Rattle.std.specs.Prelude.{◌≡◌, ◌≤◌, ◌<◌, IfOk, length};
 ghost use Rattle.rules.specs.CheckLaws.{Checked};
 ghost use Rattle.candidates.specs.Layout.{candidates_length};
 
-use libc::{STDIN_FILENO, STDOUT_FILENO};
+use std::io;
+use std::io::Read;
 
 // The bytes of a sheet, and one more by which too many are seen.
 fn input() -> [u8; 16385]
@@ -29,71 +30,85 @@ fn workspace() -> [u32; 90112]
     [0; 90112]
 }
 
+// Reads until the buffer is full or the input ends, and answers how many bytes it put at the front.
+fn read_full<R: Read>(source: &mut R, buf: &mut [u8]) -> io::Result<usize>
+    ensures { IfOk result (λ n. n ≤ length buf.new) }
+{
+    let mut done = 0;
+    while done < buf.len() {
+        let n = source.read(&mut buf[done..])?;
+        if n == 0 {
+            break;
+        }
+        done += n;
+    }
+    Ok(done)
+}
+
 // Prints a number below 1,000 alone.
-fn refuse(n: usize)
+fn refuse(rt: &impl Print, n: usize) -> io::Result<()>
     requires { n < 1000 }
 {
     let mut out = [0u8; 8];
     let k = lines::put_number(&mut out, 0, n);
-    io::write_all(STDOUT_FILENO, &out[..k]);
-    io::write_all(STDOUT_FILENO, b"\n");
+    rt.write_all(&out[..k])?;
+    rt.write_all(b"\n")
 }
 
-// Prints the line of a definition.
-fn print_line(s: &[u32], ws: &mut [u32], d: usize) -> bool
+// Prints the line of a definition; false where there is no such definition.
+fn print_line(rt: &impl Print, s: &[u32], ws: &mut [u32], d: usize) -> io::Result<bool>
     requires { Checked s.now × (length s.now ≤ 4096) × (candidates_length ≤ length ws.old) }
 {
     if words::chain_length(s, words::next(s, 1)) <= d {
-        return false;
+        return Ok(false);
     }
-    let mut out = io::buffer();
+    let mut out = [0u8; 4096];
     let k = lines::list_line(s, ws, d, &mut out);
-    io::write_all(STDOUT_FILENO, &out[..k])
+    rt.write_all(&out[..k])?;
+    Ok(true)
 }
 
 // Prints the lines of all definitions.
-fn print_lines(s: &[u32], ws: &mut [u32])
+fn print_lines(rt: &impl Print, s: &[u32], ws: &mut [u32]) -> io::Result<()>
     requires { Checked s.now × (length s.now ≤ 4096) × (candidates_length ≤ length ws.old) }
 {
     let mut d = 0;
     while d < 128 {
-        print_line(s, ws, d);
+        print_line(rt, s, ws, d)?;
         d += 1;
     }
+    Ok(())
 }
 
 // Prints the listing of a sheet.
-fn list(s: &[u32], ws: &mut [u32])
+fn list(rt: &impl Print, s: &[u32], ws: &mut [u32]) -> io::Result<()>
     requires { 90112 ≤ length ws.old }
 {
     let n = checks::check_listing(s, ws);
     if n != 0 {
-        refuse(n as usize);
-        return;
+        return refuse(rt, n as usize);
     }
-    print_lines(s, ws);
+    print_lines(rt, s, ws)
 }
 
 // Prints the listing of some bytes.
-fn list_bytes(bytes: &[u8], words: &mut [u32], ws: &mut [u32])
+fn list_bytes(rt: &impl Print, bytes: &[u8], words: &mut [u32], ws: &mut [u32]) -> io::Result<()>
     requires { (4096 ≤ length words.old) × (90112 ≤ length ws.old) }
 {
     if 16384 < bytes.len() {
-        refuse(1);
-        return;
+        return refuse(rt, 1);
     }
     if bytes.len() % 4 != 0 {
-        refuse(1);
-        return;
+        return refuse(rt, 1);
     }
     let n = lines::bytes::read_words(bytes, words);
-    list(&words[..n], ws);
+    list(rt, &words[..n], ws)
 }
 
-fn main() {
+fn main(rt: HostRuntime) -> io::Result<()> {
     let mut bytes = input();
-    let n = io::read_full(STDIN_FILENO, &mut bytes);
+    let n = read_full(&mut rt.reader(), &mut bytes)?;
     let mut words = sheet();
     let mut ws = workspace();
-    list_bytes(&bytes[..n], &mut words, &mut ws);
+    list_bytes(&rt, &bytes[..n], &mut words, &mut ws)
 }
