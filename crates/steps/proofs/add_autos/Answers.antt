@@ -1,0 +1,23 @@
+-- `add_autos`: by what is found.
+use Rattle.std.proofs.Common.{rules}
+use Rattle.steps.specs.Built.{four-length, auto_fits_kind, auto_fits_id, auto_none, auto_one}
+use Rattle.slots.specs.Adding.{aside_first}
+use Rattle.steps.proofs.add_autos.Goals as goal
+
+pub slice_bounds-find_auto_impls-end : goal.slice_bounds-find_auto_impls-end
+slice_bounds-find_auto_impls-end c = search (rules, four-length)
+
+pub leaf_step-requires-clause-aside : goal.leaf_step-requires-clause-aside
+leaf_step-requires-clause-aside c = search (rules, aside_first)
+
+pub leaf_step-requires-clause-kind_bound : goal.leaf_step-requires-clause-kind_bound
+leaf_step-requires-clause-kind_bound c = search (rules, auto_fits_kind)
+
+pub leaf_step-requires-clause-id_bound : goal.leaf_step-requires-clause-id_bound
+leaf_step-requires-clause-id_bound c = search (rules, auto_fits_id)
+
+pub returns-in-Nothing : goal.returns-in-Nothing
+returns-in-Nothing c = search (rules, auto_none)
+
+pub returns-in-Leaf : goal.returns-in-Leaf
+returns-in-Leaf c = search (rules, auto_one)
