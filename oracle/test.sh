@@ -25,6 +25,11 @@ grep -q '^! ok 17 ' stored/pinned.txt
 
 samples=$("$oracle" samples check ../samples)
 
+# The programs of the gate replay copies of the stored words.
+for words in ../crates/{check_cases,type_cases,call_cases}/data/*.bin; do
+  cmp "$words" "stored/$(basename "$words")"
+done
+
 # Generated cases: the same for the same seed, and no difference, crash or error among the answers.
 generated=0
 for damaged in 0 100; do
