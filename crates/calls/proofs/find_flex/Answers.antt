@@ -1,0 +1,25 @@
+use Rattle.std.proofs.Common.{rules}
+use Rattle.calls.specs.Whole.{entry_room, flex_away, flex_comes_by, part-entered, part_is}
+use Rattle.calls.proofs.find_flex.Reads as reads
+use Rattle.calls.proofs.find_flex.Lts as lts
+use Rattle.calls.proofs.as_outcome.Reads as as-outcome-reads
+use Rattle.calls.proofs.flex_within.Reads as flex-within-reads
+use Rattle.calls.proofs.workspace_words.Reads as workspace-words-reads
+use Rattle.checks.proofs.check_entry.Reads as check-entry-reads
+use Rattle.words.proofs.wide.Reads as wide-reads
+use Rattle.calls.proofs.find_flex.Goals as goal
+
+pub returns-then-number-ne0 : goal.returns-then-number-ne0
+returns-then-number-ne0 c = search (rules, flex_away)
+
+pub slice_bounds-flex_within-end : goal.slice_bounds-flex_within-end
+slice_bounds-flex_within-end c = search (rules, entry_room)
+
+pub slice_bounds-flex_within-end-2 : goal.slice_bounds-flex_within-end-2
+slice_bounds-flex_within-end-2 c = search (rules, part_is)
+
+pub flex_within-r-requires : goal.flex_within-r-requires
+flex_within-r-requires c = search (rules, part-entered)
+
+pub returns : goal.returns
+returns c = search (rules, flex_comes_by, entry_room, c.check_entry-number.ensures, c.if-number-ne0.false, c.wide-d.ensures, c.wide-g.ensures, c.workspace_words-n.ensures, c.flex_within-r.ensures, c.as_outcome.ensures)

@@ -1,0 +1,23 @@
+use Rattle.std.proofs.Common.{sym, ◌∙◌, ℕ, rules}
+use Rattle.calls.specs.Prepared.{new_sets}
+use Rattle.calls.specs.Behind.{impl_call, impl_prepares}
+use lib.ListN.{length-replicate}
+use Rattle.calls.proofs.impl_with_sets.Reads as reads
+use Rattle.calls.proofs.impl_with_sets.Lts as lts
+use Rattle.asking.proofs.ask_impl.Reads as ask-impl-reads
+use Rattle.calls.proofs.impl_with_sets.Goals as goal
+
+pub slice_bounds-prepare-end : goal.slice_bounds-prepare-end
+slice_bounds-prepare-end c = sym (length-replicate {0} {A = ℕ} 35080 0)
+
+pub prepare-requires-clause-passed : goal.prepare-requires-clause-passed
+prepare-requires-clause-passed c = search (rules, impl_prepares)
+
+pub prepare-requires-clause-in_bounds : goal.prepare-requires-clause-in_bounds
+prepare-requires-clause-in_bounds c = new_sets
+
+pub slice_bounds-ask_impl-end : goal.slice_bounds-ask_impl-end
+slice_bounds-ask_impl-end c = sym (c.prepare.auto.sets ∙ length-replicate {0} {A = ℕ} 35080 0)
+
+pub ask_impl-requires-clause-impls : goal.ask_impl-requires-clause-impls
+ask_impl-requires-clause-impls c = search (rules, impl_call)
