@@ -1,5 +1,5 @@
 -- The impl call behind its checks: what it relies on, and that it comes to the rules' `impl_within`.
-use Rattle.std.specs.Prelude.{ℕ, ◌+◌, ◌*◌, ◌≤◌, ◌<◌, ◌≡◌, Bool, ◌≢◌, List, [], ◌∷◌, T, eqb, ltb, length, replicate}
+use Rattle.std.specs.Prelude.{ℕ, ◌≤◌, ◌<◌, ◌≡◌, List, [], ◌∷◌, eqb, ltb, length, replicate}
 use Rattle.std.proofs.Math.Path.{refl, ap}
 use Rattle.std.proofs.Common.{sym, ◌∙◌, subst}
 use Rattle.std.proofs.Math.Option.{none}
@@ -10,15 +10,14 @@ use Rattle.rules.specs.Sheet.{at}
 use Rattle.rules.specs.Limits.{limit_sheet, limit_question, limit_depth}
 use Rattle.rules.specs.Layout.{header_definitions, header_generics}
 use Rattle.rules.specs.Types.{Types, ImplType}
-use Rattle.rules.specs.Transfer.{export_impl_type}
-use Rattle.rules.specs.Run.{Run, Out, got, refused, within}
+use Rattle.rules.specs.Run.{Run, Out, within}
 use Rattle.rules.specs.Search.{Result, question}
 use Rattle.rules.specs.Check.{refusal, impl_checks, of_sheet, of_ids}
 use Rattle.rules.specs.CheckLaws.{unrefused, not_not}
 use Rattle.rules.specs.CheckedSheet.{part}
 use Rattle.rules.specs.Values.{is_id}
 use Rattle.rules.specs.Lists.{holds}
-use Rattle.rules.specs.Calls.{question_types, impl_query, impl_search, impl_outcome, impl_within}
+use Rattle.rules.specs.Calls.{question_types, impl_query, impl_search, impl_within}
 use Rattle.rules.specs.SearchKeeps.{AllKept}
 use Rattle.table.specs.Packing.{types_of, Packed, Becomes}
 use Rattle.slots.specs.declared.Asked.{Asked}
@@ -32,10 +31,8 @@ use Rattle.steps.specs.Asking.{finder_of, Searching, Asking}
 use Rattle.loading.specs.Nodes.{Fitting}
 use Rattle.loading.specs.Exports.{Asks, Reads, Exports}
 use Rattle.loading.specs.Checked.{impl_fitting, impl_asks}
-use Rattle.closing.specs.declared.Ended.{Ended}
-use Rattle.closing.specs.Impl.{Closed}
 use Rattle.closing.specs.Searched.{search_number, impl_kept}
-use Rattle.closing.specs.Ends.{Front, IfFound, EndsImpl, front_self, found_front, ends_front, ends_call, searched_one}
+use Rattle.closing.specs.Ends.{Front, IfFound, EndsImpl, front_self, ends_front, ends_call, searched_one}
 use Rattle.words.specs.Buffers.{copied, copied-length}
 use Rattle.table.specs.Copies.{copied_at}
 use Rattle.closing.specs.Ended.{Ends}

@@ -1,26 +1,23 @@
 -- A call behind its entry checks: the checks of sheet, ids and question, then what the search comes to; the workspace's first words are cleared.
-use Rattle.std.specs.Prelude.{ℕ, ◌+◌, ◌*◌, ◌≤◌, ◌<◌, ◌≡◌, refl, Bool, true, false, ◌≢◌, List, [], ◌∷◌, ◌++◌, eqb, ltb, length}
+use Rattle.std.specs.Prelude.{ℕ, ◌≤◌, ◌<◌, ◌≡◌, refl, Bool, true, false, ◌≢◌, [], ◌∷◌, ◌++◌, length}
 use Rattle.std.proofs.Math.Path.{sym, ap, subst}
 use Rattle.std.proofs.Common.{◌∙◌, arith}
 use Rattle.std.proofs.Math.Option.{Option, none, some, some-ne-none}
 use Rattle.rules.specs.Lists.{Words}
-use Rattle.rules.specs.Limits.{limit_sheet, limit_question, limit_answer, limit_workspace, limit_count, limit_steps}
-use Rattle.rules.specs.Run.{Out, got, refused}
-use Rattle.rules.specs.RunLaws.{Between}
+use Rattle.rules.specs.Limits.{limit_sheet, limit_question, limit_answer, limit_workspace, limit_count}
+use Rattle.rules.specs.Run.{Out, refused}
 use Rattle.rules.specs.Check.{Checks, refusal, of_sheet, of_ids, of_impl_question, of_flex_question, impl_checks, flex_checks}
 use Rattle.rules.specs.CheckLaws.{Checked}
 use Rattle.rules.specs.CheckNumbers.{impl_check_numbers, flex_check_numbers}
 use Rattle.rules.specs.CheckedTables.{Ready}
 use Rattle.rules.proofs.CheckedTables.{impl_ready, flex_ready}
-use Rattle.rules.specs.Calls.{impl_within, answer_after}
+use Rattle.rules.specs.Calls.{answer_after}
 use Rattle.words.specs.Buffers.{cleared}
 use Rattle.checks.specs.Numbers.{number, finder}
-use Rattle.steps.specs.declared.Finder.{Finder}
-use Rattle.steps.specs.Asking.{finder_of, Searching}
+use Rattle.steps.specs.Asking.{Searching}
 use Rattle.asking.specs.Impls.{Impls}
 use Rattle.flexing.specs.Asked.{Flexing}
 use Rattle.closing.specs.declared.Ended.{Ended}
-use Rattle.closing.specs.Impl.{Closed}
 use Rattle.closing.specs.Ended.{Ends}
 use Rattle.calls.specs.Prepared.{Passed, Prepared}
 

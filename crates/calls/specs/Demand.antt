@@ -5,12 +5,11 @@ use Rattle.std.proofs.Math.Dec.{nleb→lt}
 use Rattle.rules.specs.Lists.{Words}
 use Rattle.rules.specs.Limits.{limit_steps}
 use Rattle.rules.specs.Run.{Out, got, refused}
-use Rattle.rules.specs.Calls.{free_find_impl, free_find_flex, try_find_impl, find_flex, answer_after, work_after}
+use Rattle.rules.specs.Calls.{free_find_impl, free_find_flex, try_find_impl, find_flex, answer_after}
 use Rattle.rules.specs.Limit.{asked_find_impl, asked_find_flex, Enters, Demand3_one}
 use Rattle.rules.proofs.Limit.{one-try_find_impl, one-find_flex}
 use Rattle.checks.specs.Numbers.{finder}
 use Rattle.calls.specs.declared.Outcome.{Outcome}
-use Rattle.calls.specs.declared.Outcome.TheVariants.{Answered, Refused}
 use Rattle.calls.specs.Outcomes.{outcome_of, number_of, count_of, Calls}
 
 -- A run from start count c that came to the outcome r and left the answer buffer as it is after, where the search with no step limit comes to `free` after `asked` questions:

@@ -1,8 +1,8 @@
 -- The whole calls: turned away at entry, or what they come to behind it.
-use Rattle.std.specs.Prelude.{ℕ, ◌+◌, ◌-◌, ◌≤◌, ◌<◌, ◌≡◌, refl, Bool, true, false, not, ◌||◌, ◌≢◌, List, [], ◌∷◌, ◌++◌, T, eqb, ltb, leb, length, get_or, take, drop, replicate}
+use Rattle.std.specs.Prelude.{ℕ, ◌≤◌, ◌≡◌, refl, Bool, true, false, not, ◌||◌, ◌≢◌, ◌++◌, T, eqb, ltb, length, get_or, take, drop, replicate}
 use Rattle.std.proofs.Math.Path.{sym, ap}
-use Rattle.std.proofs.Common.{◌∙◌, subst, append-nil, append_assoc, drop_of_length-le, length-take-le, eq-eqb, ne_eqb, eqb-true}
-use Rattle.std.proofs.Math.Option.{Option, none, some}
+use Rattle.std.proofs.Common.{◌∙◌, subst, append-nil, drop_of_length-le, length-take-le, eq-eqb, ne_eqb, eqb-true}
+use Rattle.std.proofs.Math.Option.{Option, none}
 use native.Mathlib.Omega.{arith}
 use Rattle.std.proofs.Math.Dec.{nltb→le}
 use Rattle.std.proofs.lemmas.Bool.{eqb-false}
@@ -10,17 +10,15 @@ use borrow.Rule.Slice.PartMut.{put_mid, post_of}
 use Rattle.rules.specs.Lists.{Words}
 use Rattle.rules.specs.Limits.{limit_sheet, limit_question, limit_answer, limit_workspace, limit_count, limit_steps}
 use Rattle.rules.specs.Layout.{header_length, question_length}
-use Rattle.rules.specs.Run.{Out, got, refused}
-use Rattle.rules.specs.RunLaws.{Between}
-use Rattle.rules.specs.Check.{Checks, refusal, of_length, entry, impl_checks, flex_checks}
+use Rattle.rules.specs.Run.{Out}
+use Rattle.rules.specs.Check.{refusal, of_length, entry, impl_checks, flex_checks}
 use Rattle.rules.specs.CheckLaws.{unrefused}
-use Rattle.rules.specs.CheckNumbers.{refusal_front, refusal-after, entry_numbers}
-use Rattle.rules.specs.Calls.{impl_within, flex_within, try_find_impl, find_flex, answer_after, work_after}
+use Rattle.rules.specs.CheckNumbers.{refusal-after, entry_numbers}
+use Rattle.rules.specs.Calls.{impl_within, flex_within, try_find_impl, find_flex, answer_after}
 use Rattle.rules.proofs.Refusals.{impl_ends, flex_ends}
 use Rattle.words.specs.Buffers.{cleared, cleared_front}
 use Rattle.checks.specs.Numbers.{number, finder}
 use Rattle.closing.specs.declared.Ended.{Ended}
-use Rattle.closing.specs.Impl.{Answered, Closed}
 use Rattle.closing.specs.Ended.{Ends}
 use Rattle.calls.specs.declared.Outcome.{Outcome}
 use Rattle.calls.specs.declared.Outcome.TheVariants.{Answered as Ok, Refused}

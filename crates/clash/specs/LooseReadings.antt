@@ -15,7 +15,7 @@ use Rattle.rules.specs.Answer.{word_of_type}
 use Rattle.rules.specs.Solutions.{rep, AllIn, ChildrenIn, WellFormed, known≢}
 use Rattle.rules.specs.CheckedTables.{table_length_lem, table_state, table-flat}
 use Rattle.rules.specs.SignedTerms.{inverse}
-use Rattle.rules.specs.Labels.{labels, Labels}
+use Rattle.rules.specs.Labels.{labels}
 use Rattle.rules.specs.Loose.{Alike, Loose, SignedLoose}
 use Rattle.table.specs.Packing.{types_of, kind_in, id_in, kind_at}
 use Rattle.table.specs.Nodes.{types_few, word_type}
@@ -25,7 +25,7 @@ use Rattle.queries.specs.declared.Query.{Query}
 use Rattle.queries.specs.Queries.{query_of}
 use Rattle.refs.specs.Refs.{place, place_at}
 use Rattle.loose.specs.Loose.{labelled, kids, kids_low, kids_high, Labelling, LooseMeaning}
-use Rattle.clash.specs.Readings.{names, node_term, reading, reading-node, reading_record, unknown_state, known_state, query_length, query_type, query_in, word_node, record_word, common_meaning}
+use Rattle.clash.specs.Readings.{names, node_term, reading-node, reading_record, unknown_state, known_state, query_length, query_type, query_in, word_node, record_word, common_meaning}
 
 -- Labels that are alike one by one.
 labels_each : (g f : ℕ → ℕ) (xs ys : List Ty) → length xs ≡ length ys → ((k : ℕ) → k < length xs → g (get_or xs k (false, 0)).1 ≡ f (get_or ys k (false, 0)).1) → labels g xs ≡ labels f ys

@@ -1,43 +1,40 @@
 -- The members of the search that have loops: the candidates of a question, and the results of a sub-question; how a question and sub-questions begin.
-use Rattle.std.specs.Prelude.{ℕ, zero, suc, ◌+◌, ◌-◌, ◌*◌, ◌≤◌, ◌<◌, ◌≡◌, Bool, true, false, ◌≢◌, List, [], ◌∷◌, ◌++◌, map, eqb, ltb, length, get_or, drop, replicate}
+use Rattle.std.specs.Prelude.{ℕ, zero, suc, ◌+◌, ◌-◌, ◌*◌, ◌≤◌, ◌<◌, ◌≡◌, Bool, false, ◌≢◌, List, [], ◌∷◌, eqb, ltb, length, get_or, drop, replicate}
 use Rattle.std.proofs.Math.Path.{refl, ap}
-use Rattle.std.proofs.Common.{sym, ◌∙◌, subst, inl, arith, le_refl, get_or-drop}
+use Rattle.std.proofs.Common.{sym, ◌∙◌, subst, inl, arith, get_or-drop}
 use Rattle.std.proofs.lemmas.List.{length-replicate}
 use Rattle.rules.specs.Lists.{Words}
 use Rattle.rules.specs.Layout.{header_impls}
 use Rattle.rules.specs.Sheet.{at, many}
 use Rattle.rules.specs.Types.{Types, ImplType}
-use Rattle.rules.specs.Run.{Run, done, stop, ◌>>=◌, Out, got, refused, within}
+use Rattle.rules.specs.Run.{Run, ◌>>=◌, Out, within}
 use Rattle.rules.specs.Search.{end, Result, collect, find_impl_candidates, find_subimpls, try_candidate, before_candidates, question}
 use Rattle.rules.specs.Search as rules
 use Rattle.rules.specs.Solutions.{AllIn}
-use Rattle.rules.specs.CheckLaws.{Checked}
 use Rattle.rules.proofs.CheckLaws.{passed}
 use Rattle.rules.specs.CheckedSheet.{valid}
-use Rattle.rules.specs.Yields.{Every, every_weaken, Yields, came}
+use Rattle.rules.specs.Yields.{Every, every_weaken, came}
 use Rattle.rules.proofs.Yields.{yields_within}
 use Rattle.rules.specs.Neat.{Neat, QueriesIn, in_more}
-use Rattle.rules.specs.SearchKeeps.{Kept, AllKept}
+use Rattle.rules.specs.SearchKeeps.{AllKept}
 use Rattle.rules.proofs.SearchKeeps.{question_keeps}
 use Rattle.rules.proofs.ResultLimits.{question_few}
 use Rattle.table.specs.Packing.{types_of, Packed}
 use Rattle.trees.specs.Forests.{Single}
 use Rattle.slots.specs.declared.Asked.{Asked}
 use Rattle.slots.specs.declared.Asked.TheVariants.{Found, Refused}
-use Rattle.slots.specs.Slots.{slot_length, Table, Slot, Slots, Written, slots_kept}
+use Rattle.slots.specs.Slots.{Table, Slot, Slots, Written, slots_kept}
 use Rattle.slots.specs.Adding.{under, Element}
 use Rattle.slots.specs.Copies.{Beside}
 use Rattle.slots.specs.Gathering.{Row}
-use Rattle.slots.specs.Turns.{Got, Answers, answers_refused, answers_same, then_got, then_refused, adding, Going, Stepped, going_start, going_same, collect_next, collect-none}
+use Rattle.slots.specs.Turns.{Got, Answers, answers_refused, answers_same, then_got, then_refused, adding, Stepped, going_start, collect_next, collect-none}
 use Rattle.slots.specs.Parts.{part, part_length, part-table, Lent, lent, slots_back}
 use Rattle.slots.specs.Settling.{Sub, Settles, JoinSettles}
 use borrow.Rule.Slice.PartMut.{put_mid}
 use Rattle.candidates.specs.Index.{Indexes}
 use Rattle.candidates.specs.Find.{Standing, from_on}
 use Rattle.admitted.specs.declared.Found.{Found as Sets}
-use Rattle.admitted.specs.declared.Candidate.{Candidate}
-use Rattle.admitted.specs.declared.Candidate.TheVariants.{Impl, End}
-use Rattle.admitted.specs.Found.{Stands, Finds, Gives, ids, nodes_of, found_stops, found_goes, found-standing}
+use Rattle.admitted.specs.Found.{Stands, Finds, ids, nodes_of, found_stops, found_goes, found-standing}
 use Rattle.queries.specs.declared.Query.{Query}
 use Rattle.queries.specs.declared.Queries.{Queries}
 use Rattle.queries.specs.Queries.{query_of, query_in, queries_of, queries_next, queries_none}
@@ -47,7 +44,7 @@ use Rattle.steps.specs.Asking.{finder_of, sets_of, takes_of, Sound, Scratch, Sea
 use Rattle.steps.specs.Loops.{Stepping, stepping_start, stepping_few, stepping_low, stepping_same, stepping_end, stepping_on, stepping_refused}
 use Rattle.finder.specs.Singles.{One, question_ones}
 use Rattle.finder.specs.Steps.{ask_below, candidates_left, question_over, question_deep, question_start}
-use Rattle.finder.specs.Tails.{sub_one, tail_next, tail_last, Resting, Rested, Keeps, rest-turn, rest_end}
+use Rattle.finder.specs.Tails.{sub_one, tail_next, tail_last, Resting, rest-turn, rest_end}
 use Rattle.steps.specs.Built.{NoneLeft}
 use Rattle.steps.specs.Next.{NextId}
 use Rattle.finder.specs.Members.{CandidateStep, ResultStep, candidate_stops, candidate_none, candidate_sub, candidate_steps, result_sub, result_element, result_steps}

@@ -2,18 +2,18 @@
 -- A question's part: slot 0 the table, slots 1 to 4 its results, from slot 5 on the part of a candidate's sub-questions. A part of sub-questions: slot 0 the table,
 -- slots 1 to 4 their results, from slot 4 on the part of the first, whose results stand in slots 5 to 8, and from slot 9 on the part of those that are left. Slot 4 has the first one's table,
 -- and only then the fourth result.
-use Rattle.std.specs.Prelude.{ℕ, ◌+◌, ◌-◌, ◌*◌, ◌≤◌, ◌<◌, ◌≡◌, refl, List, [], ◌∷◌, ◌++◌, map, ltb, length, drop}
+use Rattle.std.specs.Prelude.{ℕ, ◌+◌, ◌-◌, ◌*◌, ◌≤◌, ◌<◌, ◌≡◌, List, [], ◌∷◌, map, ltb, length, drop}
 use Rattle.std.proofs.Common.{sym, ◌∙◌, ap, subst, arith}
 use Rattle.rules.specs.Lists.{Words}
 use Rattle.rules.specs.Sheet.{at}
 use Rattle.rules.specs.Types.{Types, ImplType}
-use Rattle.rules.specs.Run.{Run, done, stop, ◌>>=◌, Out, got, refused, within}
+use Rattle.rules.specs.Run.{Run, done, stop, ◌>>=◌, Out, within}
 use Rattle.rules.specs.Search.{end, Result, add_results, collect, find_subimpls}
 use Rattle.table.specs.Packing.{types_of}
 use Rattle.trees.specs.Forests.{Single}
 use Rattle.slots.specs.declared.Asked.{Asked}
 use Rattle.slots.specs.declared.Asked.TheVariants.{Found, Refused}
-use Rattle.slots.specs.Slots.{slot_length, Slot, Slots, Written, slot_kept, slots_kept}
+use Rattle.slots.specs.Slots.{slot_length, Slot, Written, slot_kept, slots_kept}
 use Rattle.slots.specs.Adding.{under, behind, Element}
 use Rattle.slots.specs.Turns.{Answers, answers_refused, answers_found, adding, Going, Stepped, Turned, turn, going_same, going_end, collect_next, collect-none}
 use Rattle.slots.specs.Parts.{part, part-table, Lent}

@@ -7,8 +7,8 @@ use Rattle.rules.specs.Layout.{header_fork, header_drop, header_duplicate, heade
 use Rattle.rules.specs.Sheet.{at, field}
 use Rattle.rules.specs.Types.{TypeState, unknown, known, Types, UnifyResult, success, failure, indeterminate, Unified, ImplType, kind, unify_impl_type, approx_eq}
 use Rattle.rules.specs.Transfer.{import_impl_type}
-use Rattle.rules.specs.Run.{Run, done, ◌>>=◌}
-use Rattle.rules.specs.Search.{Finder, Trees, end, tree, tree_size, leaf, Result, add_results, collect, check_nodes, impl_params, find_auto_impl, find_auto_impls, from_impl_params, find_impl_candidates, find_subimpls, try_candidate, before_candidates, question}
+use Rattle.rules.specs.Run.{Run}
+use Rattle.rules.specs.Search.{Finder, Trees, end, tree, tree_size, leaf, Result, add_results, collect, impl_params, find_auto_impl, find_auto_impls, from_impl_params, find_impl_candidates, find_subimpls, try_candidate, before_candidates, question}
 use Rattle.rules.specs.Yields.{Every, every_append, every_map, Yields, yields_bind, yields_any}
 use Rattle.rules.specs.SearchKeeps.{nodes_keep, met, signed, needs}
 use Rattle.trees.specs.Forests.{Single}

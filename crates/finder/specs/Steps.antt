@@ -1,21 +1,13 @@
 -- How a question starts: 18, 15, or what comes before its candidates; and its candidates.
-use Prim.Native.Nat.{ℕ, zero, suc, ◌+◌, ◌-◌, ◌*◌, ◌≤◌, ◌<◌}
-use Rattle.std.specs.Prelude.{◌≡◌, refl, Bool, true, false, ◌≢◌, List, [], ◌∷◌, ◌++◌, map, ltb, length, get_or, drop}
-use Rattle.std.proofs.Common.{sym, ◌∙◌, subst, add-one}
+use Prim.Native.Nat.{ℕ, zero, suc, ◌+◌, ◌-◌, ◌≤◌, ◌<◌}
+use Rattle.std.specs.Prelude.{◌≡◌, refl, Bool, false, ◌≢◌, List, ltb}
+use Rattle.std.proofs.Common.{sym, ◌∙◌, add-one}
 use Rattle.std.proofs.Math.Path.{ap}
-use Rattle.std.proofs.Math.Option.{none}
 use native.Mathlib.Omega.{arith}
 use borrow.Author.Tests.{lt-ltb, le-ltb}
-use Rattle.rules.specs.Lists.{Words}
-use Rattle.rules.specs.Limits.{limit_nodes}
-use Rattle.rules.specs.Layout.{tree_param}
-use Rattle.rules.specs.Types.{Types, UnifyResult, success, failure, indeterminate, Unified, ImplType, unify_impl_type, approx_eq}
-use Rattle.rules.specs.Transfer.{import_impl_type}
-use Rattle.rules.specs.Run.{Run, done, stop, asks, ◌>>=◌, Out, got, refused, within}
-use Rattle.rules.specs.Search.{Finder, Trees, leaf, Result, add_results, collect, check_nodes, impl_params, find_auto_impls, from_impl_params, find_impl_candidates, find_subimpls, try_candidate, before_candidates, question}
-use Rattle.rules.specs.SearchKeeps.{signed, met, needs}
-use Rattle.slots.specs.Adding.{under}
-use Rattle.slots.specs.Turns.{bind_assoc}
+use Rattle.rules.specs.Types.{Types, ImplType}
+use Rattle.rules.specs.Run.{Run, ◌>>=◌, refused, within}
+use Rattle.rules.specs.Search.{Finder, Result, collect, find_impl_candidates, try_candidate, before_candidates, question}
 
 -- The question one level down.
 abbrev pub ask_below : ℕ → Finder → Types → ImplType → Run (List Result)

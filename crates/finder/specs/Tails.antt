@@ -1,22 +1,21 @@
 -- Sub-questions from left to right, `find_subimpls`: none are left, the last one, and one before others; the loop over the results of the first.
 use Rattle.std.specs.Prelude.{ℕ, zero, suc, ◌+◌, ◌*◌, ◌≤◌, ◌<◌, ◌≡◌, refl, List, [], ◌∷◌, ◌++◌, map, ltb, length, get_or, drop}
-use Rattle.std.proofs.Common.{sym, ◌∙◌, ap, subst, append_assoc, add-one, arith, length-append, length-drop, drop-cons}
+use Rattle.std.proofs.Common.{sym, ◌∙◌, ap, append_assoc, add-one, arith, length-append, length-drop, drop-cons}
 use Rattle.rules.specs.Lists.{Words}
-use Rattle.rules.specs.Limits.{limit_results, limit_tree_nodes}
 use Rattle.rules.specs.Sheet.{at}
 use Rattle.rules.specs.Types.{Types, ImplType}
-use Rattle.rules.specs.Run.{Run, done, stop, asks, ◌>>=◌, Out, got, refused, within}
-use Rattle.rules.specs.Search.{Trees, end, tree, tree_size, before, Result, add_results, collect, find_subimpls}
+use Rattle.rules.specs.Run.{Run, done, stop, asks, ◌>>=◌, Out, within}
+use Rattle.rules.specs.Search.{Trees, end, before, Result, add_results, collect, find_subimpls}
 use Rattle.rules.specs.Yields.{Every, Yields, yields_both, bind_same, came}
 use Rattle.rules.proofs.Yields.{yields_within}
 use Rattle.rules.specs.ResultLimits.{Small, Few}
 use Rattle.trees.specs.Forests.{Single}
 use Rattle.slots.specs.declared.Asked.{Asked}
 use Rattle.slots.specs.declared.Asked.TheVariants.{Found, Refused}
-use Rattle.slots.specs.Slots.{slot_length, Slot, Slots, slots_kept}
+use Rattle.slots.specs.Slots.{Slot, Slots, slots_kept}
 use Rattle.slots.specs.Adding.{behind, add_one_more}
 use Rattle.slots.specs.Parts.{Lent, slots_back}
-use Rattle.slots.specs.Turns.{Got, Answers, answers_refused, adding, Going, Stepped, Turned, turn, going_same, going_start, going_end, then_got, then_refused, collect_next, collect-none}
+use Rattle.slots.specs.Turns.{Answers, answers_refused, adding, Going, Stepped, Turned, turn, going_same, going_start, going_end, then_got, then_refused, collect_next, collect-none}
 use Rattle.finder.specs.Singles.{One}
 
 -- What one result of the first sub-question gives with the sub-questions that are left.

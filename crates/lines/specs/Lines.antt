@@ -1,12 +1,11 @@
 -- A line of the listing: what is put for the impls that a set admits, one after the other, and the line as a whole.
-use Rattle.std.specs.Prelude.{ℕ, zero, suc, ◌+◌, ◌*◌, ◌-◌, ◌≤◌, ◌<◌, ◌≡◌, refl, Bool, true, false, List, [], ◌∷◌, ◌++◌, leb, length, take}
-use Rattle.std.proofs.Common.{sym, ◌∙◌, ap, ap₂, subst, ⊎_elim, arith}
+use Rattle.std.specs.Prelude.{ℕ, ◌+◌, ◌*◌, ◌≤◌, ◌<◌, ◌≡◌, refl, [], ◌∷◌, ◌++◌, take}
+use Rattle.std.proofs.Common.{sym, ap, subst, ⊎_elim, arith}
 use Rattle.std.proofs.Math.Dec.{leb-zero}
 use Rattle.rules.specs.Lists.{Words, select, concat_map}
 use Rattle.rules.specs.Layout.{header_definitions, header_impls}
-use Rattle.rules.specs.Limits.{limit_definitions, limit_impls}
-use Rattle.rules.specs.Sheet.{at, many}
-use Rattle.rules.specs.Members.{In, in_cases, in_empty}
+use Rattle.rules.specs.Sheet.{many}
+use Rattle.rules.specs.Members.{in_cases, in_empty}
 use Rattle.rules.specs.CheckLaws.{Checked}
 use Rattle.rules.proofs.CheckLaws.{passed}
 use Rattle.rules.specs.CheckedSheet.{valid}

@@ -1,6 +1,6 @@
 -- Text that is put behind the first bytes of a buffer, and numbers in decimal.
-use Rattle.std.specs.Prelude.{ℕ, zero, suc, ◌+◌, ◌*◌, ◌-◌, ◌/◌, ◌%◌, ◌≤◌, ◌<◌, ◌≡◌, refl, List, [], ◌∷◌, ◌++◌, ◌≢◌, length, take, set}
-use Rattle.std.proofs.Common.{sym, ◌∙◌, ap, ap₂, subst, append_assoc, not-suc-le-zero, add-one, arith, length-append, take-suc-set}
+use Rattle.std.specs.Prelude.{ℕ, zero, suc, ◌+◌, ◌-◌, ◌/◌, ◌%◌, ◌≤◌, ◌<◌, ◌≡◌, refl, [], ◌∷◌, ◌++◌, length, take, set}
+use Rattle.std.proofs.Common.{sym, ◌∙◌, ap, ap₂, subst, append_assoc, add-one, arith, length-append, take-suc-set}
 use Rattle.rules.specs.Lists.{Words}
 use Rattle.rules.specs.Listing.{decimal, decimal_in}
 

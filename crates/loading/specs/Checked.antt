@@ -9,7 +9,7 @@ use Rattle.rules.specs.Limits.{limit_sheet, limit_question, limit_nodes}
 use Rattle.rules.specs.Layout.{question_table, question_args, question_type, question_length}
 use Rattle.rules.specs.Sheet.{at, chain}
 use Rattle.rules.specs.Types.{ImplType}
-use Rattle.rules.specs.Transfer.{type_of_word, cell_types, table}
+use Rattle.rules.specs.Transfer.{type_of_word, cell_types}
 use Rattle.rules.specs.Solutions.{AllIn}
 use Rattle.rules.specs.Search.{Finder}
 use Rattle.rules.specs.Chains.{cells_keep, nodes_keep, impl_question_keeps, flex_question_keeps}

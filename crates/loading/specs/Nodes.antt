@@ -14,7 +14,7 @@ use Rattle.rules.specs.Solutions.{AllIn, ChildrenIn}
 use Rattle.rules.specs.Pigeonholes.{lt_or}
 use Rattle.rules.specs.RootRank.{child_in}
 use Rattle.rules.specs.Slim.{SlimState}
-use Rattle.rules.specs.Transfer.{type_of_word, cell_types, node_state, table}
+use Rattle.rules.specs.Transfer.{type_of_word, cell_types, node_state}
 use Rattle.rules.specs.Neat.{Neat}
 use Rattle.table.specs.Packing.{types_of, Pushes, Becomes, Above, TypeWords}
 use Rattle.transfer.specs.Leaves.{type_at}

@@ -1,10 +1,10 @@
 -- Imports from the sheet's tables: the places of a chain are a source of records.
-use Rattle.std.specs.Prelude.{ℕ, zero, suc, ◌+◌, ◌≤◌, ◌≡◌, Bool, false, List, length, take}
+use Rattle.std.specs.Prelude.{ℕ, ◌+◌, ◌≤◌, ◌≡◌, Bool, false, List, length, take}
 use Rattle.std.proofs.Common.{sym, ap, subst, arith, length-take-le}
 use Rattle.std.proofs.Math.Option.{Option}
 use Rattle.rules.specs.Lists.{Words}
 use Rattle.rules.specs.Limits.{limit_nodes}
-use Rattle.rules.specs.Sheet.{at, chain}
+use Rattle.rules.specs.Sheet.{chain}
 use Rattle.rules.specs.Types.{Ty, Types}
 use Rattle.rules.specs.Solutions.{AllIn}
 use Rattle.rules.specs.Transfer.{import_types, table}

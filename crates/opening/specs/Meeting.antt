@@ -1,13 +1,12 @@
 -- An `ImplType` of the sheet is imported and met with the question: what that comes to, and its laws.
 use Rattle.std.specs.Prelude.{ℕ, ◌≤◌, ◌<◌, ◌≡◌, Bool, true, false, ◌≢◌, length, take}
-use Rattle.std.proofs.Common.{sym, ◌∙◌, subst, true≢false, arith, length-take-le}
+use Rattle.std.proofs.Common.{sym, subst, arith, length-take-le}
 use Rattle.std.proofs.Math.Path.{ap}
 use mathlib.Core.List.{List, map}
 use Rattle.std.proofs.Math.Option.{Option}
 use Rattle.rules.specs.Lists.{Words}
 use Rattle.rules.specs.Limits.{limit_nodes}
-use Rattle.rules.specs.Types.{Ty, Types, success, failure, indeterminate, Unified, ImplType, unify_impl_type}
-use Rattle.rules.specs.Types as rules
+use Rattle.rules.specs.Types.{Ty, Types, success, Unified, ImplType, unify_impl_type}
 use Rattle.rules.specs.Solutions.{AllIn}
 use Rattle.rules.specs.Readings.{readable_ranked}
 use Rattle.rules.specs.Transfer.{type_of_word, import_types, import_impl_type}

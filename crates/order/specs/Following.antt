@@ -1,6 +1,6 @@
 -- A test that follows `unify` on the table that notes are of, wherever it succeeds. What it comes to: 0, a clash; 1, all went well, and the notes are of the table that is left; anything else says nothing.
 use Prim.Native.Nat.{ℕ, zero, suc, ◌+◌, ◌/◌, ◌%◌, ◌<◌}
-use Rattle.std.specs.Prelude.{◌≡◌, refl, Bool, true, false, not, List, [], ◌∷◌, ◌≢◌, length}
+use Rattle.std.specs.Prelude.{◌≡◌, refl, Bool, true, false, List, [], ◌∷◌, ◌≢◌, length}
 use Rattle.std.proofs.Math.Path.{sym, ap, ap₂, subst}
 use Rattle.std.proofs.Common.{◌∙◌, arith, eq-eqb}
 use Rattle.rules.specs.Lists.{Words}
@@ -9,8 +9,7 @@ use Rattle.rules.specs.Types.{Ty, Types, xor, invert_if, find, state_at, self_in
 use Rattle.rules.specs.Solutions.{eqb_true, eqb_false}
 use Rattle.rules.specs.MostGeneral.{Won, both_won}
 use Rattle.table.specs.ChildTypes.{odd-sum}
-use Rattle.refs.specs.Meaning.{odd, turn}
-use Rattle.refs.specs.Refs.{apart}
+use Rattle.refs.specs.Meaning.{odd}
 use Rattle.order.specs.Stage.{stands, Kin, Run, Stage, run_on}
 use Rattle.order.specs.Mirror.{Sound, Mirror, Marks, TwoRoots, follow_find, stands_at, tops_apart}
 

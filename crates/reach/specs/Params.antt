@@ -7,7 +7,7 @@ use Rattle.std.proofs.Math.Option.{none}
 use Rattle.std.proofs.Math.ListN.{length, length-map}
 use Rattle.rules.specs.Lists.{Words}
 use Rattle.rules.specs.Layout.{header_generics, impl_param_trait, impl_param_args}
-use Rattle.rules.specs.Sheet.{at, chain, many, field, generics_table, impl_param_records}
+use Rattle.rules.specs.Sheet.{at, chain, field, generics_table, impl_param_records}
 use Rattle.rules.specs.Types.{ImplType}
 use Rattle.rules.specs.Transfer.{import_types, import_impl_type, cell_types}
 use Rattle.rules.specs.Solutions.{AllIn}

@@ -1,15 +1,14 @@
 -- How a question begins: built-in fork and drop, then the generics' impl parameters; a basic one has neither.
 use Rattle.std.specs.Prelude.{ℕ, ◌≤◌, ◌≡◌, refl, true, ◌≢◌, eqb, ltb}
-use Rattle.std.proofs.Common.{sym, ◌∙◌, subst, arith, ne_eqb, eqb-true}
+use Rattle.std.proofs.Common.{◌∙◌, subst, arith, ne_eqb, eqb-true}
 use Rattle.std.proofs.Math.Path.{ap}
 use mathlib.Core.List.{List, [], ◌∷◌, map}
 use Rattle.rules.specs.Lists.{Words}
 use Rattle.rules.specs.Layout.{header_generics, generics_impl_params}
-use Rattle.rules.specs.Sheet.{at, chain, chain_of, field}
+use Rattle.rules.specs.Sheet.{chain, chain_of, field}
 use Rattle.rules.specs.Types.{Types, ImplType}
 use Rattle.rules.specs.Run.{Run, ◌>>=◌, within}
 use Rattle.rules.specs.Search.{Trees, Result, add_results, impl_params, find_auto_impls, from_impl_params, before_candidates}
-use Rattle.rules.specs.Search as rules
 use Rattle.table.specs.Packing.{types_of, Packed}
 use Rattle.slots.specs.declared.Asked.{Asked}
 use Rattle.slots.specs.declared.Asked.TheVariants.{Found, Refused}

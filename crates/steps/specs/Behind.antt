@@ -1,5 +1,5 @@
 -- Behind slot 4: the table of slot 0 is copied there, is worked on as a part of its own, and comes back.
-use Rattle.std.specs.Prelude.{ℕ, ◌+◌, ◌-◌, ◌≤◌, ◌≡◌, refl, length, drop}
+use Rattle.std.specs.Prelude.{◌+◌, ◌-◌, ◌≤◌, ◌≡◌, refl, length, drop}
 use Rattle.std.proofs.Common.{sym, ◌∙◌, ap, subst, inl, arith}
 use Rattle.std.proofs.Math.Option.{none}
 use borrow.Rule.Slice.PartMut.{put_mid}

@@ -1,11 +1,5 @@
 use Rattle.std.proofs.Common.{arith, rules}
 use Rattle.asking.specs.Impls.{ask_ends, ask_one, exports_asking, impls_basic, impls_question, impls_searching}
-use Rattle.asking.proofs.ask_impl.Reads as reads
-use Rattle.asking.proofs.ask_impl.Lts as lts
-use Rattle.asking.proofs.count_of.Reads as count-of-reads
-use Rattle.asking.proofs.end_asked.Reads as end-asked-reads
-use Rattle.asking.proofs.export_asked.Reads as export-asked-reads
-use Rattle.finder.proofs.question.Reads as question-reads
 use Rattle.asking.proofs.ask_impl.Goals as goal
 
 pub export_asked-asked-requires-clause-questions : goal.export_asked-asked-requires-clause-questions

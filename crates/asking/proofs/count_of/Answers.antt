@@ -1,7 +1,5 @@
 use Rattle.std.proofs.Common.{rules}
 use Rattle.asking.specs.Impls.{count-found, count_refused}
-use Rattle.asking.proofs.count_of.Reads as reads
-use Rattle.asking.proofs.count_of.Lts as lts
 use Rattle.asking.proofs.count_of.Goals as goal
 
 pub returns-in-Found : goal.returns-in-Found

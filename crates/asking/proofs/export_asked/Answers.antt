@@ -1,10 +1,5 @@
 use Rattle.std.proofs.Common.{rules}
 use Rattle.asking.specs.Impls.{exported, loaded_asks, new_map, new_table}
-use Rattle.asking.proofs.export_asked.Reads as reads
-use Rattle.asking.proofs.export_asked.Lts as lts
-use Rattle.loading.proofs.export_question.Reads as export-question-reads
-use Rattle.loading.proofs.load_table.Reads as load-table-reads
-use Rattle.loading.proofs.read_question.Reads as read-question-reads
 use Rattle.asking.proofs.export_asked.Goals as goal
 
 pub load_table-requires-clause-in_bounds : goal.load_table-requires-clause-in_bounds

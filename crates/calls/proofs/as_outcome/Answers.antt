@@ -1,7 +1,5 @@
 use Rattle.std.proofs.Common.{rules}
 use Rattle.calls.specs.Whole.{ended_answered, ended_refused}
-use Rattle.calls.proofs.as_outcome.Reads as reads
-use Rattle.calls.proofs.as_outcome.Lts as lts
 use Rattle.calls.proofs.as_outcome.Goals as goal
 
 pub returns-then-r-eq0 : goal.returns-then-r-eq0

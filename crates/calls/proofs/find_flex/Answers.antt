@@ -1,12 +1,5 @@
 use Rattle.std.proofs.Common.{rules}
 use Rattle.calls.specs.Whole.{entry_room, flex_away, flex_comes_by, part-entered, part_is}
-use Rattle.calls.proofs.find_flex.Reads as reads
-use Rattle.calls.proofs.find_flex.Lts as lts
-use Rattle.calls.proofs.as_outcome.Reads as as-outcome-reads
-use Rattle.calls.proofs.flex_within.Reads as flex-within-reads
-use Rattle.calls.proofs.workspace_words.Reads as workspace-words-reads
-use Rattle.checks.proofs.check_entry.Reads as check-entry-reads
-use Rattle.words.proofs.wide.Reads as wide-reads
 use Rattle.calls.proofs.find_flex.Goals as goal
 
 pub returns-then-number-ne0 : goal.returns-then-number-ne0

@@ -2,9 +2,6 @@ use Rattle.std.proofs.Common.{sym, ◌∙◌, ℕ, rules}
 use Rattle.calls.specs.Prepared.{new_sets}
 use Rattle.calls.specs.Behind.{flex_call, flex_prepares}
 use lib.ListN.{length-replicate}
-use Rattle.calls.proofs.flex_with_sets.Reads as reads
-use Rattle.calls.proofs.flex_with_sets.Lts as lts
-use Rattle.flexing.proofs.ask_flex.Reads as ask-flex-reads
 use Rattle.calls.proofs.flex_with_sets.Goals as goal
 
 pub slice_bounds-prepare-end : goal.slice_bounds-prepare-end

@@ -2,9 +2,6 @@ use Rattle.std.proofs.Common.{sym, ◌∙◌, ℕ, rules}
 use Rattle.calls.specs.Prepared.{new_sets}
 use Rattle.calls.specs.Behind.{impl_call, impl_prepares}
 use lib.ListN.{length-replicate}
-use Rattle.calls.proofs.impl_with_sets.Reads as reads
-use Rattle.calls.proofs.impl_with_sets.Lts as lts
-use Rattle.asking.proofs.ask_impl.Reads as ask-impl-reads
 use Rattle.calls.proofs.impl_with_sets.Goals as goal
 
 pub slice_bounds-prepare-end : goal.slice_bounds-prepare-end

@@ -1,11 +1,5 @@
 use Rattle.std.proofs.Common.{◌∙◌, rules}
 use Rattle.calls.specs.Behind.{behind_passed, behind_refused, entered-answer, entered-count, entered-question, entered_question_short, entered_sheet, entered_short, entered_work, entered-kept, impl_passed}
-use Rattle.calls.proofs.impl_within.Reads as reads
-use Rattle.calls.proofs.impl_within.Lts as lts
-use Rattle.calls.proofs.impl_with_sets.Reads as impl-with-sets-reads
-use Rattle.calls.proofs.workspace_words.Reads as workspace-words-reads
-use Rattle.checks.proofs.check_impl.Reads as check-impl-reads
-use Rattle.words.proofs.clear.Reads as clear_reads
 use Rattle.calls.proofs.impl_within.Goals as goal
 
 pub check_impl-number-requires-clause-s_nonzero : goal.check_impl-number-requires-clause-s_nonzero

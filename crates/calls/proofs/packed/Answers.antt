@@ -1,7 +1,5 @@
 use Rattle.std.proofs.Common.{rules}
 use Rattle.calls.specs.Outcomes.{packed_answered, packed_refused}
-use Rattle.calls.proofs.packed.Reads as reads
-use Rattle.calls.proofs.packed.Lts as lts
 use Rattle.calls.proofs.packed.Goals as goal
 
 pub returns-in-Answered : goal.returns-in-Answered

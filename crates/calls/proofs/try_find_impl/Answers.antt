@@ -1,12 +1,5 @@
 use Rattle.std.proofs.Common.{rules}
 use Rattle.calls.specs.Whole.{entry_room, impl_away, impl_comes_by, part-entered, part_is}
-use Rattle.calls.proofs.try_find_impl.Reads as reads
-use Rattle.calls.proofs.try_find_impl.Lts as lts
-use Rattle.calls.proofs.as_outcome.Reads as as-outcome-reads
-use Rattle.calls.proofs.impl_within.Reads as impl-within-reads
-use Rattle.calls.proofs.workspace_words.Reads as workspace-words-reads
-use Rattle.checks.proofs.check_entry.Reads as check-entry-reads
-use Rattle.words.proofs.wide.Reads as wide-reads
 use Rattle.calls.proofs.try_find_impl.Goals as goal
 
 pub returns-then-number-ne0 : goal.returns-then-number-ne0

@@ -1,6 +1,4 @@
 use Rattle.calls.specs.Behind.{words_are}
-use Rattle.calls.proofs.workspace_words.Reads as reads
-use Rattle.calls.proofs.workspace_words.Lts as lts
 use Rattle.calls.proofs.workspace_words.Goals as goal
 
 pub returns : goal.returns

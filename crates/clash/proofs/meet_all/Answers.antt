@@ -1,5 +1,5 @@
 -- `meet_all`: one by one.
-use Rattle.std.proofs.Common.{rules, ◌-◌}
+use Rattle.std.proofs.Common.{rules}
 use Rattle.clash.specs.Pairs.{goes_start, goes_on}
 use Rattle.clash.proofs.meet_all.Goals as goal
 

@@ -1,5 +1,5 @@
 -- `meet_args`: one by one.
-use Rattle.std.proofs.Common.{rules, ◌-◌}
+use Rattle.std.proofs.Common.{rules}
 use Rattle.clash.specs.Pairs.{args_start, args_on}
 use Rattle.clash.proofs.meet_args.Goals as goal
 

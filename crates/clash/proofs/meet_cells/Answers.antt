@@ -1,5 +1,5 @@
 -- `meet_cells`: cell by cell, as the children go.
-use Rattle.std.proofs.Common.{◌-◌, rules}
+use Rattle.std.proofs.Common.{rules}
 use Rattle.clash.specs.Across.{crosses_start, crosses_more, crosses_fewer, cells_on, crosses_on, crosses_over}
 use Rattle.clash.proofs.meet_cells.Goals as goal
 

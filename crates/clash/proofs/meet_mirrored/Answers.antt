@@ -1,5 +1,5 @@
 -- `meet_mirrored`: one by one.
-use Rattle.std.proofs.Common.{rules, ◌-◌}
+use Rattle.std.proofs.Common.{rules}
 use Rattle.clash.specs.Pairs.{goes_start, goes_on}
 use Rattle.clash.proofs.meet_mirrored.Goals as goal
 

@@ -1,5 +1,5 @@
 -- `roots_clash`: one by one.
-use Rattle.std.proofs.Common.{rules, ◌-◌}
+use Rattle.std.proofs.Common.{rules}
 use Rattle.clash.specs.Pairs.{clashing_root, clashing_not}
 use Rattle.clash.proofs.roots_clash.Goals as goal
 

@@ -1,5 +1,5 @@
 -- The type words of nodes 0, 1, 2 and on. The loop's invariant: the first i are written. The measure is what is left of them.
-use Rattle.std.proofs.Common.{◌-◌, rules}
+use Rattle.std.proofs.Common.{rules}
 use Rattle.closing.specs.Rows.{filling_start, filling_next, filling_done}
 use Rattle.closing.proofs.fill_row.Goals as goal
 

@@ -92,7 +92,7 @@
 -- src/lib.rt:524:1
 -- src/lib.rt:524:1
 -- src/lib.rt:524:1
-use Rattle.std.proofs.Common.{rules, arith, ◌-◌}
+use Rattle.std.proofs.Common.{rules, arith}
 use Rattle.finder.specs.Recalling.{recalls_room, recalls_start, tail_counts, tail_packed, tail_room, recall_low, recalled_answers, recalled_still, kept_recalls}
 use Rattle.finder.specs.Cycle.{tail_asked, few_impls, question_limit, question_depth, question_refused, begun_low, begun_few, begun_row, question_goes, begun_asking, sets_refused, trying_start, trying_refused, trying_on, trying_end, collecting_start, collecting_few, collecting_low, collecting_element, collecting_on, collecting_refused, collecting_end, element_filled, element_tail, sub-none, sub-last_of, first_asked, asked_refused, asked_low, asked_few, asked_elements, asked_goes, searching_sound, searching_long, searching_taken, searching_takes, searching_stands, searching_indexed, opened_full, opened_unfit, opened_tail, opened_sub, opened_long, opened_part, opened_steps, rest_long, rest_element, rest-sub, rest-steps, beside_rest, beside_sub, trying_asking, trying_up, trying_long, trying_low, trying_few, trying_less, begun_long, collecting_long, rest_part, first_part, sub_long}
 use Rattle.finder.proofs.+search.Goals as goal

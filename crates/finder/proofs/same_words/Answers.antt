@@ -1,5 +1,5 @@
 -- `same_words`: those that were compared are the same.
-use Rattle.std.proofs.Common.{◌-◌, rules}
+use Rattle.std.proofs.Common.{rules}
 use Rattle.finder.specs.Recalling.{same_none, same_more, same_not, same-all}
 use Rattle.finder.proofs.same_words.Goals as goal
 

@@ -1,5 +1,5 @@
 -- `put_impls`: with those from an id on still to come all are put.
-use Rattle.std.proofs.Common.{rules, ◌-◌}
+use Rattle.std.proofs.Common.{rules}
 use Rattle.lines.specs.Lines.{lining_start, lining_more, lining_done}
 use Rattle.lines.proofs.put_impls.Goals as goal
 

@@ -1,5 +1,5 @@
 -- The question's table. The loop's invariant: the first j nodes are there. The measure is what is left of them.
-use Rattle.std.proofs.Common.{◌-◌, rules}
+use Rattle.std.proofs.Common.{rules}
 use Rattle.loading.specs.Tables.{loading_start, loading_fits, loading_room, loading_next, loading_done}
 use Rattle.loading.proofs.load_table.Goals as goal
 

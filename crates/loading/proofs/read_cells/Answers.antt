@@ -1,5 +1,5 @@
 -- The cells from a head. The loop's invariant: the first j are read. The measure is what is left of them.
-use Rattle.std.proofs.Common.{◌-◌, rules}
+use Rattle.std.proofs.Common.{rules}
 use Rattle.loading.specs.Nodes.{reading_start, reading_next, reading_done}
 use Rattle.loading.proofs.read_cells.Goals as goal
 

@@ -1,5 +1,5 @@
 -- `args_alike`: one by one.
-use Rattle.std.proofs.Common.{◌-◌, rules}
+use Rattle.std.proofs.Common.{rules}
 use Rattle.loose.specs.Loose.{args_start, args_not, args_on, args_end}
 use Rattle.loose.proofs.args_alike.Goals as goal
 

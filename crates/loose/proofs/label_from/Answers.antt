@@ -1,5 +1,4 @@
 -- `label_from`: ref by ref.
-use Rattle.std.proofs.Common.{◌-◌}
 use Rattle.loose.proofs.label_from.Goals as goal
 
 pub loop-k-init : goal.loop-k-init

@@ -1,5 +1,4 @@
 -- `label_linked`: record by record.
-use Rattle.std.proofs.Common.{◌-◌}
 use Rattle.loose.proofs.label_linked.Goals as goal
 
 pub loop-k-init : goal.loop-k-init

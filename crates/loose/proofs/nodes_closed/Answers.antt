@@ -1,5 +1,5 @@
 -- `nodes_closed`: one by one.
-use Rattle.std.proofs.Common.{◌-◌, rules}
+use Rattle.std.proofs.Common.{rules}
 use Rattle.loose.specs.Loose.{node_low, nodes_start, nodes_not, nodes_on, nodes_end}
 use Rattle.loose.proofs.nodes_closed.Goals as goal
 

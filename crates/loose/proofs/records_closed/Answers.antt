@@ -1,5 +1,5 @@
 -- `records_closed`: one by one.
-use Rattle.std.proofs.Common.{◌-◌, rules}
+use Rattle.std.proofs.Common.{rules}
 use Rattle.loose.specs.Loose.{index_low, records-none, records_start, records_not, records_on, records_end}
 use Rattle.loose.proofs.records_closed.Goals as goal
 

@@ -1,5 +1,5 @@
 -- `same_cells`: cell by cell.
-use Rattle.std.proofs.Common.{◌-◌, rules}
+use Rattle.std.proofs.Common.{rules}
 use Rattle.loose.specs.LooseAcross.{beside_start, beside_more, beside_not, beside_on, beside_end}
 use Rattle.loose.proofs.same_cells.Goals as goal
 

@@ -1,5 +1,5 @@
 -- `same_labels`: one by one.
-use Rattle.std.proofs.Common.{◌-◌, rules}
+use Rattle.std.proofs.Common.{rules}
 use Rattle.loose.specs.Loose.{labels_start, labels_not, labels_on, labels_end}
 use Rattle.loose.proofs.same_labels.Goals as goal
 

@@ -1,5 +1,4 @@
 -- `witness`: record by record.
-use Rattle.std.proofs.Common.{◌-◌}
 use Rattle.loose.proofs.witness.Goals as goal
 
 pub loop-k-init : goal.loop-k-init

@@ -1,5 +1,5 @@
 -- `fresh`: what is left to push makes the same table.
-use Rattle.std.proofs.Common.{◌-◌, rules}
+use Rattle.std.proofs.Common.{rules}
 use Rattle.opening.specs.Fresh.{fresh-none, fresh_more, fresh_full, fresh_done}
 use Rattle.opening.proofs.fresh.Goals as goal
 

@@ -1,5 +1,5 @@
 -- `stand`: one word after the other.
-use Rattle.std.proofs.Common.{◌-◌, rules}
+use Rattle.std.proofs.Common.{rules}
 use Rattle.opening.specs.Standing.{standing-none, standing_more, standing_done}
 use Rattle.opening.proofs.stand.Goals as goal
 

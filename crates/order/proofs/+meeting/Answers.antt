@@ -1,5 +1,5 @@
 -- The cycle of `go`: the rule is followed layer by layer, and the fuel falls.
-use Rattle.std.proofs.Common.{arith, ◌-◌, rules}
+use Rattle.std.proofs.Common.{arith, rules}
 use Rattle.order.specs.Words.{kids_known, steps-none}
 use Rattle.order.specs.Going.{go_same, go_own, go_not_own, go_meets, go_stop, all_stop, meet_stop, pair_near, meet_left, meet_right, known_clash, known_kids, known_joined, kind_there}
 use Rattle.order.specs.Kids.{beside_start, beside_short, beside_over, beside_end, beside_last, beside_on, cell_met, arity_few, kids_across, rows_start, rows_even, rows_uneven, rows_end_lem, rows_last, rows_on, rows-kids}

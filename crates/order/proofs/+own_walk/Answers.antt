@@ -1,5 +1,5 @@
 -- The cycle of `own`: the root and then its children, and the fuel falls.
-use Rattle.std.proofs.Common.{arith, ◌-◌, rules}
+use Rattle.std.proofs.Common.{arith, rules}
 use Rattle.order.specs.Owning.{owns_true, owns_flag, owns_kids, owns_marked, all_true, owning_start, owning_on, owning_not, owning_end}
 use Rattle.order.specs.Mirror.{marks_same}
 use Rattle.order.proofs.+own_walk.Goals as goal

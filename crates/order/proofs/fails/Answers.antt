@@ -1,5 +1,5 @@
 -- `fails`: argument by argument.
-use Rattle.std.proofs.Common.{◌-◌, rules}
+use Rattle.std.proofs.Common.{rules}
 use Rattle.order.specs.Arguments.{asked_start, asked_on, asked-last, fails_not}
 use Rattle.order.proofs.fails.Goals as goal
 

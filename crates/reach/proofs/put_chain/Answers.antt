@@ -1,5 +1,5 @@
 -- `put_chain`: record by record.
-use Rattle.std.proofs.Common.{◌-◌, rules}
+use Rattle.std.proofs.Common.{rules}
 use Rattle.reach.specs.Params.{adding_start, adding_end, adding_full, adding_index, adding_on}
 use Rattle.reach.proofs.put_chain.Goals as goal
 

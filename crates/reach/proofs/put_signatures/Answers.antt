@@ -1,5 +1,5 @@
 -- `put_signatures`: record by record.
-use Rattle.std.proofs.Common.{◌-◌, rules}
+use Rattle.std.proofs.Common.{rules}
 use Rattle.reach.specs.Impls.{checked_short, signing_start, signing_end, signing_full, signing_few, signing_index, signing_params, signing_on}
 use Rattle.reach.proofs.put_signatures.Goals as goal
 

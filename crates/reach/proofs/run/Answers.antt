@@ -1,5 +1,5 @@
 -- `run`: record by record.
-use Rattle.std.proofs.Common.{◌-◌, rules}
+use Rattle.std.proofs.Common.{rules}
 use Rattle.reach.specs.Walk.{ends_full, running_start, running_end, running_on}
 use Rattle.reach.proofs.run.Goals as goal
 

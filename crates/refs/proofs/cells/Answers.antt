@@ -1,5 +1,5 @@
 -- `cells`: the types written are those of the cells passed.
-use Rattle.std.proofs.Common.{rules, ◌-◌}
+use Rattle.std.proofs.Common.{rules}
 use Rattle.refs.specs.Children.{cells_untold, walks_start, walks_on, walks_end}
 use Rattle.refs.proofs.cells.Goals as goal
 

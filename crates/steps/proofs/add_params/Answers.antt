@@ -1,5 +1,5 @@
 -- `add_params`: k of them are done.
-use Rattle.std.proofs.Common.{◌-◌, arith, rules}
+use Rattle.std.proofs.Common.{arith, rules}
 use Rattle.steps.specs.Asking.{scratch_kept}
 use Rattle.steps.specs.Params.{params_few, param_in, param_takes, adding_start, adding_on, adding_refused, adding_end}
 use Rattle.steps.proofs.add_params.Goals as goal

@@ -1,5 +1,5 @@
 -- `within`, `below`, `among` and `among_cells`: what is left falls; of the children passed none has an open one within it.
-use Rattle.std.proofs.Common.{rules, ◌-◌}
+use Rattle.std.proofs.Common.{rules}
 use Rattle.refs.specs.Children.{known_node}
 use Rattle.loose.specs.LooseAcross.{own_few}
 use Rattle.clash.specs.Cycles.{kept_same, kept-marked, among_end, among_found, passes_start, passes_end, passes_over, passes_on, passes_found, inside_not, inside_node, inside_record, within_not, within_open, within-found, within_done}

@@ -1,5 +1,5 @@
 -- `cyclic_among`: from ref to ref; between them no more are open.
-use Rattle.std.proofs.Common.{◌-◌, rules}
+use Rattle.std.proofs.Common.{rules}
 use Rattle.clash.specs.Cycles.{kept_same, kept_on, cycling_found, cycling_not}
 use Rattle.clash.proofs.cycles.cyclic_among.Goals as goal
 

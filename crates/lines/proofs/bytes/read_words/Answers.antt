@@ -1,5 +1,5 @@
 -- `read_words`: so many words are read.
-use Rattle.std.proofs.Common.{rules, arith, ◌-◌}
+use Rattle.std.proofs.Common.{rules, arith}
 use Rattle.lines.specs.Bytes.{reading_start, reading_more, reading_done}
 use Rattle.lines.proofs.bytes.read_words.Goals as goal
 
