@@ -11,7 +11,6 @@ use Rattle.rules.specs.Calls.{try_find_impl, find_flex}
 use Rattle.rules.specs.Refusals.{Leaves_count, Ends}
 use Rattle.rules.proofs.Refusals.{impl_ends, flex_ends}
 use Rattle.checks.specs.Numbers.{finder}
-use Rattle.sitting.specs.declared.Tally.{Tally}
 use Rattle.sitting.specs.Sits.{tally, number_in, Sits}
 
 -- A call in a sitting: its number, spent before and spent after; k is how many searches it makes.

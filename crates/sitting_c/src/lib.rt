@@ -39,7 +39,5 @@ pub extern "C" fn vine_sitting_find_flex(
 ) -> u32
     ensures { Sits (find_flex limit_steps (finder sheet.now source generics) question.now (length answer.old) (length work.old) spent.old) answer.old answer.new work.old work.new (tally result spent.new) }
 {
-    sitting::vine_sitting_find_flex(
-        sheet, question, source, generics, answer, work, spent,
-    )
+    sitting::vine_sitting_find_flex(sheet, question, source, generics, answer, work, spent)
 }

@@ -1,7 +1,5 @@
 use Rattle.std.proofs.Common.{rules}
 use Rattle.sitting.specs.Sits.{tally_answered, tally_refused}
-use Rattle.sitting.proofs.as_tally.Reads as reads
-use Rattle.sitting.proofs.as_tally.Lts as lts
 use Rattle.sitting.proofs.as_tally.Goals as goal
 
 pub returns-in-Answered : goal.returns-in-Answered
