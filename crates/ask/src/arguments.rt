@@ -1,7 +1,7 @@
 // What the arguments ask for: one question, or several in one sitting.
 ghost use Rattle.std.specs.Prelude.{◌≤◌, ◌<◌};
 
-use libc::STDERR_FILENO;
+use std::io;
 
 // Where the questions of a sitting begin.
 pub const FIRST: usize = 6;
@@ -37,38 +37,26 @@ pub enum Turn {
     Wrong,
 }
 
-pub fn usage() {
-    io::write_all(
-        STDERR_FILENO,
-        b"usage: ask impl SHEET QUESTION SOURCE GENERICS BASIC COUNT [raw]\n",
-    );
-    io::write_all(
-        STDERR_FILENO,
-        b"       ask flex SHEET QUESTION SOURCE GENERICS COUNT [raw]\n",
-    );
-    io::write_all(
-        STDERR_FILENO,
-        b"       ask sitting SHEET SOURCE GENERICS COUNT (impl QUESTION BASIC | flex QUESTION).. [raw]\n",
-    );
-    io::write_all(
-        STDERR_FILENO,
-        b"SHEET and QUESTION are files of decimal words; spaces, line ends and | stand between words,\n",
-    );
-    io::write_all(
-        STDERR_FILENO,
-        b"and # begins a comment. raw prints the answer's words too. The questions of a sitting are asked\n",
-    );
-    io::write_all(
-        STDERR_FILENO,
-        b"in turn, each from the count of steps that the one before it left; the first from COUNT.\n",
-    );
+pub fn usage(rt: &impl Eprint) -> io::Result<()> {
+    eprintln!(rt; "usage: ask impl SHEET QUESTION SOURCE GENERICS BASIC COUNT [raw]")?;
+    eprintln!(rt; "       ask flex SHEET QUESTION SOURCE GENERICS COUNT [raw]")?;
+    eprintln!(rt;
+        "       ask sitting SHEET SOURCE GENERICS COUNT (impl QUESTION BASIC | flex QUESTION).. [raw]"
+    )?;
+    eprintln!(rt;
+        "SHEET and QUESTION are files of decimal words; spaces, line ends and | stand between words,"
+    )?;
+    eprintln!(rt;
+        "and # begins a comment. raw prints the answer's words too. The questions of a sitting are asked"
+    )?;
+    eprintln!(rt;
+        "in turn, each from the count of steps that the one before it left; the first from COUNT."
+    )
 }
 
 // Whether argument k is a text.
-fn is_arg(k: usize, text: &[u8]) -> bool {
-    let mut arg = io::buffer();
-    let n = os::arg(k, &mut arg);
-    same(&arg[..n], text)
+fn is_arg(args: &[String], k: usize, text: &str) -> bool {
+    same(programs::argument(args, k).as_bytes(), text.as_bytes())
 }
 
 // Whether two texts are equal.
@@ -89,10 +77,8 @@ fn same(a: &[u8], b: &[u8]) -> bool {
 }
 
 // Argument k as a number.
-fn number_arg(k: usize) -> notation::read::Parsed {
-    let mut arg = io::buffer();
-    let n = os::arg(k, &mut arg);
-    notation::read::number(&arg[..n])
+fn number_arg(args: &[String], k: usize) -> notation::read::Parsed {
+    notation::read::number(programs::argument(args, k).as_bytes())
 }
 
 #[derive(Clone, Copy)]
@@ -102,14 +88,14 @@ enum Three {
 }
 
 // Source, generics and count, by where they stand.
-fn numbers_at(source: usize, generics: usize, count: usize, raw: bool) -> Three {
-    let notation::read::Parsed::Word(source) = number_arg(source) else {
+fn numbers_at(args: &[String], source: usize, generics: usize, count: usize, raw: bool) -> Three {
+    let notation::read::Parsed::Word(source) = number_arg(args, source) else {
         return Three::Wrong;
     };
-    let notation::read::Parsed::Word(generics) = number_arg(generics) else {
+    let notation::read::Parsed::Word(generics) = number_arg(args, generics) else {
         return Three::Wrong;
     };
-    let notation::read::Parsed::Word(count) = number_arg(count) else {
+    let notation::read::Parsed::Word(count) = number_arg(args, count) else {
         return Three::Wrong;
     };
     Three::Numbers {
@@ -130,20 +116,20 @@ fn last_number(flex: bool) -> usize
 }
 
 // One question: its numbers stand behind the files.
-fn one_given(flex: bool) -> Given {
+fn one_given(args: &[String], flex: bool) -> Given {
     let last = last_number(flex);
-    let n = os::arg_count();
+    let n = args.len();
     let raw = n == last + 2;
     if n != last + 1 && !raw {
         return Given::Wrong;
     }
-    if raw && !is_arg(last + 1, b"raw") {
+    if raw && !is_arg(args, last + 1, "raw") {
         return Given::Wrong;
     }
-    let Three::Numbers { numbers } = numbers_at(4, 5, last, raw) else {
+    let Three::Numbers { numbers } = numbers_at(args, 4, 5, last, raw) else {
         return Given::Wrong;
     };
-    let notation::read::Parsed::Word(basic) = number_arg(6) else {
+    let notation::read::Parsed::Word(basic) = number_arg(args, 6) else {
         return Given::Wrong;
     };
     Given::One {
@@ -153,14 +139,14 @@ fn one_given(flex: bool) -> Given {
 }
 
 // The question at an argument, all of it before an end.
-pub fn turn_at(at: usize, end: usize) -> Turn {
+pub fn turn_at(args: &[String], at: usize, end: usize) -> Turn {
     if end <= at {
         return Turn::Wrong;
     }
     if end <= at + 1 {
         return Turn::Wrong;
     }
-    if is_arg(at, b"flex") {
+    if is_arg(args, at, "flex") {
         return Turn::Question {
             form: Form {
                 flex: true,
@@ -168,10 +154,10 @@ pub fn turn_at(at: usize, end: usize) -> Turn {
             },
         };
     }
-    if end <= at + 2 || !is_arg(at, b"impl") {
+    if end <= at + 2 || !is_arg(args, at, "impl") {
         return Turn::Wrong;
     }
-    let notation::read::Parsed::Word(basic) = number_arg(at + 2) else {
+    let notation::read::Parsed::Word(basic) = number_arg(args, at + 2) else {
         return Turn::Wrong;
     };
     Turn::Question {
@@ -196,10 +182,10 @@ pub fn behind(flex: bool, at: usize, end: usize) -> usize
 }
 
 // Whether all arguments from FIRST up to an end are questions, and there is one.
-fn all_questions(end: usize) -> bool {
+fn all_questions(args: &[String], end: usize) -> bool {
     let mut at = FIRST;
     while at < end {
-        let Turn::Question { form } = turn_at(at, end) else {
+        let Turn::Question { form } = turn_at(args, at, end) else {
             return false;
         };
         at = behind(form.flex, at, end);
@@ -208,29 +194,29 @@ fn all_questions(end: usize) -> bool {
 }
 
 // Several questions in one sitting.
-fn several_given() -> Given {
-    let n = os::arg_count();
-    let raw = n > FIRST && is_arg(n - 1, b"raw");
+fn several_given(args: &[String]) -> Given {
+    let n = args.len();
+    let raw = n > FIRST && is_arg(args, n - 1, "raw");
     let end = if raw && n > 0 { n - 1 } else { n };
-    if !all_questions(end) {
+    if !all_questions(args, end) {
         return Given::Wrong;
     }
-    let Three::Numbers { numbers } = numbers_at(3, 4, 5, raw) else {
+    let Three::Numbers { numbers } = numbers_at(args, 3, 4, 5, raw) else {
         return Given::Wrong;
     };
     Given::Several { numbers, end }
 }
 
 // What the arguments ask for.
-pub fn asked_for() -> Given {
-    if is_arg(1, b"impl") {
-        return one_given(false);
+pub fn asked_for(args: &[String]) -> Given {
+    if is_arg(args, 1, "impl") {
+        return one_given(args, false);
     }
-    if is_arg(1, b"flex") {
-        return one_given(true);
+    if is_arg(args, 1, "flex") {
+        return one_given(args, true);
     }
-    if is_arg(1, b"sitting") {
-        return several_given();
+    if is_arg(args, 1, "sitting") {
+        return several_given(args);
     }
     Given::Wrong
 }

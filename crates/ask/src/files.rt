@@ -1,13 +1,14 @@
 // Files of decimal words.
-use libc::STDERR_FILENO;
 use notation::read::Reading;
+use std::io::{ErrorKind, Read};
+use std::rt::Files;
+use std::{fs, io};
 
 // What came of one read of a file.
 #[derive(Clone, Copy)]
 enum Part {
     More { r: Reading },
     End { r: Reading },
-    Failed,
 }
 
 // The words of a file, so many in the caller's buffer; or a message was written.
@@ -18,85 +19,79 @@ pub enum File {
 }
 
 // Reads once.
-fn read_some(fd: i32, out: &mut [u32], r: Reading) -> Part {
-    let mut buf = io::buffer();
-    let got = libc::read(fd, &mut buf);
-    if got < 0 {
-        return Part::Failed;
-    }
-    if got == 0 {
-        return Part::End {
+fn read_some<R: Read>(source: &mut R, out: &mut [u32], r: Reading) -> io::Result<Part> {
+    let mut buf = [0u8; 4096];
+    let n = source.read(&mut buf)?;
+    if n == 0 {
+        return Ok(Part::End {
             r: notation::read::finish(out, r),
-        };
+        });
     }
-    let n = io::count(got, &buf);
-    Part::More {
+    Ok(Part::More {
         r: notation::read::read(out, r, &buf[..n]),
-    }
+    })
 }
 
 // Reads to the end, or as far as so many reads go.
-fn read_all(fd: i32, out: &mut [u32]) -> Part {
+fn read_all<R: Read>(source: &mut R, out: &mut [u32]) -> io::Result<Reading> {
     let mut r = notation::read::start();
     let mut turns = 1000000u32;
     while turns > 0 {
-        let part = read_some(fd, out, r);
+        let part = read_some(source, out, r)?;
         match part {
             Part::More { r: next } => {
                 r = next;
             }
             Part::End { r: last } => {
-                return Part::End { r: last };
-            }
-            Part::Failed => {
-                return Part::Failed;
+                return Ok(last);
             }
         }
         turns -= 1;
     }
-    Part::Failed
+    Err(io::Error::from(ErrorKind::FileTooLarge))
 }
 
 // Says where a file has something that is no word.
-fn complain(path: &[u8], line: u32) {
-    io::write_all(STDERR_FILENO, path);
-    io::write_all(STDERR_FILENO, b": line ");
-    io::print_decimal(STDERR_FILENO, line as u64);
-    io::write_all(
-        STDERR_FILENO,
-        b": this is no decimal word below 4294967296\n",
-    );
+fn complain(rt: &impl Eprint, path: &str, line: u32) -> io::Result<()> {
+    eprintln!(rt; "{path}: line {line}: this is no decimal word below 4294967296")
 }
 
-// The words of an opened file.
-fn words_of(path: &[u8], part: Part) -> File {
-    match part {
-        Part::More { r } => File::Unread,
-        Part::Failed => {
-            os::fail(path);
-            File::Unread
+// The words of an opened file, by what was read of it.
+fn words_of(
+    rt: &(impl Eprint + AllocGlobal),
+    path: &str,
+    read: io::Result<Reading>,
+) -> io::Result<File> {
+    match read {
+        Err(why) => {
+            programs::fail(rt, path, &why)?;
+            Ok(File::Unread)
         }
-        Part::End { r } => {
+        Ok(r) => {
             if !notation::read::is_right(r) {
-                complain(path, r.line);
-                return File::Unread;
+                complain(rt, path, r.line)?;
+                return Ok(File::Unread);
             }
-            File::Words { count: r.count }
+            Ok(File::Words { count: r.count })
         }
     }
 }
 
 // The words of the file that argument k names.
-pub fn read_file(k: usize, out: &mut [u32]) -> File {
-    let mut path = io::buffer();
-    let n = os::arg(k, &mut path);
-    let fd = os::open_read(&path[..n]);
-    if fd < 0 {
-        os::fail(&path[..n]);
-        return File::Unread;
-    }
-    let part = read_all(fd, out);
-    let file = words_of(&path[..n], part);
-    libc::close(fd);
-    file
+pub fn read_file(
+    rt: &(impl Files + Eprint + AllocGlobal),
+    args: &[String],
+    k: usize,
+    out: &mut [u32],
+) -> io::Result<File> {
+    let path = programs::argument(args, k);
+    let mut file = match fs::open(rt, path) {
+        Ok(file) => file,
+        Err(why) => {
+            programs::fail(rt, path, &why)?;
+            return Ok(File::Unread);
+        }
+    };
+    let read = read_all(&mut file, out);
+    words_of(rt, path, read)
 }

@@ -1,127 +1,121 @@
 // What a call gave, as text on standard output.
-use libc::STDOUT_FILENO;
+use std::io;
 
-fn text(t: &[u8]) {
-    io::write_all(STDOUT_FILENO, t);
+fn text(rt: &impl Print, t: &[u8]) -> io::Result<()> {
+    rt.write_all(t)
 }
 
-fn decimal(n: u32) {
-    io::print_decimal(STDOUT_FILENO, n as u64);
+fn decimal(rt: &impl Print, n: u32) -> io::Result<()> {
+    print!(rt; "{n}")
 }
 
 // The steps that a call spent.
-fn steps(start: u32, count: u32) {
-    text(b"steps: ");
-    decimal(if start <= count { count - start } else { 0 });
-    text(b" (count ");
-    decimal(count);
-    text(b")\n");
+fn steps(rt: &impl Print, start: u32, count: u32) -> io::Result<()> {
+    let spent = if start <= count { count - start } else { 0 };
+    println!(rt; "steps: {spent} (count {count})")
 }
 
 // Which question of a sitting is asked.
-pub fn question(n: u32) {
-    text(b"question ");
-    decimal(n);
-    text(b"\n");
+pub fn question(rt: &impl Print, n: u32) -> io::Result<()> {
+    println!(rt; "question {n}")
 }
 
 // The steps spent in a sitting so far.
-pub fn spent(count: u32) {
-    text(b"spent: ");
-    decimal(count);
-    text(b"\n");
+pub fn spent(rt: &impl Print, count: u32) -> io::Result<()> {
+    println!(rt; "spent: {count}")
 }
 
 // A refusal: its number and what it means.
-pub fn refused(number: u32, start: u32, count: u32) {
-    let mut out = io::buffer();
+pub fn refused(rt: &impl Print, number: u32, start: u32, count: u32) -> io::Result<()> {
+    let mut out = [0u8; 4096];
     let n = notation::meaning::put_meaning(&mut out, 0, number);
-    text(b"refused ");
-    decimal(number);
-    text(b": ");
-    text(&out[..n]);
-    text(b"\n");
-    steps(start, count);
+    print!(rt; "refused {number}: ")?;
+    text(rt, &out[..n])?;
+    text(rt, b"\n")?;
+    steps(rt, start, count)
 }
 
 // The tree at a head of an answer, below its name; none where the head is 0.
-fn tree(name: &[u8], a: &[u32], head: usize) {
-    text(name);
+fn tree(rt: &impl Print, name: &str, a: &[u32], head: usize) -> io::Result<()> {
     if head == 0 {
-        text(b" none\n");
-        return;
+        return println!(rt; "{name} none");
     }
-    text(b"\n");
-    let mut out = io::large_buffer();
+    println!(rt; "{name}")?;
+    let mut out = [0u8; 65536];
     let n = notation::tree::put_tree(&mut out, 0, a, head);
-    text(&out[..n]);
+    text(rt, &out[..n])
 }
 
-fn yes_or_no(name: &[u8], w: u32) {
-    text(name);
+fn yes_or_no(rt: &impl Print, name: &str, w: u32) -> io::Result<()> {
     if w == 0 {
-        text(b" no\n");
-        return;
+        return println!(rt; "{name} no");
     }
-    text(b" yes\n");
+    println!(rt; "{name} yes")
 }
 
 // The types that the question's node k has become.
-fn type_line(k: usize, a: &[u32], t: u32) {
-    let mut out = io::buffer();
+fn type_line(rt: &impl Print, k: usize, a: &[u32], t: u32) -> io::Result<()> {
+    let mut out = [0u8; 4096];
     let n = notation::types::put_type(&mut out, 0, a, words::next(a, 2), t);
-    text(b"  ");
-    io::print_decimal(STDOUT_FILENO, k as u64);
-    text(b": ");
-    text(&out[..n]);
+    print!(rt; "  {k}: ")?;
+    text(rt, &out[..n])?;
     if n == 4096 {
-        text(b" ..");
+        text(rt, b" ..")?;
     }
-    text(b"\n");
+    text(rt, b"\n")
 }
 
 // The types that the question's nodes have become: the answer's last words.
-fn types(q: &[u32], a: &[u32]) {
+fn types(rt: &impl Print, q: &[u32], a: &[u32]) -> io::Result<()> {
     let n = words::chain_length(q, words::next(q, 0));
     let used = words::next(a, 3);
     if n == 0 || used < n {
-        text(b"types: none\n");
-        return;
+        return text(rt, b"types: none\n");
     }
-    text(b"types:\n");
+    text(rt, b"types:\n")?;
     let mut k = 0;
     while k < n {
-        type_line(k, a, words::offset(a, used - n, k));
+        type_line(rt, k, a, words::offset(a, used - n, k))?;
         k += 1;
     }
+    Ok(())
 }
 
 // The words of an answer.
-fn raw(a: &[u32], used: usize) {
-    text(b"words:");
+fn raw(rt: &impl Print, a: &[u32], used: usize) -> io::Result<()> {
+    text(rt, b"words:")?;
     let mut k = 0;
     while k < used {
-        text(b" ");
-        decimal(words::word(a, k));
+        text(rt, b" ")?;
+        decimal(rt, words::word(a, k))?;
         k += 1;
     }
-    text(b"\n");
+    text(rt, b"\n")
 }
 
 // An answer: the steps, the trees, the types, and its words where they are asked for.
-pub fn answered(flex: bool, with_words: bool, start: u32, count: u32, q: &[u32], a: &[u32]) {
-    text(b"answered\n");
-    steps(start, count);
+pub fn answered(
+    rt: &impl Print,
+    flex: bool,
+    with_words: bool,
+    start: u32,
+    count: u32,
+    q: &[u32],
+    a: &[u32],
+) -> io::Result<()> {
+    text(rt, b"answered\n")?;
+    steps(rt, start, count)?;
     if flex {
-        tree(b"fork:", a, words::next(a, 0));
-        tree(b"drop:", a, words::next(a, 1));
-        yes_or_no(b"inverted:", words::word(a, 4));
-        yes_or_no(b"self-inverse:", words::word(a, 5));
+        tree(rt, "fork:", a, words::next(a, 0))?;
+        tree(rt, "drop:", a, words::next(a, 1))?;
+        yes_or_no(rt, "inverted:", words::word(a, 4))?;
+        yes_or_no(rt, "self-inverse:", words::word(a, 5))?;
     } else {
-        tree(b"tree:", a, words::next(a, 0));
+        tree(rt, "tree:", a, words::next(a, 0))?;
     }
-    types(q, a);
+    types(rt, q, a)?;
     if with_words {
-        raw(a, words::next(a, 3));
+        return raw(rt, a, words::next(a, 3));
     }
+    Ok(())
 }

@@ -1,5 +1,5 @@
 // What came of the calls of a file, counted and printed.
-use libc::STDOUT_FILENO;
+use std::io;
 
 // What is counted: under 0 to 26 the numbers, then all calls, then the wrong ones.
 const CALLS: usize = 27;
@@ -24,41 +24,36 @@ pub fn note(counts: &mut [u32], number: u32, right: bool) {
     }
 }
 
-pub fn text(t: &[u8]) {
-    io::write_all(STDOUT_FILENO, t);
+pub fn text(rt: &impl Print, t: &str) -> io::Result<()> {
+    print!(rt; "{t}")
 }
 
-pub fn decimal(n: u32) {
-    io::print_decimal(STDOUT_FILENO, n as u64);
+pub fn decimal(rt: &impl Print, n: u32) -> io::Result<()> {
+    print!(rt; "{n}")
 }
 
 // Prints how many calls got a number, if there are any.
-fn print_number(k: usize, n: u32) {
+fn print_number(rt: &impl Print, k: usize, n: u32) -> io::Result<()> {
     if n == 0 {
-        return;
+        return Ok(());
     }
-    text(b", ");
-    decimal(n);
-    text(b" of ");
-    io::print_decimal(STDOUT_FILENO, k as u64);
+    print!(rt; ", {n} of {k}")
 }
 
-fn print_numbers(counts: &[u32]) {
+fn print_numbers(rt: &impl Print, counts: &[u32]) -> io::Result<()> {
     let mut k = 0;
     while k < CALLS {
-        print_number(k, words::word(counts, k));
+        print_number(rt, k, words::word(counts, k))?;
         k += 1;
     }
+    Ok(())
 }
 
 // Prints what came of a file.
-pub fn print_counts(path: &[u8], counts: &[u32]) {
-    text(path);
-    text(b": ");
-    decimal(words::word(counts, CALLS));
-    text(b" calls, ");
-    decimal(words::word(counts, WRONG));
-    text(b" wrong");
-    print_numbers(counts);
-    text(b"\n");
+pub fn print_counts(rt: &impl Print, path: &str, counts: &[u32]) -> io::Result<()> {
+    let calls = words::word(counts, CALLS);
+    let wrong = words::word(counts, WRONG);
+    print!(rt; "{path}: {calls} calls, {wrong} wrong")?;
+    print_numbers(rt, counts)?;
+    text(rt, "\n")
 }

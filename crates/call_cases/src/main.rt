@@ -10,6 +10,9 @@ mod reading;
 mod sittings;
 
 use compare::Stored;
+use std::io::{BufReader, Read};
+use std::rt::Files;
+use std::{env, fs, io};
 
 // The call of a case: head is its first seven words.
 fn call(head: &[u32], s: &[u32], q: &[u32], answer: &mut [u32], ws: &mut [u32]) -> calls::Outcome {
@@ -63,67 +66,78 @@ fn replay_call(
 }
 
 // Replays the next case; a listing is no call, and is passed over.
-fn replay(
-    fd: i32,
+fn replay<R: Read>(
+    stored: &mut R,
     s: &mut [u32],
     q: &mut [u32],
     expected: &mut [u32],
     ws: &mut [u32],
     counts: &mut [u32],
-) {
-    cases::read_word(fd);
+) -> io::Result<()> {
+    cases::read_word(stored)?;
     let mut head = [0u32; 7];
-    cases::read_words(fd, &mut head, 7);
-    let n = reading::read_slice(fd, s);
-    let m = reading::read_slice(fd, q);
-    let k = reading::read_stored(fd, expected);
+    cases::read_words(stored, &mut head, 7)?;
+    let n = reading::read_slice(stored, s)?;
+    let m = reading::read_slice(stored, q)?;
+    let k = reading::read_stored(stored, expected)?;
     if words::word(&head, 0) == 2 {
-        return;
+        return Ok(());
     }
     replay_call(&head, s, n, q, m, k, expected, ws, counts);
+    Ok(())
 }
 
 // Replays all cases of a file.
-fn replay_all(fd: i32, ws: &mut [u32], counts: &mut [u32]) {
+fn replay_all<R: Read>(stored: &mut R, ws: &mut [u32], counts: &mut [u32]) -> io::Result<()> {
     let mut s = [0u32; 8192];
     let mut q = [0u32; 8192];
     let mut expected = [0u32; 10304];
-    let n = cases::read_word(fd);
+    let n = cases::read_word(stored)?;
     let mut i = 0;
     while i < n {
-        replay(fd, &mut s, &mut q, &mut expected, ws, counts);
+        replay(stored, &mut s, &mut q, &mut expected, ws, counts)?;
         i += 1;
     }
+    Ok(())
 }
 
 // Replays the file of an argument, and prints what came of it.
-fn run(k: usize, ws: &mut [u32]) {
-    let mut path = io::buffer();
-    let n = os::arg(k, &mut path);
-    let fd = os::open_read(&path[..n]);
-    if fd < 0 {
-        os::fail(&path[..n]);
-        return;
-    }
+fn run(
+    rt: &(impl Files + Print + Eprint + AllocGlobal),
+    args: &[String],
+    k: usize,
+    ws: &mut [u32],
+) -> io::Result<()> {
+    let path = programs::argument(args, k);
+    let file = match fs::open(rt, path) {
+        Ok(file) => file,
+        Err(why) => return programs::fail(rt, path, &why),
+    };
+    let mut stored = BufReader::new(rt.alloc(), file)?;
     let mut counts = [0u32; 29];
-    replay_all(fd, ws, &mut counts);
-    sittings::replay_all(fd, ws, &mut counts);
-    libc::close(fd);
-    counts::print_counts(&path[..n], &counts);
+    replay_all(&mut stored, ws, &mut counts)?;
+    sittings::replay_all(rt, &mut stored, ws, &mut counts)?;
+    counts::print_counts(rt, path, &counts)
 }
 
 // Replays the files of all arguments.
-fn run_all(ws: &mut [u32]) {
-    let n = os::arg_count();
+fn run_all(
+    rt: &(impl Files + Print + Eprint + AllocGlobal),
+    args: &[String],
+    ws: &mut [u32],
+) -> io::Result<()> {
+    let n = args.len();
     let mut k = 1;
     while k < n {
-        run(k, ws);
+        run(rt, args, k, ws)?;
         k += 1;
     }
+    Ok(())
 }
 
 // The workspace is the one that document 01 asks for.
-fn main() {
+fn main(rt: HostRuntime) -> io::Result<()> {
+    let args: Vec<String> = env::args(&rt)?.collect(rt.alloc())?;
     let mut ws = [0u32; 662794];
-    run_all(&mut ws);
+    run_all(&rt, args.as_slice(), &mut ws)
 }

@@ -1,6 +1,8 @@
 // Stored sittings: calls in turn on one sheet from one source, each from the spent count that the one before it left.
 use crate::compare::Stored;
 use crate::{compare, counts, reading};
+use std::io;
+use std::io::Read;
 
 // Who asks in a sitting.
 #[derive(Clone, Copy)]
@@ -85,78 +87,103 @@ fn replay_call(
 }
 
 // Prints the spent count after a call, and its number where it is refused.
-fn print_spent(number: u32, spent: u32) {
-    counts::text(b" ");
-    counts::decimal(spent);
+fn print_spent(rt: &impl Print, number: u32, spent: u32) -> io::Result<()> {
+    counts::text(rt, " ")?;
+    counts::decimal(rt, spent)?;
     if number == 0 {
-        return;
+        return Ok(());
     }
-    counts::text(b" (");
-    counts::decimal(number);
-    counts::text(b")");
+    print!(rt; " ({number})")
 }
 
 // Replays the next call of a sitting.
-fn replay_turn(fd: i32, w: Asker, s: &[u32], ws: &mut [u32], sums: &mut [u32], spent: &mut u32) {
+fn replay_turn<R: Read>(
+    rt: &impl Print,
+    stored: &mut R,
+    w: Asker,
+    s: &[u32],
+    ws: &mut [u32],
+    sums: &mut [u32],
+    spent: &mut u32,
+) -> io::Result<()> {
     let mut head = [0u32; 4];
     let mut q = [0u32; 8192];
     let mut expected = [0u32; 10304];
-    cases::read_words(fd, &mut head, 4);
-    let m = reading::read_slice(fd, &mut q);
-    let k = reading::read_stored(fd, &mut expected);
+    cases::read_words(stored, &mut head, 4)?;
+    let m = reading::read_slice(stored, &mut q)?;
+    let k = reading::read_stored(stored, &mut expected)?;
     let seen = replay_call(w, &head, s, &q, m, k, &expected, ws, spent);
     counts::note(sums, seen.number, seen.right);
-    print_spent(seen.number, *spent);
+    print_spent(rt, seen.number, *spent)
 }
 
 // Replays so many calls in one sitting, which begins at a count.
-fn replay_turns(fd: i32, w: Asker, count: u32, s: &[u32], ws: &mut [u32], sums: &mut [u32]) {
-    let n = cases::read_word(fd);
+fn replay_turns<R: Read>(
+    rt: &impl Print,
+    stored: &mut R,
+    w: Asker,
+    count: u32,
+    s: &[u32],
+    ws: &mut [u32],
+    sums: &mut [u32],
+) -> io::Result<()> {
+    let n = cases::read_word(stored)?;
     let mut spent = count;
     let mut i = 0;
     while i < n {
-        replay_turn(fd, w, s, ws, sums, &mut spent);
+        replay_turn(rt, stored, w, s, ws, sums, &mut spent)?;
         i += 1;
     }
+    Ok(())
 }
 
 // Replays the calls of a sitting on the front of a buffer as the sheet.
-fn replay_front(
-    fd: i32,
+fn replay_front<R: Read>(
+    rt: &impl Print,
+    stored: &mut R,
     w: Asker,
     count: u32,
     s: &[u32],
     n: usize,
     ws: &mut [u32],
     sums: &mut [u32],
-) {
+) -> io::Result<()> {
     let n = reading::at_most(n, s.len());
-    replay_turns(fd, w, count, &s[..n], ws, sums);
+    replay_turns(rt, stored, w, count, &s[..n], ws, sums)
 }
 
 // Replays the next sitting, and prints the spent count after each of its calls.
-fn replay(fd: i32, i: u32, ws: &mut [u32], sums: &mut [u32]) {
-    cases::read_word(fd);
-    let source = cases::read_word(fd);
-    let generics = cases::read_word(fd);
-    let count = cases::read_word(fd);
+fn replay<R: Read>(
+    rt: &impl Print,
+    stored: &mut R,
+    i: u32,
+    ws: &mut [u32],
+    sums: &mut [u32],
+) -> io::Result<()> {
+    cases::read_word(stored)?;
+    let source = cases::read_word(stored)?;
+    let generics = cases::read_word(stored)?;
+    let count = cases::read_word(stored)?;
     let mut s = [0u32; 8192];
-    let n = reading::read_slice(fd, &mut s);
-    counts::text(b"sitting ");
-    counts::decimal(i);
-    counts::text(b" from ");
-    counts::decimal(count);
-    counts::text(b":");
-    replay_front(fd, Asker { source, generics }, count, &s, n, ws, sums);
-    counts::text(b"\n");
+    let n = reading::read_slice(stored, &mut s)?;
+    print!(rt; "sitting {i} from {count}:")?;
+    let w = Asker { source, generics };
+    replay_front(rt, stored, w, count, &s, n, ws, sums)?;
+    counts::text(rt, "\n")
 }
 
 // Replays all sittings behind the cases of a file.
-pub fn replay_all(fd: i32, ws: &mut [u32], sums: &mut [u32]) {
-    let n = cases::read_word(fd);
+pub fn replay_all<R: Read>(
+    rt: &impl Print,
+    stored: &mut R,
+    ws: &mut [u32],
+    sums: &mut [u32],
+) -> io::Result<()> {
+    let n = cases::read_word(stored)?;
     let mut i = 0;
     while i < n {
-        replay(fd, i, ws, sums);
+        replay(rt, stored, i, ws, sums)?;
         i += 1;
     }
+    Ok(())
 }
