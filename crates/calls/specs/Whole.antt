@@ -21,12 +21,12 @@ use Rattle.checks.specs.Numbers.{number, finder}
 use Rattle.closing.specs.declared.Ended.{Ended}
 use Rattle.closing.specs.Ended.{Ends}
 use Rattle.calls.specs.declared.Outcome.{Outcome}
-use Rattle.calls.specs.declared.Outcome.TheVariants.{Answered as Ok, Refused}
+use Rattle.calls.specs.declared.Outcome.TheVariants.{Answered, Refused}
 use Rattle.calls.specs.Outcomes.{outcome_of, ended_of, Calls}
 use Rattle.calls.specs.Behind.{Entered, behind, Behind, number-some, number-none}
 
 -- `outcome`.
-pub ended_answered : (r : Ended) → r.number ≡ 0 → Ok r.count ≡ ended_of r
+pub ended_answered : (r : Ended) → r.number ≡ 0 → Answered r.count ≡ ended_of r
 unfolding ended_of
 ended_answered r e = sym (rw (eq-eqb r.number 0 e, ended_of) refl)
 
@@ -47,7 +47,7 @@ ended_is o buf out r x = go (eqb r.number 0) refl
     go : (b : Bool) → eqb r.number 0 ≡ b → ended_of r ≡ outcome_of o
     go true e =
         let a = x.closed.answers (eqb_so e) in
-        rw (e, ended_of) (ap Ok x.count ∙ sym (ap (λ (y : Out Words). outcome_of (y, o.1)) a.is))
+        rw (e, ended_of) (ap Answered x.count ∙ sym (ap (λ (y : Out Words). outcome_of (y, o.1)) a.is))
       where
         eqb_so : eqb r.number 0 ≡ true → r.number ≡ 0
         eqb_so p = eqb-true r.number 0 p
