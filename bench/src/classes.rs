@@ -109,7 +109,7 @@ fn book() -> Vec<Call> {
 }
 
 /// So many S round Leaf, each with one impl that needs what it is round.
-fn nested(levels: usize) -> Call {
+pub fn nested(levels: usize) -> Call {
   let mut sheet = bare();
   sheet.structs = vec![(0, 0); 2];
   let trait_ = add_trait(&mut sheet, 0);

@@ -19,12 +19,14 @@ use vine_finder::{ANSWER_WORDS, Outcome, workspace_words};
 
 use crate::{
   adversary::{self, Worst},
-  ask,
+  ask, classes,
 };
 
 /// How long an input may take, and how long the port is waited for.
 const IN_TIME: Duration = Duration::from_secs(1);
 const GIVEN_UP: Duration = Duration::from_secs(3);
+/// What the Rust took for 15 S round Leaf where the time of a search was set.
+const RUST_TOOK: Duration = Duration::from_micros(61);
 /// How long and how often a call is run, but for slow ones.
 const RUNS: Duration = Duration::from_millis(40);
 const LEAST_RUNS: usize = 3;
@@ -180,18 +182,25 @@ pub fn table(levels: usize) -> bool {
   slow + wrong == 0
 }
 
-/// Whether the searches of impl calls that spend all steps end, each within five times the time that an input may take; and whether
-/// the tests before a candidate is opened do what they are for: those in which the first finds what fails take at most half of what the
-/// slowest takes, in which the rule is followed in its own order.
+/// What a search may take that spends all steps: five times what an input may take, and as much longer as the Rust takes longer here
+/// than where that was set.
+fn search_time() -> Duration {
+  let rust = timed(&classes::nested(15), Side::Rust, GIVEN_UP).expect("the Rust ends in time");
+  5 * IN_TIME.mul_f64((rust.time.as_secs_f64() / RUST_TOOK.as_secs_f64()).max(1.0))
+}
+
+/// Whether the searches of impl calls that spend all steps end in that time; and whether the tests before a candidate is opened do what
+/// they are for: those in which the first finds what fails take at most half of what the slowest takes, in which the rule is followed in
+/// its own order.
 pub fn searches_end() -> bool {
+  let limit = search_time();
   let timed: Vec<_> = adversary::impl_searches()
     .into_iter()
-    .map(|(worst, found)| (timed(&worst.call, Side::Port, 5 * IN_TIME), worst.name, found))
+    .map(|(worst, found)| (timed(&worst.call, Side::Port, limit), worst.name, found))
     .collect();
   let followed = timed.iter().filter(|(_, _, found)| !found);
   let slowest = followed.filter_map(|(took, ..)| took.map(|took| took.time)).max();
-  let most =
-    |found| if found { slowest.map_or(Duration::ZERO, |time| time / 2) } else { 5 * IN_TIME };
+  let most = |found| if found { slowest.map_or(Duration::ZERO, |time| time / 2) } else { limit };
   let mut ended = 0;
   for (took, name, found) in &timed {
     match took {
@@ -199,10 +208,14 @@ pub fn searches_end() -> bool {
       Some(took) => {
         println!("{name}: number {}, {} steps, {:?}", took.number, took.count, took.time)
       }
-      None => println!("{name}: not in {:?}", 5 * IN_TIME),
+      None => println!("{name}: not in {limit:?}"),
     }
   }
-  println!("{ended} of {} searches that spend all steps have ended in time", timed.len());
+  println!(
+    "{ended} of {} searches that spend all steps have ended in time ({limit:.1?} each, the slowest {:.1?})",
+    timed.len(),
+    slowest.unwrap_or_default()
+  );
   ended == timed.len()
 }
 
