@@ -1,19 +1,18 @@
 -- The tables of a sheet and of a question: those that word k of a chain's records heads, what 8 and 12 promise of them, and what a check leaves of a buffer.
-use Rattle.std.specs.Prelude.{ℕ, ◌+◌, ◌-◌, ◌≤◌, ◌<◌, ◌≡◌, refl, Bool, ◌&&◌, ◌≢◌, T, length}
+use Rattle.std.specs.Prelude.{ℕ, ◌+◌, ◌-◌, ◌≤◌, ◌<◌, ◌≡◌, Bool, ◌&&◌, T, [], ◌∷◌, length}
 use Rattle.std.proofs.Math.Path.{sym, ap}
 use Rattle.std.proofs.Common.{◌∙◌, subst, arith, get_or-take, get_or-drop}
 use Rattle.std.proofs.Math.Bool.{true, false}
 use borrow.Rule.Slice.PartMut.{put_mid, mid_of, mid_len, take_put, drop_put}
 use Rattle.rules.specs.Lists.{Words, all}
 use Rattle.rules.specs.Layout.{header_generics, header_impls, generics_table_word, impl_table_word, question_table}
-use Rattle.rules.specs.Sheet.{at, chain, chain_of, records}
+use Rattle.rules.specs.Sheet.{at, chain, records}
 use Rattle.rules.specs.Transfer.{table}
 use Rattle.rules.specs.Values.{generics_ok, impl_ok, sheet_values, impl_question_values, flex_question_values}
 use Rattle.rules.specs.Acyclic.{acyclic, sheet_acyclic, question_acyclic}
 use Rattle.rules.specs.Members.{In, first, later, all_in}
 use Rattle.rules.specs.CheckLaws.{part}
 use Rattle.acyclic.specs.Nodes.{Inside, table_inside}
-use Rattle.acyclic.specs.Walk.{no_more, one_more}
 
 -- The tables that word k of some records heads: no type of any reaches itself.
 unfoldable pub all_acyclic : Words → ℕ → Words → Bool
@@ -23,41 +22,32 @@ all_acyclic s k ps = all (λ p. acyclic (table s (at s (p + k)))) ps
 pub record AllInside (s : Words) (k : ℕ) (ps : Words) : Type 0 where
   pub each : (p : ℕ) → In p ps → Inside s (at s (p + k))
 
--- On the way along the chain from head h: it goes on from place p, with at most `left` records.
-pub record Along (s : Words) (k h left p : ℕ) : Type 0 where
-  pub inside : AllInside s k (chain_of left s p)
-  pub same : all_acyclic s k (chain_of left s p) ≡ all_acyclic s k (chain s h)
+-- On the way along the chain from head h: these records are left.
+pub record Along (s : Words) (k h : ℕ) (left : Words) : Type 0 where
+  pub inside : AllInside s k left
+  pub same : all_acyclic s k left ≡ all_acyclic s k (chain s h)
 
-pub along_start : (s : Words) (k h : ℕ) → AllInside s k (chain s h) → Along s k h (length s) h
-unfolding chain
-along_start s k h i = record { inside = i; same = refl }
+pub along_start : (s : Words) (k h : ℕ) (left : Words) → left ≡ chain s h → AllInside s k (chain s h) → Along s k h left
+along_start s k h left e i = record { inside = subst (AllInside s k) (sym e) i; same = ap (all_acyclic s k) e }
 
-module _ (s : Words) (k h left p : ℕ) (a : Along s k h left p) where
-  pub along_end : p ≡ 0 → true ≡ all_acyclic s k (chain s h)
+module _ (s : Words) (k h : ℕ) (left : Words) (a : Along s k h left) where
+  pub along_end : left ≡ [] → true ≡ all_acyclic s k (chain s h)
   unfolding all_acyclic all
-  along_end e = sym (ap (all_acyclic s k) (ap (chain_of left s) e ∙ no_more left s)) ∙ a.same
+  along_end e = sym (ap (all_acyclic s k) e) ∙ a.same
 
-  pub along_spent : left ≡ 0 → true ≡ all_acyclic s k (chain s h)
-  unfolding all_acyclic all chain_of
-  along_spent e = sym (ap (λ n. all_acyclic s k (chain_of n s p)) e) ∙ a.same
+  module _ (p t : ℕ) (more : Words) (q : left ≡ p ∷ more) (e : t ≡ at s (p + k)) where
+    pub along_inside : Inside s t
+    along_inside = subst (Inside s) (sym e) (a.inside.each p (subst (In p) (sym q) first))
 
-  pub along_inside : (t : ℕ) → left ≢ 0 → p ≢ 0 → t ≡ at s (p + k) → Inside s t
-  along_inside t l m e = subst (Inside s) (sym e) (a.inside.each p (subst (In p) (sym (one_more left s p l m)) first))
+    step : (r : Bool) → r ≡ acyclic (table s t) → elim r as (λ b. Bool) [ true ↦ all_acyclic s k more | false ↦ false ] ≡ all_acyclic s k (chain s h)
+    unfolding all_acyclic all
+    step r f = ap (λ b. elim b as (λ x. Bool) [ true ↦ all_acyclic s k more | false ↦ false ]) (f ∙ ap (λ x. acyclic (table s x)) e) ∙ sym (ap (all_acyclic s k) q) ∙ a.same
 
-  step : (t : ℕ) (r : Bool) → left ≢ 0 → p ≢ 0 → t ≡ at s (p + k) → r ≡ acyclic (table s t) → elim r as (λ b. Bool) [ true ↦ all_acyclic s k (chain_of (left - 1) s (at s p)) | false ↦ false ] ≡ all_acyclic s k (chain s h)
-  unfolding all_acyclic all
-  step t r l m e f =
-      ap (λ b. elim b as (λ x. Bool) [ true ↦ all_acyclic s k (chain_of (left - 1) s (at s p)) | false ↦ false ]) (f ∙ ap (λ x. acyclic (table s x)) e)
-      ∙ sym (ap (all_acyclic s k) (one_more left s p l m)) ∙ a.same
+    pub along_on : (r : Bool) → r ≡ acyclic (table s t) → r ≡ true → Along s k h more
+    along_on r f g = record { inside = record { each = λ x i. a.inside.each x (subst (In x) (sym q) (later i)) }; same = step true (sym g ∙ f) }
 
-  pub along_on : (t j : ℕ) (r : Bool) → left ≢ 0 → p ≢ 0 → t ≡ at s (p + k) → r ≡ acyclic (table s t) → r ≡ true → j ≡ at s p → Along s k h (left - 1) j
-  along_on t j r l m e f g q = record {
-    inside = record { each = λ x i. a.inside.each x (subst (In x) (sym (one_more left s p l m)) (later (subst (λ y. In x (chain_of (left - 1) s y)) q i))) };
-    same = ap (λ y. all_acyclic s k (chain_of (left - 1) s y)) q ∙ step t true l m e (sym g ∙ f);
-  }
-
-  pub along_cut : (t : ℕ) (r : Bool) → left ≢ 0 → p ≢ 0 → t ≡ at s (p + k) → r ≡ acyclic (table s t) → r ≡ false → false ≡ all_acyclic s k (chain s h)
-  along_cut t r l m e f g = step t false l m e (sym g ∙ f)
+    pub along_cut : (r : Bool) → r ≡ acyclic (table s t) → r ≡ false → false ≡ all_acyclic s k (chain s h)
+    along_cut r f g = step false (sym g ∙ f)
 
 -- What 8 promises of a sheet's tables: those of the generics, and those of the impls.
 pub generics_inside : (s : Words) (h : ℕ) → T (sheet_values s) → h ≡ at s header_generics → AllInside s generics_table_word (chain s h)

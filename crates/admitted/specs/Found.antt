@@ -1,13 +1,13 @@
 -- `find_impl_candidates`: the sets that candidates come from are those of the rules, and the ids that are found one after the other are the rules' list.
 use Prim.Native.Nat.{ℕ, zero, suc, ◌+◌, ◌*◌, ◌-◌, ◌≤◌, ◌<◌}
-use Rattle.std.specs.Prelude.{◌≡◌, Bool, true, false, ◌≢◌, ◌↔◌, T, eqb, ltb, leb, length, get_or, set}
+use Rattle.std.specs.Prelude.{◌≡◌, Bool, true, false, ◌≢◌, ◌↔◌, T, eqb, ltb, leb, length, min, Option, Some, None, Result, Ok, Err, IfOk}
 use Rattle.std.proofs.Math.Path.{refl, sym, ap, ap₂}
-use Rattle.std.proofs.Common.{◌∙◌, subst, ltb→lt, lt→ltb, le→leb, length-set, eq-eqb, ne_eqb}
+use Rattle.std.proofs.Common.{take_all, ◌∙◌, subst, ltb→lt, lt→ltb, le→leb, eq-eqb, ne_eqb}
 use Rattle.std.proofs.Math.Option.{some}
 use mathlib.Core.List.{List, [], ◌∷◌, ◌++◌, map}
 use native.Mathlib.Omega.{arith}
 use Rattle.std.proofs.Math.ListN.{take}
-use Rattle.std.proofs.Math.Seq.{length-take-le}
+use Rattle.std.proofs.Math.Seq.{length-take-le, take-length}
 use Rattle.rules.specs.Lists.{Words, select, optional}
 use Rattle.rules.specs.Layout.{header_definitions, header_impls}
 use Rattle.rules.specs.Sheet.{many, trait_def, inherent_params}
@@ -23,13 +23,12 @@ use Rattle.rules.specs.Run.{Run, done, stop, asks, ◌>>=◌}
 use Rattle.rules.specs.Search.{Finder, inherent_mods, find_impl_candidates}
 use Rattle.candidates.specs.Index.{Indexes}
 use Rattle.candidates.specs.Build.{Candidates}
-use Rattle.candidates.specs.Find.{Standing, NextCandidate, from_on}
+use Rattle.candidates.specs.Find.{Standing, CandidateFrom, from_on}
+use Rattle.refusals.specs.declared.Refusal.{Refusal}
+use Rattle.refusals.specs.Numbers.{number_of}
 use Rattle.admitted.specs.declared.Nodes.{Nodes}
-use Rattle.admitted.specs.declared.Nodes.TheVariants.{Written, Refused}
 use Rattle.admitted.specs.declared.Found.{Found}
-use Rattle.admitted.specs.declared.Candidate.{Candidate}
-use Rattle.admitted.specs.declared.Candidate.TheVariants.{Impl, End}
-use Rattle.admitted.specs.Modules.{Front, Puts, Gathers, behind, kept, nodes_run, bind_assoc, bind_same, kept_append, kept-one, take-set, list_of, IsDone, IsStop}
+use Rattle.admitted.specs.Modules.{listed, Puts, Gathers, behind, kept, nodes_run, bind_assoc, bind_same, kept_append, kept-one, list_of, IsDone, IsStop}
 
 -- The sets of a source stand in the workspace.
 pub record Stands (s : Words) (src : ℕ) (ws : Words) : Type 0 where
@@ -46,18 +45,13 @@ few_definitions s src ws count p e = omega (arith, e, (valid s (passed s p.check
 pub source_small : (s : Words) (src : ℕ) (ws : Words) → Stands s src ws → src < 128
 source_small s src ws p = omega (arith, p.source, (valid s (passed s p.checked).values).definition_count)
 
--- Room for the nodes.
-pub second_fits : (ws : Words) (v : ℕ) → 6 ≤ length ws → 1 < length (set ws 0 v)
-second_fits ws v h = omega (arith, length-set ws 0 v)
-
-pub front_length : (args : Words) (j k : ℕ) → Front args j k → k ≡ length (take k args)
-front_length args j k f = sym (length-take-le k args f.up)
-
-pub modules_fit : (args ws us : Words) (count d v n j k : ℕ) → 6 ≤ length ws → length args ≤ 4 → length us ≡ length (set ws 0 v) → Puts count d 1 (set ws 0 v) us n → Front args j k → n + length (take k args) ≤ length us
-modules_fit args ws us count d v n j k h few e p f = omega (arith, e, length-set ws 0 v, p.up, f.up, length-take-le k args f.up)
-
-pub sets_long : (ws us vs : Words) (v : ℕ) → length us ≡ length (set ws 0 v) → length vs ≡ length us → length vs ≡ length ws
-sets_long ws us vs v e f = f ∙ e ∙ length-set ws 0 v
+-- The arguments that are inherent, of those that there are.
+pub front_same : (args : Words) (j : ℕ) → take (min j (length args)) args ≡ take j args
+front_same args j = go (j - length args) refl
+  where
+    go : (d : ℕ) → j - length args ≡ d → take (min j (length args)) args ≡ take j args
+    go zero e = ap (λ n. take n args) (let q : min j (length args) ≡ j = omega arith in q)
+    go (suc d) e = ap (λ n. take n args) (let q : min j (length args) ≡ length args = omega arith in q) ∙ take-length args ∙ sym (take_all j args (omega arith))
 
 -- What the rules take the candidates of a trait from, behind the modules of the inherent arguments.
 abbrev pub places : Words → ℕ → ℕ → Words → Words
@@ -66,9 +60,12 @@ places s src t ns = within_ancestors src ∷ within_def (trait_def s t) ∷ ns
 unfoldable pub places_run : Words → ℕ → Types → ℕ → Words → Run Words
 places_run s src ts t args = inherent_mods s ts (take (inherent_params s t) (map type_of_word args)) >>= λ ns. done (places s src t ns)
 
--- They are written.
-abbrev pub Sets : Words → ℕ → Types → ℕ → Words → Words → Words → Nodes → Type 0
-Sets s src ts t args ws us r = Gathers (places_run s src ts t args) (many s header_definitions) 6 0 ws us r
+-- They are put behind no nodes.
+abbrev pub no_nodes : Nodes
+no_nodes = record { n = 0; words = [] }
+
+abbrev pub Sets : Words → ℕ → Types → ℕ → Words → Result Nodes Refusal → Type 0
+Sets s src ts t args r = Gathers (places_run s src ts t args) (many s header_definitions) 6 no_nodes r
 
 map-take : (k : ℕ) (xs : Words) → map type_of_word (take k xs) ≡ take k (map type_of_word xs)
 map-take zero xs = refl
@@ -81,66 +78,53 @@ behind_places count s src t x =
     bind_same x _ _ (λ ns. ap {B = Run Words} done (sym (kept_append count (within_ancestors src ∷ within_def (trait_def s t) ∷ []) ns)))
     ∙ sym (bind_assoc x (λ ns. done (places s src t ns)) (λ ns. done ([] ++ kept count ns)))
 
-module _ (s : Words) (src : ℕ) (ts : Types) (t : ℕ) (args cs ws us vs : Words) (count v w d n j x k : ℕ) (r : Nodes) (p : Stands s src cs) (ec : count ≡ many s header_definitions) (ev : v ≡ 3 * src + 2)
-    (ew : w ≡ trait_def s t) (ed : d ≡ w) (ex : x ≡ inherent_params s t) (ej : j ≡ x) (six-words : 6 ≤ length ws) (few : length args ≤ 4) where
-  written_two : Puts count d 1 (set ws 0 v) us n → take n us ≡ kept count (within_ancestors src ∷ within_def (trait_def s t) ∷ [])
+module _ (s : Words) (src : ℕ) (ts : Types) (t : ℕ) (args cs : Words) (none own two : Nodes) (count v w j k : ℕ) (r : Result Nodes Refusal) (p : Stands s src cs) (ec : count ≡ many s header_definitions) (en : listed none ≡ []) (eo : listed own ≡ listed none ++ v ∷ []) (ev : v ≡ 3 * src + 2)
+    (ew : w ≡ trait_def s t) (ej : j ≡ inherent_params s t) (ek : k ≡ min j (length args)) (few : length args ≤ 4) where
+  written_two : Puts count w own two → listed two ≡ kept count (within_ancestors src ∷ within_def (trait_def s t) ∷ [])
   unfolding kept select
   written_two q =
       q.row
-      ∙ ap₂ (λ (a b : Words). a ++ b) (take-set ws 0 v (omega arith) ∙ ap (λ (y : ℕ). y ∷ []) ev ∙ sym (kept-one count (within_ancestors src) [] (omega (arith, p.source)))) (ap (λ y. kept count (within_def y ∷ [])) (ed ∙ ew))
+      ∙ ap₂ (λ (a b : Words). a ++ b) (eo ∙ ap (λ (l : Words). l ++ v ∷ []) en ∙ ap (λ (y : ℕ). y ∷ []) ev ∙ sym (kept-one count (within_ancestors src) [] (omega (arith, p.source)))) (ap (λ y. kept count (within_def y ∷ [])) ew)
       ∙ sym (kept_append count (within_ancestors src ∷ []) (within_def (trait_def s t) ∷ []))
 
-  pub sets_written : Puts count d 1 (set ws 0 v) us n → Front args j k → Gathers (inherent_mods s ts (map type_of_word (take k args))) count (length (take k args)) n us vs r → Sets s src ts t args ws vs r
+  pub sets_written : own.n ≡ 1 → Puts count w own two → Gathers (inherent_mods s ts (map type_of_word (take k args))) count (length (take k args)) two r → Sets s src ts t args r
   unfolding places_run
-  sets_written q f g = record {
+  sets_written h q g = record {
     is =
-        g.is ∙ ap (λ (l : List Ty). behind count (take n us) (inherent_mods s ts l)) (ap (map type_of_word) (f.same ∙ ap (λ y. take y args) (ej ∙ ex)) ∙ map-take (inherent_params s t) args)
+        g.is ∙ ap (λ (l : List Ty). behind count (listed two) (inherent_mods s ts l)) (ap (map type_of_word) (ap (λ n. take n args) ek ∙ front_same args j ∙ ap (λ y. take y args) ej) ∙ map-take (inherent_params s t) args)
         ∙ ap (λ (l : Words). behind count l mods) (written_two q) ∙ behind_places count s src t mods ∙ ap (λ c. behind c [] (mods >>= λ ns. done (places s src t ns))) ec;
-    few = λ m e. omega (arith, g.few m e, q.up, length-take-le k args f.up, f.up);
-    real = g.real;
+    few = small r g.few;
   }
     where
       mods : Run Words
       mods = inherent_mods s ts (take (inherent_params s t) (map type_of_word args))
 
--- The six places of the nodes.
-abbrev pub six : Words → Words
-six xs = get_or xs 0 0 ∷ get_or xs 1 0 ∷ get_or xs 2 0 ∷ get_or xs 3 0 ∷ get_or xs 4 0 ∷ get_or xs 5 0 ∷ []
-
-six-all : (xs : Words) → length xs ≡ 6 → six xs ≡ xs
-six-all [] e = absurd (omega arith)
-six-all (a ∷ []) e = absurd (omega arith)
-six-all (a ∷ b ∷ []) e = absurd (omega arith)
-six-all (a ∷ b ∷ c ∷ []) e = absurd (omega arith)
-six-all (a ∷ b ∷ c ∷ d ∷ []) e = absurd (omega arith)
-six-all (a ∷ b ∷ c ∷ d ∷ f ∷ []) e = absurd (omega arith)
-six-all (a ∷ b ∷ c ∷ d ∷ f ∷ g ∷ []) e = refl
-six-all (a ∷ b ∷ c ∷ d ∷ f ∷ g ∷ h ∷ xs) e = absurd (omega arith)
-
-pub six-length : (xs : Words) (n : ℕ) → n ≤ 6 → n ≡ length (take n (six xs))
-six-length xs n h = sym (length-take-le n (six xs) h)
+      small : (r : Result Nodes Refusal) → IfOk r (λ b. b.n ≤ two.n + length (take k args)) → IfOk r (λ b. b.n ≤ 6)
+      small (Err e) l = tt
+      small (Ok b) l = omega (arith, l, q.up, length-take-le k args (omega (arith, ek)))
 
 -- The nodes of what is found.
 abbrev pub nodes_of : Found → Words
-nodes_of f = take f.n (six f.nodes)
+nodes_of f = listed f.nodes
 
 -- The candidates that it stands for.
 unfoldable pub ids : Words → ℕ → Found → Words
-ids s src f = elim (eqb f.tr 0) [ true ↦ [] | false ↦ get_candidates s src (nodes_of f) (f.tr - 1) (eqb f.basic 1) ]
+ids s src f = elim (eqb f.tr 0) [ true ↦ [] | false ↦ get_candidates s src (nodes_of f) (f.tr - 1) f.basic ]
 
 -- What it is of the rules.
-unfoldable pub found_run : Words → ℕ → Found → Run Words
-found_run s src f = elim (eqb f.number 0) [ true ↦ done (ids s src f) | false ↦ stop f.number ]
+unfoldable pub found_run : Words → ℕ → Result Found Refusal → Run Words
+found_run s src (Ok f) = done (ids s src f)
+found_run s src (Err refusal) = stop (number_of refusal)
 
 abbrev pub finder : Words → ℕ → ℕ → Finder
 finder s src g = record { sheet = s; source = src; generics = g }
 
 -- The candidates of a question are found, or it is refused: `find_impl_candidates`, whatever the generics.
-pub record Finds (s : Words) (src : ℕ) (ts : Types) (q : ImplType) (basic : ℕ) (f : Found) : Type 0 where
-  pub is : (g : ℕ) → found_run s src f ≡ find_impl_candidates (finder s src g) ts q (eqb basic 1)
-  pub few : f.n ≤ 6
-  pub flag : f.basic ≡ basic
-  pub nodes_in : (x : ℕ) → In x (nodes_of f) → x < node_count s
+pub record Finds (s : Words) (src : ℕ) (ts : Types) (q : ImplType) (basic : ℕ) (r : Result Found Refusal) : Type 0 where
+  pub is : (g : ℕ) → found_run s src r ≡ find_impl_candidates (finder s src g) ts q (eqb basic 1)
+  pub few : IfOk r (λ f. f.nodes.n ≤ 6)
+  pub flag : IfOk r (λ f. f.basic ≡ eqb basic 1)
+  pub nodes_in : IfOk r (λ f. (x : ℕ) → In x (nodes_of f) → x < node_count s)
 
 -- Nodes that are none of the sheet's have no candidates.
 kept_in : (count : ℕ) (xs : Words) (x : ℕ) → In x (kept count xs) ↔ (In x xs × (x < 3 * count))
@@ -164,16 +148,16 @@ kept_candidates s c src h nodes t b = rising_unique _ _ (candidates_rise s src (
         (candidates s c src h (kept (many s header_definitions) nodes) t b i).1 ((r.0.0, (kept_in (many s header_definitions) nodes r.0.0).1 (r.0.1, r.0.2), r.0.2, r.0.3), r.1, r.2)
 
 -- No trait: no candidates.
-pub found_error : (s : Words) (src : ℕ) (ts : Types) (args : List Ty) (tr basic : ℕ) (nodes : Words) → tr ≡ 0 → Finds s src ts (tr, args) basic (record { number = 0; tr = tr; basic = basic; n = 0; nodes = nodes })
+pub found_error : (s : Words) (src : ℕ) (ts : Types) (args : List Ty) (tr basic : ℕ) (nodes : Nodes) → (1 ≤ tr → ⊥) → listed nodes ≡ [] → nodes.n ≤ 6 → Finds s src ts (tr, args) basic (Ok (record { tr = tr; basic = eqb basic 1; nodes = nodes }))
 unfolding found_run ids find_impl_candidates optional
-found_error s src ts args tr basic nodes z = record {
-  is = λ g. rw (eq-eqb tr 0 z, found_run, ids) (sym (ap (λ k. find_impl_candidates (finder s src g) ts (k, args) (eqb basic 1)) z));
-  few = omega arith;
+found_error s src ts args tr basic nodes z e few = record {
+  is = λ g. rw (eq-eqb tr 0 (omega arith), found_run, ids) (sym (ap (λ k. find_impl_candidates (finder s src g) ts (k, args) (eqb basic 1)) (let q : tr ≡ 0 = omega arith in q)));
+  few = few;
   flag = refl;
-  nodes_in = λ x i. absurd (in_empty i);
+  nodes_in = λ x i. absurd (in_empty (subst (In x) e i));
 }
 
-module _ (s : Words) (src : ℕ) (cs : Words) (ts : Types) (args ws us : Words) (tr tt' t basic : ℕ) (r : Nodes) (p : Stands s src cs) (z : tr ≢ 0) (et : tt' ≡ tr) (e : t ≡ tt' - 1) (g : Sets s src ts t args ws us r) (long : length us ≡ 6) where
+module _ (s : Words) (src : ℕ) (cs : Words) (ts : Types) (args : Words) (tr t basic : ℕ) (r : Result Nodes Refusal) (p : Stands s src cs) (z : 1 ≤ tr) (e : t ≡ tr - 1) (g : Sets s src ts t args r) where
   mods : Run Words
   mods = inherent_mods s ts (take (inherent_params s t) (map type_of_word args))
 
@@ -185,7 +169,7 @@ module _ (s : Words) (src : ℕ) (cs : Words) (ts : Types) (args ws us : Words) 
   -- By what the modules come to.
   asked : (h b : ℕ) → find_impl_candidates (finder s src h) ts (tr, map type_of_word args) (eqb b 1) ≡ (mods >>= λ ns. done (get_candidates s src (places s src t ns) t (eqb b 1)))
   unfolding find_impl_candidates mods
-  asked h b = rw (some_trait tr z ∙ ap some (let q : tr - 1 ≡ t = omega arith in q), find_impl_candidates) refl
+  asked h b = rw (some_trait tr (omega arith) ∙ ap some (let q : tr - 1 ≡ t = omega arith in q), find_impl_candidates) refl
 
   refused_mods : (x : Run Words) (n : ℕ) (f : Words → Words) → stop n ≡ behind (many s header_definitions) [] (x >>= λ ns. done (places s src t ns)) → stop n ≡ (x >>= λ ns. done (f ns))
   unfolding behind ◌>>=◌ IsStop
@@ -205,74 +189,68 @@ module _ (s : Words) (src : ℕ) (cs : Words) (ts : Types) (args ws us : Words) 
   inside (asks x) nodes q y i = absurd (subst IsDone q tt)
   inside (done ns) nodes q y i = ((kept_in (many s header_definitions) (places s src t ns) y).0 (subst (In y) (ap list_of q) i)).1
 
-  pub found_refused : (number : ℕ) → r ≡ Refused number → Finds s src ts (tr, map type_of_word args) basic (record { number = number; tr = tr; basic = basic; n = 0; nodes = us })
+  pub found_refused : (refusal : Refusal) → r ≡ Err refusal → Finds s src ts (tr, map type_of_word args) basic (Err refusal)
   unfolding found_run nodes_run places_run mods
-  found_refused number er = record {
-    is = λ h. rw (ne_eqb number 0 (g.real number er), found_run) (refused_mods mods number (λ ns. get_candidates s src (places s src t ns) t (eqb basic 1)) (sym (ap (λ q. nodes_run q us) er) ∙ g.is) ∙ sym (asked h basic));
-    few = omega arith;
-    flag = refl;
-    nodes_in = λ x i. absurd (in_empty i);
+  found_refused refusal er = record {
+    is = λ h. refused_mods mods (number_of refusal) (λ ns. get_candidates s src (places s src t ns) t (eqb basic 1)) (sym (ap nodes_run er) ∙ g.is) ∙ sym (asked h basic);
+    few = tt;
+    flag = tt;
+    nodes_in = tt;
   }
 
-  pub found_among : (n : ℕ) → r ≡ Written n → Finds s src ts (tr, map type_of_word args) basic (record { number = 0; tr = tr; basic = basic; n = n; nodes = us })
+  pub found_among : (nodes : Nodes) → r ≡ Ok nodes → Finds s src ts (tr, map type_of_word args) basic (Ok (record { tr = tr; basic = eqb basic 1; nodes = nodes }))
   unfolding found_run ids nodes_run places_run mods
-  found_among n er = record {
+  found_among nodes er = record {
     is = λ h.
-        rw (ne_eqb tr 0 z, found_run, ids)
-        (ap {B = Run Words} done (ap₂ (λ (l : Words) k. get_candidates s src l k (eqb basic 1)) (ap (take n) (six-all us long)) (let q : tr - 1 ≡ t = omega arith in q)) ∙ written_mods mods (take n us) (eqb basic 1) row ∙ sym (asked h basic));
-    few = g.few n er;
+        rw (ne_eqb tr 0 (omega arith), found_run, ids)
+        (ap {B = Run Words} done (ap (λ k. get_candidates s src (listed nodes) k (eqb basic 1)) (let q : tr - 1 ≡ t = omega arith in q)) ∙ written_mods mods (listed nodes) (eqb basic 1) row ∙ sym (asked h basic));
+    few = subst (λ q. IfOk q (λ b. b.n ≤ 6)) er g.few;
     flag = refl;
-    nodes_in = λ x i. inside mods (take n us) row x (subst (λ l. In x (take n l)) (six-all us long) i);
+    nodes_in = λ x i. inside mods (listed nodes) row x i;
   }
     where
-      row : done (take n us) ≡ behind (many s header_definitions) [] (mods >>= λ ns. done (places s src t ns))
-      row = sym (ap (λ q. nodes_run q us) er) ∙ g.is
+      row : done (listed nodes) ≡ behind (many s header_definitions) [] (mods >>= λ ns. done (places s src t ns))
+      row = sym (ap nodes_run er) ∙ g.is
 
 -- The next candidate from an id on, or none is left.
-pub record Gives (s ws : Words) (f : Found) (from : ℕ) (r : Candidate) : Type 0 where
-  pub up : (id : ℕ) → r ≡ Impl id → (from ≤ id) × (id < many s header_impls)
-  pub found : (id : ℕ) → r ≡ Impl id → (src : ℕ) → Standing s src ws (nodes_of f) → from_on from (ids s src f) ≡ id ∷ from_on (id + 1) (ids s src f)
-  pub none : r ≡ End → (src : ℕ) → Standing s src ws (nodes_of f) → from_on from (ids s src f) ≡ []
+pub record Gives (s ws : Words) (f : Found) (from : ℕ) (r : Option ℕ) : Type 0 where
+  pub up : (id : ℕ) → r ≡ Some id → (from ≤ id) × (id < many s header_impls)
+  pub found : (id : ℕ) → r ≡ Some id → (src : ℕ) → Standing s src ws (nodes_of f) → from_on from (ids s src f) ≡ id ∷ from_on (id + 1) (ids s src f)
+  pub none : r ≡ None → (src : ℕ) → Standing s src ws (nodes_of f) → from_on from (ids s src f) ≡ []
 
 ids-none : (s : Words) (src : ℕ) (f : Found) → f.tr ≡ 0 → ids s src f ≡ []
 unfolding ids
 ids-none s src f z = rw (eq-eqb f.tr 0 z, ids) refl
 
-ids-some : (s : Words) (src : ℕ) (f : Found) → f.tr ≢ 0 → ids s src f ≡ get_candidates s src (nodes_of f) (f.tr - 1) (eqb f.basic 1)
+ids-some : (s : Words) (src : ℕ) (f : Found) → f.tr ≢ 0 → ids s src f ≡ get_candidates s src (nodes_of f) (f.tr - 1) f.basic
 unfolding ids
 ids-some s src f z = rw (ne_eqb f.tr 0 z, ids) refl
 
-next_id : Candidate → ℕ
-next_id (Impl i) = i
-next_id End = 0
+some_same : {a b : ℕ} → Some a ≡ Some b → a ≡ b
+some_same e = cc
 
-IsImpl : Candidate → Type 0
-IsImpl (Impl i) = Unit {0}
-IsImpl End = ⊥
+not_some : {a : ℕ} → None ≡ Some a → ⊥
+not_some e = cc
 
-pub next_error : (s ws : Words) (f : Found) (from : ℕ) → f.tr ≡ 0 → Gives s ws f from End
-unfolding IsImpl from_on select
-next_error s ws f from z = record { up = λ i e. absurd (subst IsImpl (sym e) tt); found = λ i e. absurd (subst IsImpl (sym e) tt); none = λ e src d. ap (from_on from) (ids-none s src f z) }
+pub next_error : (s ws : Words) (f : Found) (from : ℕ) → (1 ≤ f.tr → ⊥) → Gives s ws f from None
+unfolding from_on select
+next_error s ws f from z = record { up = λ i e. absurd (not_some e); found = λ i e. absurd (not_some e); none = λ e src d. ap (from_on from) (ids-none s src f (omega arith)) }
 
-module _ (s ws : Words) (f : Found) (from w t i n : ℕ) (z : f.tr ≢ 0) (ew : w ≡ f.tr) (et : t ≡ w - 1) (c : NextCandidate s ws (nodes_of f) t (eqb f.basic 1) from i) (en : n ≡ many s header_impls) where
-  same-ids : (src : ℕ) → get_candidates s src (nodes_of f) t (eqb f.basic 1) ≡ ids s src f
-  same-ids src = ap (λ k. get_candidates s src (nodes_of f) k (eqb f.basic 1)) (let q : t ≡ f.tr - 1 = omega arith in q) ∙ sym (ids-some s src f z)
+module _ (s ws : Words) (f : Found) (from t : ℕ) (z : 1 ≤ f.tr) (et : t ≡ f.tr - 1) where
+  same-ids : (src : ℕ) → get_candidates s src (nodes_of f) t f.basic ≡ ids s src f
+  same-ids src = ap (λ k. get_candidates s src (nodes_of f) k f.basic) et ∙ sym (ids-some s src f (omega arith))
 
-  pub next_impl : i < n → Gives s ws f from (Impl i)
-  unfolding IsImpl next_id
-  next_impl h = record {
-    up = λ j e. let q : i ≡ j = ap next_id e in (omega (arith, c.up, q), omega (arith, q));
-    found = λ j e src d.
-        ap (from_on from) (sym (same-ids src)) ∙ c.found src d (omega arith) ∙ ap (λ l. i ∷ from_on (i + 1) l) (same-ids src) ∙ ap (λ k. k ∷ from_on (k + 1) (ids s src f)) (ap next_id e);
-    none = λ e. absurd (subst IsImpl e tt);
+  pub next_found : (o : Option ℕ) → CandidateFrom s ws (nodes_of f) t f.basic from o → Gives s ws f from o
+  next_found None c = record {
+    up = λ j e. absurd (not_some e);
+    found = λ j e. absurd (not_some e);
+    none = λ e src d. ap (from_on from) (sym (same-ids src)) ∙ c.next.none src d (omega arith);
   }
-
-  pub next_end : n ≤ i → Gives s ws f from End
-  unfolding IsImpl
-  next_end h = record {
-    up = λ j e. absurd (subst IsImpl (sym e) tt);
-    found = λ j e. absurd (subst IsImpl (sym e) tt);
-    none = λ e src d. ap (from_on from) (sym (same-ids src)) ∙ c.none src d (omega arith);
+  next_found (Some i) c = record {
+    up = λ j e. let q : i ≡ j = some_same e in (omega (arith, c.next.up, q), omega (arith, c.impl, q));
+    found = λ j e src d.
+        ap (from_on from) (sym (same-ids src)) ∙ c.next.found src d c.impl ∙ ap (λ l. i ∷ from_on (i + 1) l) (same-ids src) ∙ ap (λ k. k ∷ from_on (k + 1) (ids s src f)) (some_same e);
+    none = λ e. absurd (not_some (sym e));
   }
 
 all-kept : (xs : Words) → from_on 0 xs ≡ xs
@@ -285,24 +263,25 @@ all-kept (x ∷ xs) = go (leb 0 x) refl (all-kept xs)
     go false e h = absurd (subst T e (le→leb 0 x (omega arith)))
 
 -- For the search: a refusal; the whole list, from id 0 on; and one candidate after the other.
-module _ (s : Words) (src : ℕ) (ws : Words) (ts : Types) (q : ImplType) (basic : ℕ) (f : Found) (p : Stands s src ws) (d : Finds s src ts q basic f) where
-  pub found_stops : f.number ≢ 0 → (g : ℕ) → find_impl_candidates (finder s src g) ts q (eqb basic 1) ≡ stop f.number
+module _ (s : Words) (src : ℕ) (ws : Words) (ts : Types) (q : ImplType) (basic : ℕ) (p : Stands s src ws) where
+  pub found_stops : (r : Result Found Refusal) (refusal : Refusal) → Finds s src ts q basic r → r ≡ Err refusal → (g : ℕ) → find_impl_candidates (finder s src g) ts q (eqb basic 1) ≡ stop (number_of refusal)
   unfolding found_run
-  found_stops z g = sym (d.is g) ∙ rw (ne_eqb f.number 0 z, found_run) refl
+  found_stops r refusal d e g = sym (d.is g) ∙ ap (found_run s src) e
 
-  pub found_goes : f.number ≡ 0 → (g : ℕ) → find_impl_candidates (finder s src g) ts q (eqb basic 1) ≡ done (from_on 0 (ids s src f))
-  unfolding found_run
-  found_goes z g = sym (d.is g) ∙ rw (eq-eqb f.number 0 z, found_run) (ap {B = Run Words} done (sym (all-kept (ids s src f))))
+  module _ (f : Found) (d : Finds s src ts q basic (Ok f)) where
+    pub found_goes : (g : ℕ) → find_impl_candidates (finder s src g) ts q (eqb basic 1) ≡ done (from_on 0 (ids s src f))
+    unfolding found_run
+    found_goes g = sym (d.is g) ∙ ap {B = Run Words} done (sym (all-kept (ids s src f)))
 
-  pub found-standing : Standing s src ws (nodes_of f)
-  found-standing = record { checked = p.checked; source = p.source; sets = p.sets; nodes_in = d.nodes_in }
+    pub found-standing : Standing s src ws (nodes_of f)
+    found-standing = record { checked = p.checked; source = p.source; sets = p.sets; nodes_in = d.nodes_in }
 
-  module _ (from : ℕ) (r : Candidate) (g : Gives s ws f from r) where
-    pub next_is : (id : ℕ) → r ≡ Impl id → from_on from (ids s src f) ≡ id ∷ from_on (id + 1) (ids s src f)
-    next_is id e = g.found id e src found-standing
+    module _ (from : ℕ) (r : Option ℕ) (g : Gives s ws f from r) where
+      pub next_is : (id : ℕ) → r ≡ Some id → from_on from (ids s src f) ≡ id ∷ from_on (id + 1) (ids s src f)
+      next_is id e = g.found id e src found-standing
 
-    pub next_low : (id : ℕ) → r ≡ Impl id → (from ≤ id) × (id < 384)
-    next_low id e = let u = g.up id e in (u.0, omega (arith, u.1, (valid s (passed s p.checked).values).impl_count))
+      pub next_low : (id : ℕ) → r ≡ Some id → (from ≤ id) × (id < 384)
+      next_low id e = let u = g.up id e in (u.0, omega (arith, u.1, (valid s (passed s p.checked).values).impl_count))
 
-    pub next_over : r ≡ End → from_on from (ids s src f) ≡ []
-    next_over e = g.none e src found-standing
+      pub next_over : r ≡ None → from_on from (ids s src f) ≡ []
+      next_over e = g.none e src found-standing

@@ -1,8 +1,7 @@
 -- The modules of the inherent arguments, as nodes that are written one behind the other. A node that is none of the sheet's is left out: no set is its own.
-use Rattle.std.specs.Prelude.{ℕ, zero, suc, ◌+◌, ◌*◌, ◌/◌, ◌≤◌, ◌<◌, ◌≡◌, Bool, true, false, ◌≢◌, List, [], ◌∷◌, ◌++◌, map, ltb, length, get_or, set, take, drop}
+use Rattle.std.specs.Prelude.{ℕ, zero, suc, ◌+◌, ◌*◌, ◌/◌, ◌≤◌, ◌<◌, ◌≡◌, Bool, true, false, ◌≢◌, List, [], ◌∷◌, ◌++◌, map, ltb, length, get_or, set, take, drop, Option, Some, None, Result, Ok, Err, IfOk, IsErrAnd}
 use Rattle.std.proofs.Math.Path.{refl, sym, ap}
-use Rattle.std.proofs.Common.{◌∙◌, subst, append_assoc, append-nil, add-one, arith, drop_of_length-le, take_all, drop-cons, lt-ltb, le-ltb}
-use Rattle.std.proofs.Math.Seq.{take-length}
+use Rattle.std.proofs.Common.{◌∙◌, subst, append_assoc, append-nil, add-one, arith, drop_of_length-le, drop-cons, lt-ltb, le-ltb}
 use Rattle.rules.specs.Lists.{Words, select}
 use Rattle.rules.specs.Types.{Ty, TypeState, unknown, known, Types, invert_if, invert_state, find, state_at, kind}
 use Rattle.rules.specs.Transfer.{type_of_word}
@@ -12,22 +11,15 @@ use Rattle.rules.specs.Run.{Run, done, stop, asks, ◌>>=◌}
 use Rattle.rules.specs.Search.{get_mod, inherent_mods}
 use Rattle.table.specs.Packing.{types_of, kind_in, kind_at}
 use Rattle.table.specs.Reads.{unknown_here}
-use Rattle.walks.specs.declared.Module.{Module}
-use Rattle.walks.specs.declared.Module.TheVariants.{Nowhere, Within, Error}
 use Rattle.walks.specs.Modules.{module_of}
+use Rattle.refusals.specs.declared.Refusal.{Refusal}
+use Rattle.refusals.specs.declared.Refusal.TheVariants.{SearchLimit}
+use Rattle.refusals.specs.Numbers.{number_of}
 use Rattle.admitted.specs.declared.Nodes.{Nodes}
-use Rattle.admitted.specs.declared.Nodes.TheVariants.{Written, Refused}
 
--- The first k of some arguments are the first r.
-pub record Front (args : Words) (k r : ℕ) : Type 0 where
-  pub up : r ≤ length args
-  pub same : take r args ≡ take k args
-
-pub front_few : (args : Words) (k : ℕ) → k < length args → Front args k k
-front_few args k h = record { up = omega arith; same = refl }
-
-pub front_all : (args : Words) (k : ℕ) → length args ≤ k → Front args k (length args)
-front_all args k h = record { up = omega arith; same = take-length args ∙ sym (take_all k args h) }
+-- The nodes that are written.
+abbrev pub listed : Nodes → Words
+listed ns = take ns.n ns.words
 
 -- Those of some nodes that are nodes of `count` definitions.
 unfoldable pub kept : ℕ → Words → Words
@@ -50,65 +42,49 @@ kept_append count (x ∷ xs) ys = go (ltb x (3 * count)) refl (kept_append count
     go true e ih = rw (e, kept, select) (ap (λ (zs : Words). x ∷ zs) ih)
     go false e ih = rw (e, kept, select) ih
 
--- The node within definition d is written behind n, if it is a node; r are written then.
-pub record Puts (count d n : ℕ) (ws us : Words) (r : ℕ) : Type 0 where
-  pub row : take r us ≡ take n ws ++ kept count (within_def d ∷ [])
-  pub up : r ≤ n + 1
+-- The node within definition d comes behind others, if it is a node.
+pub record Puts (count d : ℕ) (a b : Nodes) : Type 0 where
+  pub row : listed b ≡ listed a ++ kept count (within_def d ∷ [])
+  pub up : b.n ≤ a.n + 1
 
 pub take-set : (ws : Words) (n v : ℕ) → n < length ws → take (n + 1) (set ws n v) ≡ take n ws ++ (v ∷ [])
 take-set [] n v h = absurd (omega arith)
 take-set (w ∷ ws) zero v h = refl
 take-set (w ∷ ws) (suc n) v h = ap (λ k. take k (w ∷ set ws n v)) (let z : suc n + 1 ≡ suc (n + 1) = omega arith in z) ∙ ap (λ (l : Words). w ∷ l) (take-set ws n v (omega arith))
 
-pub put_in : (count d n v : ℕ) (ws : Words) → n < length ws → d < count → v ≡ 3 * d + 1 → Puts count d n ws (set ws n v) (n + 1)
+pub put_in : (count d v : ℕ) (a b : Nodes) → d < count → v ≡ 3 * d + 1 → listed b ≡ listed a ++ (v ∷ []) → b.n ≡ a.n + 1 → Puts count d a b
 unfolding kept select
-put_in count d n v ws h l e = record {
-  row = take-set ws n v h ∙ ap (λ (xs : Words). take n ws ++ xs) (ap (λ (x : ℕ). x ∷ []) e ∙ sym (kept-one count (within_def d) [] (omega arith)));
-  up = omega arith;
+put_in count d v a b l e h n = record {
+  row = h ∙ ap (λ (xs : Words). listed a ++ xs) (ap (λ (x : ℕ). x ∷ []) e ∙ sym (kept-one count (within_def d) [] (omega arith)));
+  up = omega (arith, n);
 }
 
-pub put_past : (count d n : ℕ) (ws : Words) → count ≤ d → Puts count d n ws ws n
+pub put_past : (count d : ℕ) (a : Nodes) → count ≤ d → Puts count d a a
 unfolding kept select
-put_past count d n ws h = record { row = sym (append-nil (take n ws)) ∙ ap (λ (xs : Words). take n ws ++ xs) (sym (kept-none count (within_def d) [] (omega arith))); up = omega arith }
+put_past count d a h = record { row = sym (append-nil (listed a)) ∙ ap (λ (xs : Words). listed a ++ xs) (sym (kept-none count (within_def d) [] (omega arith))); up = omega arith }
 
 -- The module of an inherent argument; an unknown one is 18.
 unfoldable pub inherent_mod : Words → Types → Ty → Run Words
 inherent_mod s ts t = elim (kind ts t) [ unknown ↦ stop 18 | known inv kd id cs ↦ get_mod s ts t ]
 
--- What a value of the code is, with the nodes that are written.
-unfoldable pub nodes_run : Nodes → Words → Run Words
-nodes_run (Written n) us = done (take n us)
-nodes_run (Refused k) us = stop k
+-- What a value of the code is.
+unfoldable pub nodes_run : Result Nodes Refusal → Run Words
+nodes_run (Ok ns) = done (listed ns)
+nodes_run (Err refusal) = stop (number_of refusal)
+
+-- A refusal that is handed on by a `?`.
+pub handed_on : {A : Type 0} (P : Result A Refusal → Type 0) (r : Result A Refusal) (refusal : Refusal) → IsErrAnd r (λ e. e ≡ refusal) → P (Err refusal) → P r
+handed_on P (Ok x) refusal h p = absurd h
+handed_on P (Err e) refusal h p = subst (λ k. P (Err k)) (sym h) p
 
 -- Nodes behind others.
 unfoldable pub behind : ℕ → Words → Run Words → Run Words
 behind count acc x = x >>= λ ns. done (acc ++ kept count ns)
 
--- The nodes that x comes to are written behind n, at most `more` of them, or x stops.
-pub record Gathers (x : Run Words) (count more n : ℕ) (ws us : Words) (r : Nodes) : Type 0 where
-  pub is : nodes_run r us ≡ behind count (take n ws) x
-  pub few : (m : ℕ) → r ≡ Written m → m ≤ n + more
-  pub real : (k : ℕ) → r ≡ Refused k → k ≢ 0
-
-count_in : Nodes → ℕ
-count_in (Written n) = n
-count_in (Refused k) = k
-
-written_same : {a b : ℕ} → Written a ≡ Written b → a ≡ b
-unfolding count_in
-written_same e = ap count_in e
-
-refused_same : {a b : ℕ} → Refused a ≡ Refused b → a ≡ b
-unfolding count_in
-refused_same e = ap count_in e
-
-IsWritten : Nodes → Type 0
-IsWritten (Written n) = Unit {0}
-IsWritten (Refused k) = ⊥
-
-not_refused : {a b : ℕ} → Written a ≡ Refused b → ⊥
-unfolding IsWritten
-not_refused e = subst IsWritten e tt
+-- The nodes that x comes to are put behind some, at most `more` of them, or x stops.
+pub record Gathers (x : Run Words) (count more : ℕ) (a : Nodes) (r : Result Nodes Refusal) : Type 0 where
+  pub is : nodes_run r ≡ behind count (listed a) x
+  pub few : IfOk r (λ b. b.n ≤ a.n + more)
 
 -- One argument, of kind k at its root.
 module _ (s ws : Words) (t k root : ℕ) (er : root ≡ rep (types_of ws) (t / 2)) (ek : k ≡ kind_at (types_of ws) root) where
@@ -129,25 +105,25 @@ module _ (s ws : Words) (t k root : ℕ) (er : root ≡ rep (types_of ws) (t / 2
   unfolding inherent_mod kind find invert_if rep type_of_word kind_at
   mod_known z = at_known (find (types_of ws) (type_of_word t)).0 (state_at (types_of ws) (rep (types_of ws) (t / 2))) (get_mod s (types_of ws) (type_of_word t)) (λ q. z (ek ∙ ap (λ r. kind_in (state_at (types_of ws) r)) er ∙ q))
 
-  pub module_unknown : (count n : ℕ) (ns : Words) → k ≡ 0 → Gathers (inherent_mod s (types_of ws) (type_of_word t)) count 1 n ns ns (Refused 18)
+  pub module_unknown : (count : ℕ) (ns : Nodes) → k ≡ 0 → Gathers (inherent_mod s (types_of ws) (type_of_word t)) count 1 ns (Err SearchLimit)
   unfolding nodes_run behind ◌>>=◌
-  module_unknown count n ns z = record { is = sym (ap (behind count (take n ns)) (mod_unknown z)); few = λ m e. absurd (not_refused (sym e)); real = λ m e q. omega (arith, refused_same e, q) }
+  module_unknown count ns z = record { is = sym (ap (behind count (listed ns)) (mod_unknown z)); few = tt }
 
-  module _ (z : k ≢ 0) (m : Module) (em : module_of m ≡ get_mod s (types_of ws) (type_of_word t)) (count n : ℕ) (ns : Words) where
-    comes : (x : Module) → m ≡ x → module_of x ≡ inherent_mod s (types_of ws) (type_of_word t)
+  module _ (z : k ≢ 0) (m : Result (Option ℕ) Refusal) (em : module_of m ≡ get_mod s (types_of ws) (type_of_word t)) (count : ℕ) (ns : Nodes) where
+    comes : (x : Result (Option ℕ) Refusal) → m ≡ x → module_of x ≡ inherent_mod s (types_of ws) (type_of_word t)
     comes x e = ap module_of (sym e) ∙ em ∙ sym (mod_known z)
 
-    pub module_nowhere : m ≡ Nowhere → Gathers (inherent_mod s (types_of ws) (type_of_word t)) count 1 n ns ns (Written n)
+    pub module_nowhere : m ≡ Ok None → Gathers (inherent_mod s (types_of ws) (type_of_word t)) count 1 ns (Ok ns)
     unfolding nodes_run behind ◌>>=◌ module_of kept select
-    module_nowhere e = record { is = ap {B = Run Words} done (sym (append-nil (take n ns))) ∙ ap (behind count (take n ns)) (comes Nowhere e); few = λ j q. omega (arith, written_same q); real = λ j q. absurd (not_refused q) }
+    module_nowhere e = record { is = ap {B = Run Words} done (sym (append-nil (listed ns))) ∙ ap (behind count (listed ns)) (comes (Ok None) e); few = omega arith }
 
-    pub module_within : (d r : ℕ) (us : Words) → m ≡ Within d → Puts count d n ns us r → Gathers (inherent_mod s (types_of ws) (type_of_word t)) count 1 n ns us (Written r)
+    pub module_within : (d : ℕ) (b : Nodes) → m ≡ Ok (Some d) → Puts count d ns b → Gathers (inherent_mod s (types_of ws) (type_of_word t)) count 1 ns (Ok b)
     unfolding nodes_run behind ◌>>=◌ module_of
-    module_within d r us e p = record { is = ap {B = Run Words} done p.row ∙ ap (behind count (take n ns)) (comes (Within d) e); few = λ j q. omega (arith, written_same q, p.up); real = λ j q. absurd (not_refused q) }
+    module_within d b e p = record { is = ap {B = Run Words} done p.row ∙ ap (behind count (listed ns)) (comes (Ok (Some d)) e); few = p.up }
 
-    pub module_error : m ≡ Error → Gathers (inherent_mod s (types_of ws) (type_of_word t)) count 1 n ns ns (Refused 19)
+    pub module_error : (f : Refusal) → m ≡ Err f → Gathers (inherent_mod s (types_of ws) (type_of_word t)) count 1 ns (Err f)
     unfolding nodes_run behind ◌>>=◌ module_of
-    module_error e = record { is = ap (behind count (take n ns)) (comes Error e); few = λ j q. absurd (not_refused (sym q)); real = λ j q z. omega (arith, refused_same q, z) }
+    module_error f e = record { is = ap (behind count (listed ns)) (comes (Err f) e); few = tt }
 
 -- All arguments, one after the other.
 pub bind_assoc : {A B C : Type 0} (m : Run A) (f : A → Run B) (g : B → Run C) → (m >>= f >>= g) ≡ (m >>= λ a. f a >>= g)
@@ -202,42 +178,42 @@ module _ (count : ℕ) (acc : Words) (rest : Run Words) where
   first_stops (asks x) k e = absurd (subst IsStop e tt)
   first_stops (stop n) k e = sym e
 
--- The loop: n nodes are written, and the arguments from k on are left.
-pub record Gathering (s : Words) (ts : Types) (args : Words) (count n₀ n k : ℕ) (ws us : Words) : Type 0 where
-  pub rest : behind count (take n₀ ws) (inherent_mods s ts (map type_of_word args)) ≡ behind count (take n us) (inherent_mods s ts (map type_of_word (drop k args)))
-  pub few : n ≤ n₀ + k
-  pub long : length us ≡ length ws
+-- The loop: nodes are put behind others, and the arguments from k on are left.
+pub record Gathering (s : Words) (ts : Types) (args : Words) (count k : ℕ) (a b : Nodes) : Type 0 where
+  pub rest : behind count (listed a) (inherent_mods s ts (map type_of_word args)) ≡ behind count (listed b) (inherent_mods s ts (map type_of_word (drop k args)))
+  pub few : b.n ≤ a.n + k
 
-pub gather_start : (s : Words) (ts : Types) (args : Words) (count n : ℕ) (ws : Words) → Gathering s ts args count n n 0 ws ws
-gather_start s ts args count n ws = record { rest = refl; few = omega arith; long = refl }
+pub gather_start : (s : Words) (ts : Types) (args : Words) (count : ℕ) (a : Nodes) → Gathering s ts args count 0 a a
+gather_start s ts args count a = record { rest = refl; few = omega arith }
 
-module _ (s : Words) (ts : Types) (args : Words) (count n₀ n k : ℕ) (ws us vs : Words) (g : Gathering s ts args count n₀ n k ws us) (h : k < length args) (t : ℕ) (et : t ≡ get_or args k 0) (r : Nodes) (f : Gathers (inherent_mod s ts (type_of_word t)) count 1 n us vs r) where
-  next_left : behind count (take n₀ ws) (inherent_mods s ts (map type_of_word args)) ≡ behind count (take n us) (inherent_mod s ts (type_of_word t) >>= λ ns. inherent_mods s ts (map type_of_word (drop (k + 1) args)) >>= λ ms. done (ns ++ ms))
+module _ (s : Words) (ts : Types) (args : Words) (count k : ℕ) (a b : Nodes) (g : Gathering s ts args count k a b) (h : k < length args) (r : Result Nodes Refusal) (f : Gathers (inherent_mod s ts (type_of_word (get_or args k 0))) count 1 b r) where
+  t : ℕ
+  t = get_or args k 0
+
+  next_left : behind count (listed a) (inherent_mods s ts (map type_of_word args)) ≡ behind count (listed b) (inherent_mod s ts (type_of_word t) >>= λ ns. inherent_mods s ts (map type_of_word (drop (k + 1) args)) >>= λ ms. done (ns ++ ms))
+  unfolding t
   next_left =
       g.rest
-      ∙ ap (λ (l : Words). behind count (take n us) (inherent_mods s ts (map type_of_word l))) (drop-cons args k 0 h ∙ ap (λ (w : ℕ). w ∷ drop (suc k) args) (sym et) ∙ ap (λ j. t ∷ drop j args) (sym (add-one k)))
-      ∙ ap (behind count (take n us)) (mods_next s ts (type_of_word t) (map type_of_word (drop (k + 1) args)))
+      ∙ ap (λ (l : Words). behind count (listed b) (inherent_mods s ts (map type_of_word l))) (drop-cons args k 0 h ∙ ap (λ j. t ∷ drop j args) (sym (add-one k)))
+      ∙ ap (behind count (listed b)) (mods_next s ts (type_of_word t) (map type_of_word (drop (k + 1) args)))
 
-  pub gather_on : (m : ℕ) → r ≡ Written m → length vs ≡ length us → Gathering s ts args count n₀ m (k + 1) ws vs
-  unfolding nodes_run
-  gather_on m e l = record {
-    rest = next_left ∙ first_written count (take n us) (inherent_mods s ts (map type_of_word (drop (k + 1) args))) (inherent_mod s ts (type_of_word t)) (take m vs) (sym (ap (λ q. nodes_run q vs) e) ∙ f.is);
-    few = omega (arith, g.few, f.few m e);
-    long = l ∙ g.long;
+  pub gather_on : (c : Nodes) → r ≡ Ok c → Gathering s ts args count (k + 1) a c
+  unfolding nodes_run t
+  gather_on c e = record {
+    rest = next_left ∙ first_written count (listed b) (inherent_mods s ts (map type_of_word (drop (k + 1) args))) (inherent_mod s ts (type_of_word t)) (listed c) (sym (ap nodes_run e) ∙ f.is);
+    few = omega (arith, g.few, subst (λ q. IfOk q (λ d. d.n ≤ b.n + 1)) e f.few);
   }
 
-  pub gather_stops : (number : ℕ) → r ≡ Refused number → Gathers (inherent_mods s ts (map type_of_word args)) count (length args) n₀ ws vs (Refused number)
-  unfolding nodes_run
-  gather_stops number e = record {
-    is = sym (next_left ∙ first_stops count (take n us) (inherent_mods s ts (map type_of_word (drop (k + 1) args))) (inherent_mod s ts (type_of_word t)) number (sym (ap (λ q. nodes_run q vs) e) ∙ f.is));
-    few = λ m q. absurd (not_refused (sym q));
-    real = λ j q. f.real j (e ∙ q);
+  pub gather_stops : (refusal : Refusal) → r ≡ Err refusal → Gathers (inherent_mods s ts (map type_of_word args)) count (length args) a (Err refusal)
+  unfolding nodes_run t
+  gather_stops refusal e = record {
+    is = sym (next_left ∙ first_stops count (listed b) (inherent_mods s ts (map type_of_word (drop (k + 1) args))) (inherent_mod s ts (type_of_word t)) (number_of refusal) (sym (ap nodes_run e) ∙ f.is));
+    few = tt;
   }
 
-pub gather_end : (s : Words) (ts : Types) (args : Words) (count n₀ n k : ℕ) (ws us : Words) → Gathering s ts args count n₀ n k ws us → length args ≤ k → k ≤ length args → Gathers (inherent_mods s ts (map type_of_word args)) count (length args) n₀ ws us (Written n)
+pub gather_end : (s : Words) (ts : Types) (args : Words) (count k : ℕ) (a b : Nodes) → Gathering s ts args count k a b → length args ≤ k → k ≤ length args → Gathers (inherent_mods s ts (map type_of_word args)) count (length args) a (Ok b)
 unfolding nodes_run behind inherent_mods ◌>>=◌ kept select
-gather_end s ts args count n₀ n k ws us g h u = record {
-  is = ap {B = Run Words} done (sym (append-nil (take n us))) ∙ sym (g.rest ∙ ap (λ (l : Words). behind count (take n us) (inherent_mods s ts (map type_of_word l))) (drop_of_length-le args h));
-  few = λ m e. omega (arith, written_same e, g.few);
-  real = λ j q. absurd (not_refused q);
+gather_end s ts args count k a b g h u = record {
+  is = ap {B = Run Words} done (sym (append-nil (listed b))) ∙ sym (g.rest ∙ ap (λ (l : Words). behind count (listed b) (inherent_mods s ts (map type_of_word l))) (drop_of_length-le args h));
+  few = omega (arith, g.few);
 }

@@ -8,7 +8,7 @@ use Rattle.std.proofs.Math.Seq.{drop-length}
 use Rattle.rules.specs.Lists.{Words}
 use Rattle.rules.specs.Types.{Ty}
 use Rattle.rules.specs.Answer.{head_or_zero, word_of_type, pack_cells}
-use Rattle.answer.specs.Writing.{Wrote, Left, link_of, link_head, left_start, left_more, left_done, left_as}
+use Rattle.answer.specs.Writing.{Wrote, Left, link_of, link_head, left_more, left_done, left_as}
 
 pub cells-length : (p : ℕ) (cs : List Ty) → length (pack_cells p cs) ≡ 2 * length cs
 unfolding pack_cells
@@ -23,11 +23,6 @@ pub drop_all : {A : Type 0} (l : List A) (j : ℕ) → j ≡ length l → drop j
 drop_all l j e = ap (λ m. drop m l) e ∙ drop-length l
 
 module _ (ws : Words) (p : ℕ) (cs : List Ty) where
-  pub cells_start : Left ws ws p (p + 2 * 0) (pack_cells p cs) (pack_cells (p + 2 * 0) (drop 0 cs))
-  cells_start =
-      let e : p ≡ p + 2 * 0 = omega arith in
-      left_as ws ws p p (p + 2 * 0) (pack_cells p cs) (pack_cells p cs) (pack_cells (p + 2 * 0) (drop 0 cs)) e (ap (λ q. pack_cells q cs) e) (left_start ws p (pack_cells p cs))
-
   pub cells_more : (us vs : Words) (j k next t : ℕ) → k ≡ length cs → j < k → next ≡ link_of (k - (j + 1)) (p + 2 * j + 2) → t ≡ word_of_type (get_or cs j (false, 0)) → Left ws us p (p + 2 * j) (pack_cells p cs) (pack_cells (p + 2 * j) (drop j cs)) → Wrote us vs (p + 2 * j) (next ∷ t ∷ []) → Left ws vs p (p + 2 * (j + 1)) (pack_cells p cs) (pack_cells (p + 2 * (j + 1)) (drop (j + 1) cs))
   unfolding pack_cells
   cells_more us vs j k next t e h en et l w =

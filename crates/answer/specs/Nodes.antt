@@ -67,16 +67,6 @@ few_children ws n = ⊎_elim here past (lt_or n (length (types_of ws)))
 pub child_count_few : (ws : Words) (n k : ℕ) → k ≡ length (children_at (types_of ws) n) → k ≤ 8
 child_count_few ws n k e = omega (arith, few_children ws n)
 
--- The five words of a node's record, as they are read.
-pub wrote_state : (ts : Types) (ws us : Words) (n p next k i d child : ℕ) (b : Bool) → k ≡ kind_at ts n → b ≡ inverted_at ts n → i ≡ bit b → d ≡ id_at ts n → Wrote ws us p (next ∷ k ∷ i ∷ d ∷ child ∷ []) → Wrote ws us p (next ∷ kind_at ts n ∷ bit (inverted_at ts n) ∷ id_at ts n ∷ child ∷ [])
-wrote_state ts ws us n p next k i d child b ek eb ei ed w =
-    let ei' : i ≡ bit (inverted_at ts n) = ei ∙ ap bit eb in
-    wrote_as ws us p p (next ∷ k ∷ i ∷ d ∷ child ∷ []) (next ∷ kind_at ts n ∷ bit (inverted_at ts n) ∷ id_at ts n ∷ child ∷ []) refl (cc) w
-
--- Its links, as they are made.
-pub wrote_links : (ws us : Words) (p next k i d child x y : ℕ) → next ≡ x → child ≡ y → Wrote ws us p (next ∷ k ∷ i ∷ d ∷ child ∷ []) → Wrote ws us p (x ∷ k ∷ i ∷ d ∷ y ∷ [])
-wrote_links ws us p next k i d child x y ex ey w = wrote_as ws us p p (next ∷ k ∷ i ∷ d ∷ child ∷ []) (x ∷ k ∷ i ∷ d ∷ y ∷ []) refl (cc) w
-
 -- A record and its cells.
 pub noded : (ts : Types) (ws us vs : Words) (n left k p : ℕ) → left ≡ length ts - (n + 1) → k ≡ length (children_at ts n) → k ≤ 8 → Wrote ws us p (link_of left (p + 5 + 2 * k) ∷ kind_at ts n ∷ bit (inverted_at ts n) ∷ id_at ts n ∷ link_of k (p + 5) ∷ []) → Wrote us vs (p + 5) (pack_cells (p + 5) (children_at ts n)) → Noded ts ws vs n p (p + 5 + 2 * k)
 unfolding node_part kind_at inverted_at id_at children_at

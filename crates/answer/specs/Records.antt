@@ -60,17 +60,6 @@ packs_none ws out lo hi p e room = record { trees = λ ts l h. go ts h }
     go end h = wrote_none out p (omega arith)
     go (tree k i c n) h = absurd (omega arith)
 
--- The lesser of two: how many nodes are below one, and how many there are behind it.
-pub least_first : (n m : ℕ) → n < m → n ≡ min n m
-least_first n m h = omega arith
-
-pub least_second : (n m : ℕ) → m ≤ n → m ≡ min n m
-least_second n m h = omega arith
-
--- The four words of a tree's record, as they are made.
-pub wrote_tree : (ws us : Words) (p next k i child x k' i' y : ℕ) → next ≡ x → child ≡ y → k ≡ k' → i ≡ i' → Wrote ws us p (next ∷ k ∷ i ∷ child ∷ []) → Wrote ws us p (x ∷ k' ∷ i' ∷ y ∷ [])
-wrote_tree ws us p next k i child x k' i' y ex ey ek ei w = wrote_as ws us p p (next ∷ k ∷ i ∷ child ∷ []) (x ∷ k' ∷ i' ∷ y ∷ []) refl (cc) w
-
 -- A record, the records below it and those behind it.
 pub packs_more : (ws out us vs xs : Words) (lo hi p b m : ℕ) → lo ≢ hi → lo ≤ hi → b ≡ word_below (at ws lo) → m ≡ min b (hi - lo - 1) → Wrote out us p (link_of (hi - lo - 1 - m) (p + 4 + 4 * m) ∷ word_kind (at ws lo) ∷ word_id (at ws lo) ∷ link_of m (p + 4) ∷ []) → Packs ws (lo + 1) (lo + 1 + m) us vs (p + 4) → Packs ws (lo + 1 + m) hi vs xs (p + 4 + 4 * m) → Packs ws lo hi out xs p
 unfolding tree_size pack_trees Fit

@@ -11,10 +11,9 @@ use Rattle.rules.specs.Answer.{head_or_zero, pack_trees, word_of_type, pack_node
 use Rattle.rules.specs.Calls.{answer_after}
 use Rattle.table.specs.Packing.{types_of}
 use Rattle.trees.specs.Forests.{Holds}
-use Rattle.trees.specs.Carries.{Carries}
-use Rattle.answer.specs.Writing.{Wrote, link_of, wrote_then, wrote_before, wrote_whole, wrote_as, wrote_carried}
+use Rattle.answer.specs.Writing.{Wrote, link_of, wrote_then, wrote_before, wrote_whole, wrote_as}
 use Rattle.answer.specs.Nodes.{Nodes}
-use Rattle.answer.specs.Records.{Packs, trees_length_lem}
+use Rattle.answer.specs.Records.{trees_length_lem}
 
 -- The trees of a buffer are written from place p on, up to place r.
 pub record Treed (ws : Words) (b : ℕ) (out us : Words) (p r : ℕ) : Type 0 where
@@ -25,15 +24,6 @@ pub record Treed (ws : Words) (b : ℕ) (out us : Words) (p r : ℕ) : Type 0 wh
 pub record Typed (types out us : Words) (p r : ℕ) : Type 0 where
   pub wrote : Wrote out us p types
   pub next : r ≡ p + length types
-
-pub treed : (ws out us : Words) (b n p : ℕ) → n ≡ at ws b → Packs ws (b + 1) (b + 1 + n) out us p → Treed ws b out us p (p + 4 * n)
-treed ws out us b n p e a = record {
-  trees = λ t h. a.trees t h.lies (omega (arith, h.count));
-  next = ap (λ m. p + 4 * m) e;
-}
-
-pub typed : (types out us : Words) (p : ℕ) → p + 256 ≤ length out → length types ≤ 256 → Carries types out us 0 p (length types) → Typed types out us p (p + length types)
-typed types out us p room few c = record { wrote = wrote_carried types out us p (length types) refl (omega arith) c; next = refl }
 
 -- The answer behind its first six words: trees, nodes, type words.
 unfoldable pub body_of : Trees → Trees → Types → Words → Words
@@ -76,9 +66,6 @@ bodied fork drop row out us vs xs ys a b p q e r ts ha hb hr f g h k = record {
 -- The six words before it, as they are made: n and m are the counts of nodes of the two trees, c that of the type nodes.
 abbrev pub heads_of : ℕ → ℕ → ℕ → ℕ → Bool → Bool → Words
 heads_of n m c used inv self = link_of n 6 ∷ link_of m (6 + 4 * n) ∷ link_of c (6 + 4 * n + 4 * m) ∷ used ∷ bit inv ∷ bit self ∷ []
-
-pub wrote_heads : (ws us : Words) (h₁ h₂ h₃ used i s x₁ x₂ x₃ : ℕ) (inv self : Bool) → h₁ ≡ x₁ → h₂ ≡ x₂ → h₃ ≡ x₃ → i ≡ bit inv → s ≡ bit self → Wrote ws us 0 (h₁ ∷ h₂ ∷ h₃ ∷ used ∷ i ∷ s ∷ []) → Wrote ws us 0 (x₁ ∷ x₂ ∷ x₃ ∷ used ∷ bit inv ∷ bit self ∷ [])
-wrote_heads ws us h₁ h₂ h₃ used i s x₁ x₂ x₃ inv self e₁ e₂ e₃ ei es w = wrote_as ws us 0 0 (h₁ ∷ h₂ ∷ h₃ ∷ used ∷ i ∷ s ∷ []) (x₁ ∷ x₂ ∷ x₃ ∷ used ∷ bit inv ∷ bit self ∷ []) refl (cc) w
 
 -- A list of records is empty where there is nothing to pack.
 trees_head : (p q : ℕ) (t : Trees) → link_of (tree_size t) p ≡ head_or_zero p (pack_trees q t)

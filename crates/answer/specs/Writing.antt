@@ -1,12 +1,11 @@
 -- Words written into a buffer from a place on, part by part, with the laws that put the parts together.
-use Rattle.std.specs.Prelude.{ℕ, zero, suc, ◌+◌, ◌-◌, ◌≤◌, ◌<◌, ◌≡◌, refl, List, [], ◌∷◌, ◌++◌, ◌≢◌, length, set, drop}
-use Rattle.std.proofs.Common.{sym, ◌∙◌, ap, ⊎_elim, arith, length-set, length-drop, length-append, get_or-set_same, get_or-set_other, get_or-append-add, get_or-drop, ext_get_or}
+use Rattle.std.specs.Prelude.{ℕ, zero, suc, ◌+◌, ◌-◌, ◌≤◌, ◌<◌, ◌≡◌, refl, List, [], ◌∷◌, ◌++◌, ◌≢◌, length, drop}
+use Rattle.std.proofs.Common.{sym, ◌∙◌, ap, ⊎_elim, arith, length-drop, length-append, get_or-append-add, get_or-drop, ext_get_or}
 use Rattle.std.proofs.Math.ListN.{get_or-append}
 use Rattle.rules.specs.Lists.{Words}
 use Rattle.rules.specs.Sheet.{at}
 use Rattle.rules.specs.Pigeonholes.{lt_or}
 use Rattle.rules.specs.Answer.{head_or_zero}
-use Rattle.trees.specs.Carries.{Carries}
 
 -- The words xs stand from place p on; all others are as they were.
 pub record Wrote (ws us : Words) (p : ℕ) (xs : Words) : Type 0 where
@@ -42,15 +41,6 @@ link_head p (x ∷ xs) n e = ap (λ m. link_of m p) e
 
 pub wrote_none : (ws : Words) (p : ℕ) → p ≤ length ws → Wrote ws ws p []
 wrote_none ws p h = record { len = refl; fits = omega arith; there = λ i l. absurd (omega arith); low = λ i l. refl; high = λ i l. refl }
-
-pub wrote_one : (ws : Words) (p x : ℕ) → p < length ws → Wrote ws (set ws p x) p (x ∷ [])
-wrote_one ws p x h = record {
-  len = length-set ws p x;
-  fits = omega arith;
-  there = λ i l. rw (let e : i ≡ 0 = omega arith in e) (ap (at (set ws p x)) (let e : p + 0 ≡ p = omega arith in e) ∙ get_or-set_same ws p x 0 h);
-  low = λ i l. get_or-set_other ws p i x 0 (omega arith);
-  high = λ i l. get_or-set_other ws p i x 0 (omega arith);
-}
 
 -- A part, and the next part behind it.
 pub wrote_then : (ws us vs : Words) (p q : ℕ) (xs ys : Words) → q ≡ p + length xs → Wrote ws us p xs → Wrote us vs q ys → Wrote ws vs p (xs ++ ys)
@@ -117,42 +107,6 @@ wrote_whole ws us xs a = ext_get_or 0 us (xs ++ drop (length xs) ws)
 
 pub wrote_as : (ws us : Words) (p q : ℕ) (xs ys : Words) → p ≡ q → xs ≡ ys → Wrote ws us p xs → Wrote ws us q ys
 wrote_as ws us p q xs ys e f a = rw (← e, ← f) a
-
--- Stores one after the other.
-module _ (ws : Words) (p a b : ℕ) where
-  pub wrote_two : p + 2 ≤ length ws → Wrote ws (set (set ws p a) (p + 1) b) p (a ∷ b ∷ [])
-  wrote_two h = wrote_then ws (set ws p a) _ p (p + 1) (a ∷ []) (b ∷ []) refl (wrote_one ws p a (omega arith)) (wrote_one (set ws p a) (p + 1) b (simp length-set (omega arith)))
-
-  module _ (c d : ℕ) where
-    pub wrote_four : p + 4 ≤ length ws → Wrote ws (set (set (set (set ws p a) (p + 1) b) (p + 2) c) (p + 3) d) p (a ∷ b ∷ c ∷ d ∷ [])
-    wrote_four h =
-        let us = set (set ws p a) (p + 1) b in
-        let vs = set us (p + 2) c in
-        wrote_then ws vs (set vs (p + 3) d) p (p + 3) (a ∷ b ∷ c ∷ []) (d ∷ []) refl
-        (wrote_then ws us vs p (p + 2) (a ∷ b ∷ []) (c ∷ []) refl (wrote_two (omega arith)) (wrote_one us (p + 2) c (simp length-set (omega arith))))
-        (wrote_one vs (p + 3) d (simp length-set (omega arith)))
-
-    module _ (e : ℕ) where
-      pub wrote_five : p + 5 ≤ length ws → Wrote ws (set (set (set (set (set ws p a) (p + 1) b) (p + 2) c) (p + 3) d) (p + 4) e) p (a ∷ b ∷ c ∷ d ∷ e ∷ [])
-      wrote_five h =
-          let us = set (set (set (set ws p a) (p + 1) b) (p + 2) c) (p + 3) d in
-          wrote_then ws us (set us (p + 4) e) p (p + 4) (a ∷ b ∷ c ∷ d ∷ []) (e ∷ []) refl (wrote_four (omega arith)) (wrote_one us (p + 4) e (simp length-set (omega arith)))
-
--- The first six words.
-pub wrote_six : (ws : Words) (a b c d e f : ℕ) → 6 ≤ length ws → Wrote ws (set (set (set (set (set (set ws 0 a) 1 b) 2 c) 3 d) 4 e) 5 f) 0 (a ∷ b ∷ c ∷ d ∷ e ∷ f ∷ [])
-wrote_six ws a b c d e f h =
-    let us = set (set (set (set (set ws 0 a) 1 b) 2 c) 3 d) 4 e in
-    wrote_then ws us (set us 5 f) 0 5 (a ∷ b ∷ c ∷ d ∷ e ∷ []) (f ∷ []) refl (wrote_five ws 0 a b c d e (omega arith)) (wrote_one us 5 f (simp length-set (omega arith)))
-
--- Words carried from another slice.
-pub wrote_carried : (src ws us : Words) (p n : ℕ) → n ≡ length src → p + n ≤ length ws → Carries src ws us 0 p n → Wrote ws us p src
-wrote_carried src ws us p n e h c = record {
-  len = c.len;
-  fits = omega arith;
-  there = λ i l. c.there i (omega arith) ∙ ap (at src) (let z : 0 + i ≡ i = omega arith in z);
-  low = λ i l. c.low i l;
-  high = λ i l. c.high i (omega arith);
-}
 
 -- Part by part: the beginning, a part more, the end.
 pub left_start : (ws : Words) (p : ℕ) (all : Words) → Left ws ws p p all all

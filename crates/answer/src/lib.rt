@@ -17,60 +17,20 @@ ghost use Rattle.answer.specs.Whole.{Treed, Typed, Body, heads_of, Answers};
 use chart::layout;
 
 // A head or a next: the place p, or 0 where nothing is left.
+#[tactic(auto, using(crate::specs::Writing::link_none, crate::specs::Writing::link_some))]
 fn link(left: usize, p: usize) -> u32
     requires { p < 65536 }
     ensures { result ≡ link_of left p }
 {
-    if left == 0 {
-        return 0;
-    }
-    p as u32
+    if left == 0 { 0 } else { p as u32 }
 }
 
-// Writes a cell: next and type word.
-fn put_cell(out: &mut [u32], p: usize, next: u32, t: u32)
-    requires { p + 2 ≤ length out.old }
-    ensures { Wrote out.old out.new p (next ∷ t ∷ []) }
+// Writes words from a place on.
+fn put(out: &mut [u32], p: usize, from: &[u32])
+    requires { p + length from.now ≤ length out.old }
+    ensures { Wrote out.old out.new p from.now }
 {
-    out[p] = next;
-    out[p + layout::CELL_TYPE] = t;
-}
-
-// Writes the record of a tree: next sibling, kind, id, child head.
-fn put_tree(out: &mut [u32], p: usize, next: u32, kind: u32, id: u32, child: u32)
-    requires { p + 4 ≤ length out.old }
-    ensures { Wrote out.old out.new p (next ∷ kind ∷ id ∷ child ∷ []) }
-{
-    out[p] = next;
-    out[p + 1] = kind;
-    out[p + 2] = id;
-    out[p + 3] = child;
-}
-
-// Writes the record of a type node: next, kind, inverted, id, child head.
-fn put_node(out: &mut [u32], p: usize, next: u32, kind: u32, inverted: u32, id: u32, child: u32)
-    requires { p + 5 ≤ length out.old }
-    ensures { Wrote out.old out.new p (next ∷ kind ∷ inverted ∷ id ∷ child ∷ []) }
-{
-    out[p] = next;
-    out[p + layout::NODE_KIND] = kind;
-    out[p + layout::NODE_INVERTED] = inverted;
-    out[p + layout::NODE_ID] = id;
-    out[p + layout::NODE_CHILDREN] = child;
-}
-
-// A flag as a word.
-fn bit(b: bool) -> u32
-    ensures { result ≡ bit_of b }
-{
-    if b { 1 } else { 0 }
-}
-
-// How many nodes a table has.
-fn node_count(table: &[u32]) -> usize
-    ensures { result ≡ length (types_of table.now) }
-{
-    words::wide(table::count(table))
+    out[p..p + from.len()].copy_from_slice(from)
 }
 
 // How many children node n has: at most eight.
@@ -81,35 +41,21 @@ fn arity(table: &[u32], n: u32) -> usize
     table::child_count(table, n)
 }
 
-// Writes the cells of the children of node n.
+// Writes the cells of the children of node n: next and type word of each.
 fn pack_cells(table: &[u32], n: u32, out: &mut [u32], p: usize)
     requires p_in_bounds { p + 16 ≤ length out.old }
     requires p_bound { p < 32768 }
     ensures { Wrote out.old out.new p (pack_cells p (children_at (types_of table.now) n)) }
 {
     let k = arity(table, n);
-    let mut j = 0;
-    while j < k {
+    for j in 0..k {
         let q = p + layout::CELL_LENGTH * j;
-        let t = table::child(table, n, j);
         let next = link(k - (j + 1), q + layout::CELL_LENGTH);
-        put_cell(out, q, next, t);
-        j += 1;
+        put(out, q, &[next, table::child(table, n, j)]);
     }
 }
 
-// Writes the record of node n, with a next and a child head.
-fn put_state(table: &[u32], n: u32, next: u32, child: u32, out: &mut [u32], p: usize)
-    requires { p + 5 ≤ length out.old }
-    ensures { Wrote out.old out.new p (next ∷ kind_at (types_of table.now) n ∷ bit_of (inverted_at (types_of table.now) n) ∷ id_at (types_of table.now) n ∷ child ∷ []) }
-{
-    let kind = table::kind_of(table, n);
-    let inverted = table::inverted_of(table, n);
-    let id = table::id_of(table, n);
-    put_node(out, p, next, kind, bit(inverted), id, child)
-}
-
-// Writes the record of node n, behind which so many are left, and which has k children.
+// Writes the record of node n, behind which so many are left, and which has k children: next, kind, inverted, id, child head.
 fn put_record(table: &[u32], n: u32, left: usize, k: usize, out: &mut [u32], p: usize)
     requires p_in_bounds { p + 21 ≤ length out.old }
     requires p_bound { p < 16384 }
@@ -118,8 +64,10 @@ fn put_record(table: &[u32], n: u32, left: usize, k: usize, out: &mut [u32], p: 
 {
     let cells = p + layout::NODE_LENGTH;
     let next = link(left, cells + layout::CELL_LENGTH * k);
-    let child = link(k, cells);
-    put_state(table, n, next, child, out, p)
+    let kind = table::kind_of(table, n);
+    let inverted = u32::from(table::inverted_of(table, n));
+    let id = table::id_of(table, n);
+    put(out, p, &[next, kind, inverted, id, link(k, cells)])
 }
 
 // Writes node n, behind which so many are left, and its cells. The result is the place behind them.
@@ -142,27 +90,16 @@ fn pack_nodes(table: &[u32], out: &mut [u32], p: usize) -> usize
     requires p_bound { p < 8192 }
     ensures { Nodes (types_of table.now) out.old out.new p result }
 {
-    let c = table::count(table);
-    let mut n: u32 = 0;
+    let count = table::count(table);
     let mut q = p;
-    while n < c {
-        let left = words::wide(c - (n + 1));
-        q = pack_node(table, n, left, out, q);
-        n += 1;
+    for n in 0..count {
+        let left = count - (n + 1);
+        q = pack_node(table, n, left as usize, out, q);
     }
     q
 }
 
-fn least(n: usize, m: usize) -> usize
-    ensures { result ≡ min n m }
-{
-    if n < m {
-        return n;
-    }
-    m
-}
-
-// Writes the record of the tree whose word stands at lo: m nodes are below it, and so many behind those.
+// Writes the record of the tree whose word stands at lo: m nodes are below it, and so many behind those: next sibling, kind, id, child head.
 fn put_tree_record(ws: &[u32], lo: usize, m: usize, left: usize, out: &mut [u32], p: usize)
     requires p_in_bounds { p + 4 ≤ length out.old }
     requires m_bound { p + 4 + 4 * m < 65536 }
@@ -170,10 +107,9 @@ fn put_tree_record(ws: &[u32], lo: usize, m: usize, left: usize, out: &mut [u32]
 {
     let inner = p + layout::TREE_LENGTH;
     let next = link(left, inner + layout::TREE_LENGTH * m);
-    let child = link(m, inner);
     let kind = trees::kind(ws, lo);
     let id = trees::id(ws, lo);
-    put_tree(out, p, next, kind, id, child)
+    put(out, p, &[next, kind, id, link(m, inner)])
 }
 
 // Writes the records of the trees whose words stand from lo up to hi.
@@ -188,7 +124,7 @@ fn pack_trees(ws: &[u32], lo: usize, hi: usize, out: &mut [u32], p: usize)
         return;
     }
     let rest = hi - lo - 1;
-    let m = least(trees::below(ws, lo), rest);
+    let m = trees::below(ws, lo).min(rest);
     let e = lo + 1 + m;
     put_tree_record(ws, lo, m, rest - m, out, p);
     let inner = p + layout::TREE_LENGTH;
@@ -196,16 +132,16 @@ fn pack_trees(ws: &[u32], lo: usize, hi: usize, out: &mut [u32], p: usize)
     pack_trees(ws, e, hi, out, inner + layout::TREE_LENGTH * m)
 }
 
-// Writes the trees of the buffer at b. The result is the place behind them.
-fn write_trees(ws: &[u32], b: usize, out: &mut [u32], p: usize) -> usize
-    requires trees_length_in_bounds { b + trees_length ≤ length ws.now }
-    requires b_bound { at ws.now b ≤ limit_tree_nodes }
+// Writes the trees of a buffer. The result is the place behind them.
+fn write_trees(ws: &[u32], out: &mut [u32], p: usize) -> usize
+    requires trees_length_in_bounds { trees_length ≤ length ws.now }
+    requires bound { at ws.now 0 ≤ limit_tree_nodes }
     requires p_in_bounds { p + 1024 ≤ length out.old }
     requires p_bound { p < 8192 }
-    ensures { Treed ws.now b out.old out.new p result }
+    ensures { Treed ws.now 0 out.old out.new p result }
 {
-    let n = words::next(ws, b);
-    pack_trees(ws, b + 1, b + 1 + n, out, p);
+    let n = words::next(ws, 0);
+    pack_trees(ws, 1, 1 + n, out, p);
     p + layout::TREE_LENGTH * n
 }
 
@@ -215,56 +151,27 @@ fn write_types(types: &[u32], out: &mut [u32], p: usize) -> usize
     requires p_in_bounds { p + 256 ≤ length out.old }
     ensures { Typed types.now out.old out.new p result }
 {
-    trees::carry(types, 0, out, p, types.len());
+    put(out, p, types);
     p + types.len()
 }
 
 // Writes the answer behind its first six words: trees, nodes, type words. The result is the place behind them.
-fn write_body(
-    fork: &[u32],
-    a: usize,
-    drop: &[u32],
-    b: usize,
-    table: &[u32],
-    types: &[u32],
-    out: &mut [u32],
-) -> usize
-    requires trees_length_in_bounds { a + trees_length ≤ length fork.now }
-    requires a_bound { at fork.now a ≤ limit_tree_nodes }
-    requires trees_length_in_bounds_2 { b + trees_length ≤ length drop.now }
-    requires b_bound { at drop.now b ≤ limit_tree_nodes }
+fn write_body(fork: &[u32], drop: &[u32], table: &[u32], types: &[u32], out: &mut [u32]) -> usize
+    requires trees_length_in_bounds { trees_length ≤ length fork.now }
+    requires fork_bound { at fork.now 0 ≤ limit_tree_nodes }
+    requires trees_length_in_bounds_2 { trees_length ≤ length drop.now }
+    requires drop_bound { at drop.now 0 ≤ limit_tree_nodes }
     requires types_len_bound { length types.now ≤ limit_nodes }
     requires limit_answer_in_bounds { limit_answer ≤ length out.old }
-    ensures { Body fork.now a drop.now b (types_of table.now) types.now out.old out.new result }
+    ensures { Body fork.now 0 drop.now 0 (types_of table.now) types.now out.old out.new result }
 {
-    let p = write_trees(fork, a, out, layout::ANSWER_LENGTH);
-    let q = write_trees(drop, b, out, p);
+    let p = write_trees(fork, out, layout::ANSWER_LENGTH);
+    let q = write_trees(drop, out, p);
     let e = pack_nodes(table, out, q);
     write_types(types, out, e)
 }
 
-// Writes the first six words: tree head, drop tree head, table head, words used, inverted, self-inverse.
-fn put_head(
-    out: &mut [u32],
-    fork: u32,
-    drop: u32,
-    table: u32,
-    used: u32,
-    inverted: u32,
-    self_inverse: u32,
-)
-    requires { 6 ≤ length out.old }
-    ensures { Wrote out.old out.new 0 (fork ∷ drop ∷ table ∷ used ∷ inverted ∷ self_inverse ∷ []) }
-{
-    out[0] = fork;
-    out[1] = drop;
-    out[2] = table;
-    out[3] = used;
-    out[4] = inverted;
-    out[5] = self_inverse;
-}
-
-// The same, from the counts of tree nodes and of type nodes.
+// Writes the first six words: tree head, drop tree head, table head, words used, inverted, self-inverse. n and m tree nodes and c type nodes follow.
 fn write_head(
     n: usize,
     m: usize,
@@ -285,34 +192,43 @@ fn write_head(
     let f = link(n, layout::ANSWER_LENGTH);
     let d = link(m, p);
     let t = link(c, q);
-    put_head(out, f, d, t, used as u32, bit(inverted), bit(self_inverse))
+    put(
+        out,
+        0,
+        &[
+            f,
+            d,
+            t,
+            used as u32,
+            u32::from(inverted),
+            u32::from(self_inverse),
+        ],
+    )
 }
 
-// Writes an answer, and gives how many words it has. The buffers at a of fork and at b of drop hold the two trees (for an impl call its tree and none);
+// Writes an answer, and gives how many words it has. The buffers fork and drop hold the two trees (for an impl call its tree and none);
 // table and types are what exporting the caller's types gives for the question's nodes: the table, and a type word for each.
 pub fn write_answer(
     fork: &[u32],
-    a: usize,
     drop: &[u32],
-    b: usize,
     inverted: bool,
     self_inverse: bool,
     table: &[u32],
     types: &[u32],
     out: &mut [u32],
 ) -> usize
-    requires trees_length_in_bounds { a + trees_length ≤ length fork.now }
-    requires a_bound { at fork.now a ≤ limit_tree_nodes }
-    requires trees_length_in_bounds_2 { b + trees_length ≤ length drop.now }
-    requires b_bound { at drop.now b ≤ limit_tree_nodes }
+    requires trees_length_in_bounds { trees_length ≤ length fork.now }
+    requires fork_bound { at fork.now 0 ≤ limit_tree_nodes }
+    requires trees_length_in_bounds_2 { trees_length ≤ length drop.now }
+    requires drop_bound { at drop.now 0 ≤ limit_tree_nodes }
     requires types_len_bound { length types.now ≤ limit_nodes }
     requires limit_answer_in_bounds { limit_answer ≤ length out.old }
-    ensures { Answers fork.now a drop.now b inverted self_inverse table.now types.now out.old out.new result }
+    ensures { Answers fork.now 0 drop.now 0 inverted self_inverse table.now types.now out.old out.new result }
 {
-    let used = write_body(fork, a, drop, b, table, types, out);
-    let n = words::next(fork, a);
-    let m = words::next(drop, b);
-    let c = node_count(table);
+    let used = write_body(fork, drop, table, types, out);
+    let n = words::next(fork, 0);
+    let m = words::next(drop, 0);
+    let c = table::count(table) as usize;
     write_head(n, m, c, used, inverted, self_inverse, out);
     used
 }

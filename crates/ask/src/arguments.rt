@@ -1,222 +1,144 @@
 // What the arguments ask for: one question, or several in one sitting.
-ghost use Rattle.std.specs.Prelude.{◌≤◌, ◌<◌};
+ghost use Rattle.std.specs.Prelude.{◌<◌, length, IfSome};
 
-use std::io;
+use crate::failure::Failure;
+use std::alloc::Global;
 
-// Where the questions of a sitting begin.
-pub const FIRST: usize = 6;
-
-// The numbers of a sitting; `raw` asks for the answers' words too.
-#[derive(Clone, Copy)]
+/// Who asks, and the count of steps that the first question begins with.
+#[derive(Clone, Copy, Debug, PartialEq, Eq)]
 pub struct Numbers {
     pub source: u32,
     pub generics: u32,
     pub count: u32,
+}
+
+/// Which call a question is for.
+#[derive(Clone, Copy, Debug, PartialEq, Eq)]
+pub enum Call {
+    Impl { basic: u32 },
+    Flex,
+}
+
+/// A question in a file.
+#[derive(Clone, Copy, Debug)]
+pub struct Question<'a> {
+    pub call: Call,
+    pub file: &'a str,
+}
+
+/// One question, or those of a sitting.
+#[derive(Debug, Drop)]
+pub enum Questions<'a> {
+    One(Question<'a>),
+    Several(Vec<Question<'a>>),
+}
+
+/// What is asked for; `raw` asks for the words of the answers too.
+#[derive(Debug, Drop)]
+pub struct Asked<'a> {
+    pub sheet: &'a str,
+    pub numbers: Numbers,
+    pub questions: Questions<'a>,
     pub raw: bool,
 }
 
-// Which call a question is for; a flex call has no basic flag.
-#[derive(Clone, Copy)]
-pub struct Form {
-    pub flex: bool,
-    pub basic: u32,
+fn number(arg: &String) -> Option<u32> {
+    notation::read::number(arg.as_str())
 }
 
-// What is asked for: one question, or those of the arguments from FIRST up to an end.
-#[derive(Clone, Copy)]
-pub enum Given {
-    One { numbers: Numbers, form: Form },
-    Several { numbers: Numbers, end: usize },
-    Wrong,
-}
-
-// A question of a sitting among the arguments: `impl QUESTION BASIC` or `flex QUESTION`.
-#[derive(Clone, Copy)]
-pub enum Turn {
-    Question { form: Form },
-    Wrong,
-}
-
-pub fn usage(rt: &impl Eprint) -> io::Result<()> {
-    eprintln!(rt; "usage: ask impl SHEET QUESTION SOURCE GENERICS BASIC COUNT [raw]")?;
-    eprintln!(rt; "       ask flex SHEET QUESTION SOURCE GENERICS COUNT [raw]")?;
-    eprintln!(rt;
-        "       ask sitting SHEET SOURCE GENERICS COUNT (impl QUESTION BASIC | flex QUESTION).. [raw]"
-    )?;
-    eprintln!(rt;
-        "SHEET and QUESTION are files of decimal words; spaces, line ends and | stand between words,"
-    )?;
-    eprintln!(rt;
-        "and # begins a comment. raw prints the answer's words too. The questions of a sitting are asked"
-    )?;
-    eprintln!(rt;
-        "in turn, each from the count of steps that the one before it left; the first from COUNT."
-    )
-}
-
-// Whether argument k is a text.
-fn is_arg(args: &[String], k: usize, text: &str) -> bool {
-    same(programs::argument(args, k).as_bytes(), text.as_bytes())
-}
-
-// Whether two texts are equal.
-fn same(a: &[u8], b: &[u8]) -> bool {
-    if a.len() != b.len() {
-        return false;
-    }
-    let mut i = 0;
-    while i < a.len() {
-        if i < b.len() {
-            if a[i] != b[i] {
-                return false;
-            }
-        }
-        i += 1;
-    }
-    true
-}
-
-// Argument k as a number.
-fn number_arg(args: &[String], k: usize) -> notation::read::Parsed {
-    notation::read::number(programs::argument(args, k).as_bytes())
-}
-
-#[derive(Clone, Copy)]
-enum Three {
-    Numbers { numbers: Numbers },
-    Wrong,
-}
-
-// Source, generics and count, by where they stand.
-fn numbers_at(args: &[String], source: usize, generics: usize, count: usize, raw: bool) -> Three {
-    let notation::read::Parsed::Word(source) = number_arg(args, source) else {
-        return Three::Wrong;
-    };
-    let notation::read::Parsed::Word(generics) = number_arg(args, generics) else {
-        return Three::Wrong;
-    };
-    let notation::read::Parsed::Word(count) = number_arg(args, count) else {
-        return Three::Wrong;
-    };
-    Three::Numbers {
-        numbers: Numbers {
-            source,
-            generics,
-            count,
-            raw,
-        },
+impl Numbers {
+    fn parse(source: &String, generics: &String, count: &String) -> Option<Self> {
+        Some(Numbers {
+            source: number(source)?,
+            generics: number(generics)?,
+            count: number(count)?,
+        })
     }
 }
 
-// Which argument is the start count of one question.
-fn last_number(flex: bool) -> usize
-    ensures { result ≤ 7 }
-{
-    if flex { 6 } else { 7 }
-}
-
-// One question: its numbers stand behind the files.
-fn one_given(args: &[String], flex: bool) -> Given {
-    let last = last_number(flex);
-    let n = args.len();
-    let raw = n == last + 2;
-    if n != last + 1 && !raw {
-        return Given::Wrong;
-    }
-    if raw && !is_arg(args, last + 1, "raw") {
-        return Given::Wrong;
-    }
-    let Three::Numbers { numbers } = numbers_at(args, 4, 5, last, raw) else {
-        return Given::Wrong;
-    };
-    let notation::read::Parsed::Word(basic) = number_arg(args, 6) else {
-        return Given::Wrong;
-    };
-    Given::One {
-        numbers,
-        form: Form { flex, basic },
-    }
-}
-
-// The question at an argument, all of it before an end.
-pub fn turn_at(args: &[String], at: usize, end: usize) -> Turn {
-    if end <= at {
-        return Turn::Wrong;
-    }
-    if end <= at + 1 {
-        return Turn::Wrong;
-    }
-    if is_arg(args, at, "flex") {
-        return Turn::Question {
-            form: Form {
-                flex: true,
-                basic: 0,
+impl<'a> Question<'a> {
+    fn of_impl(file: &'a String, basic: &String) -> Option<Self> {
+        Some(Question {
+            call: Call::Impl {
+                basic: number(basic)?,
             },
-        };
+            file: file.as_str(),
+        })
     }
-    if end <= at + 2 || !is_arg(args, at, "impl") {
-        return Turn::Wrong;
-    }
-    let notation::read::Parsed::Word(basic) = number_arg(args, at + 2) else {
-        return Turn::Wrong;
-    };
-    Turn::Question {
-        form: Form { flex: false, basic },
+
+    fn of_flex(file: &'a String) -> Self {
+        Question {
+            call: Call::Flex,
+            file: file.as_str(),
+        }
     }
 }
 
-// How many arguments a question takes.
-fn width(flex: bool) -> usize
-    ensures { 1 ≤ result }
+// The first question of a sitting, `impl QUESTION BASIC` or `flex QUESTION`, and what is behind it.
+fn first_question(args: &[String]) -> Option<(Question<'_>, &[String])>
+    ensures { IfSome result (λ found. length found.1.now < length args.now) }
 {
-    if flex { 2 } else { 3 }
-}
-
-// Where the next question stands.
-pub fn behind(flex: bool, at: usize, end: usize) -> usize
-    requires { at < end }
-    ensures { (at < result) × (result ≤ end) }
-{
-    let words = width(flex);
-    if words < end - at { at + words } else { end }
-}
-
-// Whether all arguments from FIRST up to an end are questions, and there is one.
-fn all_questions(args: &[String], end: usize) -> bool {
-    let mut at = FIRST;
-    while at < end {
-        let Turn::Question { form } = turn_at(args, at, end) else {
-            return false;
-        };
-        at = behind(form.flex, at, end);
+    match args {
+        [call, file, basic, rest @ ..] if call.as_str() == "impl" => {
+            Some((Question::of_impl(file, basic)?, rest))
+        }
+        [call, file, rest @ ..] if call.as_str() == "flex" => Some((Question::of_flex(file), rest)),
+        _ => None,
     }
-    end > FIRST
 }
 
-// Several questions in one sitting.
-fn several_given(args: &[String]) -> Given {
-    let n = args.len();
-    let raw = n > FIRST && is_arg(args, n - 1, "raw");
-    let end = if raw && n > 0 { n - 1 } else { n };
-    if !all_questions(args, end) {
-        return Given::Wrong;
+// All questions of a sitting; there has to be one.
+fn all_questions(alloc: Global, args: &[String]) -> Result<Vec<Question<'_>>, Failure<'_>> {
+    let mut questions = Vec::new(alloc);
+    let mut rest = args;
+    while !rest.is_empty() {
+        let (question, behind) = first_question(rest).ok_or(Failure::Usage)?;
+        questions.push(question)?;
+        rest = behind;
     }
-    let Three::Numbers { numbers } = numbers_at(args, 3, 4, 5, raw) else {
-        return Given::Wrong;
+    if questions.is_empty() {
+        return Err(Failure::Usage);
+    }
+    Ok(questions)
+}
+
+/// What the arguments ask for.
+pub fn parse(alloc: Global, args: &[String]) -> Result<Asked<'_>, Failure<'_>> {
+    let (args, raw) = match args {
+        [front @ .., last] if last.as_str() == "raw" => (front, true),
+        _ => (args, false),
     };
-    Given::Several { numbers, end }
-}
-
-// What the arguments ask for.
-pub fn asked_for(args: &[String]) -> Given {
-    if is_arg(args, 1, "impl") {
-        return one_given(args, false);
-    }
-    if is_arg(args, 1, "flex") {
-        return one_given(args, true);
-    }
-    if is_arg(args, 1, "sitting") {
-        return several_given(args);
-    }
-    Given::Wrong
+    let (sheet, numbers, questions) = match args {
+        [_, call, sheet, file, source, generics, basic, count] if call.as_str() == "impl" => {
+            let question = Question::of_impl(file, basic).ok_or(Failure::Usage)?;
+            (
+                sheet,
+                Numbers::parse(source, generics, count),
+                Questions::One(question),
+            )
+        }
+        [_, call, sheet, file, source, generics, count] if call.as_str() == "flex" => {
+            let question = Question::of_flex(file);
+            (
+                sheet,
+                Numbers::parse(source, generics, count),
+                Questions::One(question),
+            )
+        }
+        [_, call, sheet, source, generics, count, rest @ ..] if call.as_str() == "sitting" => {
+            let questions = all_questions(alloc, rest)?;
+            (
+                sheet,
+                Numbers::parse(source, generics, count),
+                Questions::Several(questions),
+            )
+        }
+        _ => return Err(Failure::Usage),
+    };
+    Ok(Asked {
+        sheet: sheet.as_str(),
+        numbers: numbers.ok_or(Failure::Usage)?,
+        questions,
+        raw,
+    })
 }

@@ -1,121 +1,161 @@
-// What a call gave, as text on standard output.
-use std::io;
+// What a call gave, as text.
+use crate::arguments::Call;
+use notation::tree::Tree;
+use notation::types::Type;
+use refusals::Refusal;
+use std::fmt;
+use std::fmt::Write;
 
-fn text(rt: &impl Print, t: &[u8]) -> io::Result<()> {
-    rt.write_all(t)
+/// The steps that a call spent, by the counts before and after it.
+#[derive(Clone, Copy, Debug, PartialEq, Eq)]
+pub struct Steps {
+    pub start: u32,
+    pub count: u32,
 }
 
-fn decimal(rt: &impl Print, n: u32) -> io::Result<()> {
-    print!(rt; "{n}")
-}
-
-// The steps that a call spent.
-fn steps(rt: &impl Print, start: u32, count: u32) -> io::Result<()> {
-    let spent = if start <= count { count - start } else { 0 };
-    println!(rt; "steps: {spent} (count {count})")
-}
-
-// Which question of a sitting is asked.
-pub fn question(rt: &impl Print, n: u32) -> io::Result<()> {
-    println!(rt; "question {n}")
-}
-
-// The steps spent in a sitting so far.
-pub fn spent(rt: &impl Print, count: u32) -> io::Result<()> {
-    println!(rt; "spent: {count}")
-}
-
-// A refusal: its number and what it means.
-pub fn refused(rt: &impl Print, number: u32, start: u32, count: u32) -> io::Result<()> {
-    let mut out = [0u8; 4096];
-    let n = notation::meaning::put_meaning(&mut out, 0, number);
-    print!(rt; "refused {number}: ")?;
-    text(rt, &out[..n])?;
-    text(rt, b"\n")?;
-    steps(rt, start, count)
-}
-
-// The tree at a head of an answer, below its name; none where the head is 0.
-fn tree(rt: &impl Print, name: &str, a: &[u32], head: usize) -> io::Result<()> {
-    if head == 0 {
-        return println!(rt; "{name} none");
+impl fmt::Display for Steps {
+    fn fmt<W: Write>(&self, f: &mut fmt::Formatter<W>) -> fmt::Result {
+        let count = self.count;
+        let spent = count.saturating_sub(self.start);
+        write!(f, "steps: {spent} (count {count})")
     }
-    println!(rt; "{name}")?;
-    let mut out = [0u8; 65536];
-    let n = notation::tree::put_tree(&mut out, 0, a, head);
-    text(rt, &out[..n])
 }
 
-fn yes_or_no(rt: &impl Print, name: &str, w: u32) -> io::Result<()> {
-    if w == 0 {
-        return println!(rt; "{name} no");
-    }
-    println!(rt; "{name} yes")
+/// A call that was turned away: the number and what it means, and the steps.
+#[derive(Clone, Copy, Debug)]
+pub struct Refused {
+    pub refusal: Refusal,
+    pub steps: Steps,
 }
 
-// The types that the question's node k has become.
-fn type_line(rt: &impl Print, k: usize, a: &[u32], t: u32) -> io::Result<()> {
-    let mut out = [0u8; 4096];
-    let n = notation::types::put_type(&mut out, 0, a, words::next(a, 2), t);
-    print!(rt; "  {k}: ")?;
-    text(rt, &out[..n])?;
-    if n == 4096 {
-        text(rt, b" ..")?;
+impl fmt::Display for Refused {
+    fn fmt<W: Write>(&self, f: &mut fmt::Formatter<W>) -> fmt::Result {
+        let refusal = self.refusal;
+        writeln!(f, "refused {}: {refusal}", refusal.number())?;
+        writeln!(f, "{}", self.steps)
     }
-    text(rt, b"\n")
 }
 
-// The types that the question's nodes have become: the answer's last words.
-fn types(rt: &impl Print, q: &[u32], a: &[u32]) -> io::Result<()> {
-    let n = words::chain_length(q, words::next(q, 0));
-    let used = words::next(a, 3);
-    if n == 0 || used < n {
-        return text(rt, b"types: none\n");
-    }
-    text(rt, b"types:\n")?;
-    let mut k = 0;
-    while k < n {
-        type_line(rt, k, a, words::offset(a, used - n, k))?;
-        k += 1;
-    }
-    Ok(())
+// Passes text on, as far as there is room for its bytes.
+#[derive(Drop)]
+struct Front<'f, W: Write> {
+    out: &'f mut fmt::Formatter<W>,
+    room: usize,
 }
 
-// The words of an answer.
-fn raw(rt: &impl Print, a: &[u32], used: usize) -> io::Result<()> {
-    text(rt, b"words:")?;
-    let mut k = 0;
-    while k < used {
-        text(rt, b" ")?;
-        decimal(rt, words::word(a, k))?;
-        k += 1;
+impl<'f, W: Write> Write for Front<'f, W> {
+    fn write_str(&mut self, s: &str) -> fmt::Result {
+        for c in s.chars() {
+            if self.room == 0 {
+                return Err(fmt::Error);
+            }
+            self.out.write_char(c)?;
+            self.room -= 1;
+        }
+        Ok(())
     }
-    text(rt, b"\n")
 }
 
-// An answer: the steps, the trees, the types, and its words where they are asked for.
-pub fn answered(
-    rt: &impl Print,
-    flex: bool,
-    with_words: bool,
-    start: u32,
-    count: u32,
-    q: &[u32],
-    a: &[u32],
-) -> io::Result<()> {
-    text(rt, b"answered\n")?;
-    steps(rt, start, count)?;
-    if flex {
-        tree(rt, "fork:", a, words::next(a, 0))?;
-        tree(rt, "drop:", a, words::next(a, 1))?;
-        yes_or_no(rt, "inverted:", words::word(a, 4))?;
-        yes_or_no(rt, "self-inverse:", words::word(a, 5))?;
-    } else {
-        tree(rt, "tree:", a, words::next(a, 0))?;
+// A type, which breaks off where it takes a line's room.
+#[derive(Clone, Copy)]
+struct Line<'a>(Type<'a>);
+
+const ROOM: usize = 4096;
+
+impl<'a> fmt::Display for Line<'a> {
+    fn fmt<W: Write>(&self, f: &mut fmt::Formatter<W>) -> fmt::Result {
+        let mut front = Front { out: f, room: ROOM };
+        let written = write!(front, "{}", self.0);
+        if front.room == 0 {
+            return write!(f, " ..");
+        }
+        written
     }
-    types(rt, q, a)?;
-    if with_words {
-        return raw(rt, a, words::next(a, 3));
+}
+
+/// A call that was answered: the steps, the trees, the types, and its words where they are asked for.
+#[derive(Clone, Copy, Debug)]
+pub struct Answered<'a> {
+    pub call: Call,
+    pub steps: Steps,
+    pub question: &'a [u32],
+    pub answer: &'a [u32],
+    pub raw: bool,
+}
+
+impl<'a> Answered<'a> {
+    // The tree whose head is a word of the answer, below its name.
+    fn write_tree<W: Write>(
+        self,
+        f: &mut fmt::Formatter<W>,
+        name: &str,
+        word: usize,
+    ) -> fmt::Result {
+        let answer = self.answer;
+        match words::next(answer, word) {
+            0 => writeln!(f, "{name} none"),
+            head => write!(f, "{name}\n{}", Tree { answer, head }),
+        }
     }
-    Ok(())
+
+    fn write_flag<W: Write>(
+        self,
+        f: &mut fmt::Formatter<W>,
+        name: &str,
+        word: usize,
+    ) -> fmt::Result {
+        match words::word(self.answer, word) {
+            0 => writeln!(f, "{name} no"),
+            _ => writeln!(f, "{name} yes"),
+        }
+    }
+
+    // The types that the question's nodes have become: the answer's last words.
+    fn write_types<W: Write>(self, f: &mut fmt::Formatter<W>) -> fmt::Result {
+        let answer = self.answer;
+        let n = words::chain_length(self.question, words::next(self.question, 0));
+        let used = words::next(answer, 3);
+        if n == 0 || used < n {
+            return writeln!(f, "types: none");
+        }
+        writeln!(f, "types:")?;
+        let table = words::next(answer, 2);
+        for (k, &word) in words::record(answer, used - n, n).iter().enumerate() {
+            let line = Line(Type {
+                answer,
+                table,
+                word,
+            });
+            writeln!(f, "  {k}: {line}")?;
+        }
+        Ok(())
+    }
+
+    fn write_words<W: Write>(self, f: &mut fmt::Formatter<W>) -> fmt::Result {
+        write!(f, "words:")?;
+        for word in self.answer.iter().take(words::next(self.answer, 3)) {
+            write!(f, " {word}")?;
+        }
+        writeln!(f)
+    }
+}
+
+impl<'a> fmt::Display for Answered<'a> {
+    fn fmt<W: Write>(&self, f: &mut fmt::Formatter<W>) -> fmt::Result {
+        writeln!(f, "answered\n{}", self.steps)?;
+        match self.call {
+            Call::Impl { basic: _ } => self.write_tree(f, "tree:", 0)?,
+            Call::Flex => {
+                self.write_tree(f, "fork:", 0)?;
+                self.write_tree(f, "drop:", 1)?;
+                self.write_flag(f, "inverted:", 4)?;
+                self.write_flag(f, "self-inverse:", 5)?;
+            }
+        }
+        self.write_types(f)?;
+        if self.raw {
+            self.write_words(f)?;
+        }
+        Ok(())
+    }
 }

@@ -1,7 +1,8 @@
 -- The impl call behind its checks: what it relies on, and that it comes to the rules' `impl_within`.
-use Rattle.std.specs.Prelude.{ℕ, ◌≤◌, ◌<◌, ◌≡◌, List, [], ◌∷◌, eqb, ltb, length, replicate}
+use Rattle.std.specs.Prelude.{ℕ, ◌≤◌, ◌<◌, ◌≡◌, List, [], ◌∷◌, eqb, ltb, length, take, replicate, Option, Some, None, IsSome, Err}
+use Rattle.std.specs.Prelude.{Result as Tried}
 use Rattle.std.proofs.Math.Path.{refl, ap}
-use Rattle.std.proofs.Common.{sym, ◌∙◌, subst}
+use Rattle.std.proofs.Common.{sym, ◌∙◌, subst, ⊎_elim, length-take, get_or-take, rules}
 use Rattle.std.proofs.Math.Option.{none}
 use native.Mathlib.Omega.{arith}
 use Rattle.std.proofs.Math.Dec.{leb, leb→le}
@@ -11,6 +12,7 @@ use Rattle.rules.specs.Limits.{limit_sheet, limit_question, limit_depth}
 use Rattle.rules.specs.Layout.{header_definitions, header_generics}
 use Rattle.rules.specs.Types.{Types, ImplType}
 use Rattle.rules.specs.Run.{Run, Out, within}
+use Rattle.rules.specs.RunLaws.{Between}
 use Rattle.rules.specs.Search.{Result, question}
 use Rattle.rules.specs.Check.{refusal, impl_checks, of_sheet, of_ids}
 use Rattle.rules.specs.CheckLaws.{unrefused, not_not}
@@ -20,6 +22,9 @@ use Rattle.rules.specs.Lists.{holds}
 use Rattle.rules.specs.Calls.{question_types, impl_query, impl_search, impl_within}
 use Rattle.rules.specs.SearchKeeps.{AllKept}
 use Rattle.table.specs.Packing.{types_of, Packed, Becomes}
+use Rattle.refusals.specs.declared.Refusal.{Refusal}
+use Rattle.refusals.specs.declared.Stopped.{Stopped}
+use Rattle.refusals.specs.Numbers.{Reads as Told, end_number, end_count}
 use Rattle.slots.specs.declared.Asked.{Asked}
 use Rattle.slots.specs.declared.Asked.TheVariants.{Found, Refused}
 use Rattle.slots.specs.Turns.{Answers}
@@ -31,10 +36,8 @@ use Rattle.steps.specs.Asking.{finder_of, Searching, Asking}
 use Rattle.loading.specs.Nodes.{Fitting}
 use Rattle.loading.specs.Exports.{Asks, Reads, Exports}
 use Rattle.loading.specs.Checked.{impl_fitting, impl_asks}
-use Rattle.closing.specs.Searched.{search_number, impl_kept}
-use Rattle.closing.specs.Ends.{Front, IfFound, EndsImpl, front_self, ends_front, ends_call, searched_one}
-use Rattle.words.specs.Buffers.{copied, copied-length}
-use Rattle.table.specs.Copies.{copied_at}
+use Rattle.closing.specs.Searched.{search_in, search_number, impl_kept}
+use Rattle.closing.specs.Ends.{Front, IfOne, IfFound, EndsResults, EndsImpl, front_self, results_front, ends_call, ends_refused, ends_found, found_if, searched_one}
 use Rattle.closing.specs.Ended.{Ends}
 
 -- A question that passed its checks: its table fits, and its query's types are nodes of it.
@@ -58,9 +61,6 @@ module _ (s sets q : Words) (f : Finder) (basic : ℕ) (h : Impls s sets q f bas
     asks = impl_asks (finder_of s f) basic q h.passed h.sheet_short h.short;
   }
 
-  pub impls_searching : Searching s sets f
-  impls_searching = h.searching
-
   pub impls_basic : basic < 2
   unfolding impl_checks of_sheet of_ids
   impls_basic =
@@ -78,11 +78,11 @@ loaded_packed q ts b = b.packed
 pub exported : (q ts us : Words) (p r : Query) → Becomes ts (question_types q) → Reads (impl_query q) p → Exports (types_of ts) (query_of p) us r → Exports (question_types q) (impl_query q) us r
 exported q ts us p r b e x = subst (λ (i : ImplType). Exports (question_types q) i us r) e.is (subst (λ (t : Types). Exports t (query_of p) us r) b.is x)
 
-pub front_copied : (ws found us : Words) → 2564 ≤ length ws → 2564 ≤ length found → us ≡ copied 2564 ws found → Front ws us
-front_copied ws found us h k e = record { long = omega (arith, ap (λ (l : Words). length l) e, copied-length 2564 ws found); same = λ i l. ap (λ (w : Words). at w i) e ∙ copied_at 2564 i ws found l (omega arith) (omega arith) }
+pub front_taken : (ws us : Words) → 2564 ≤ length ws → us ≡ take 2564 ws → Front ws us
+front_taken ws us h e = record { long = omega (arith, ap (λ (l : Words). length l) e, length-take 2564 ws); same = λ i l. ap (λ (w : Words). at w i) e ∙ get_or-take 2564 ws i 0 l }
 
-pub ended : (s q ts : Words) (p asked : Query) (searched : Asked) (vs ws buf out : Words) (r : ℕ) → Becomes ts (question_types q) → Reads (impl_query q) p → Front vs ws → EndsImpl s (types_of ts) (query_of p) (query_of asked) searched ws buf out r → EndsImpl s (question_types q) (impl_query q) (query_of asked) searched vs buf out r
-ended s q ts p asked searched vs ws buf out r b e f x = ends_front s (question_types q) (impl_query q) (query_of asked) searched vs ws buf out r f (subst (λ (i : ImplType). EndsImpl s (question_types q) i (query_of asked) searched ws buf out r) e.is (subst (λ (t : Types). EndsImpl s t (query_of p) (query_of asked) searched ws buf out r) b.is x))
+pub ended : (s q ts : Words) (p asked : Query) (n : ℕ) (vs ws buf out : Words) (r : ℕ) → Becomes ts (question_types q) → Reads (impl_query q) p → Front vs ws → EndsResults s (types_of ts) (query_of p) (query_of asked) n ws buf out r → EndsResults s (question_types q) (impl_query q) (query_of asked) n vs buf out r
+ended s q ts p asked n vs ws buf out r b e f x = results_front s (question_types q) (impl_query q) (query_of asked) n vs ws buf out r f (subst (λ (i : ImplType). EndsResults s (question_types q) i (query_of asked) n ws buf out r) e.is (subst (λ (t : Types). EndsResults s t (query_of p) (query_of asked) n ws buf out r) b.is x))
 
 pub new_table : 1025 ≤ length (replicate {A = ℕ} 1025 0)
 new_table = omega arith
@@ -92,10 +92,6 @@ new_map = omega arith
 
 pub new_front : 2564 ≤ length (replicate {A = ℕ} 2564 0)
 new_front = omega arith
-
--- What is asked stands in slot 0.
-pub exports_asking : (ts : Types) (i : ImplType) (ws : Words) (r : Query) → Exports ts i ws r → Asking ws r
-exports_asking ts i ws r x = record { packed = x.packed; neat = x.asks.neat; inside = x.asks.inside; few = x.asks.few }
 
 -- The count after.
 unfoldable pub count_of : Asked → ℕ
@@ -129,10 +125,30 @@ module _ (s sets q : Words) (f : Finder) (basic count : ℕ) (h : Impls s sets q
   ask_one = searched_one _ searched vs (types_of us) asked answers
       (λ rs e. subst (λ (ts : Types). AllKept ts rs) (ap (λ (y : ImplType × Types). y.1) x.is) (impl_kept (finder_of s f) basic q h.sheet_short h.passed (ltb f.limit) (eqb basic 1) count rs _ (λ i. (e i, (within (ltb f.limit) (impl_search (finder_of s f) (eqb basic 1) q) count).1)))) x.asks
 
-  pub ask_ends : (buf out : Words) (r c : ℕ) → 662794 ≤ length vs → EndsImpl s (question_types q) (impl_query q) (query_of asked) searched vs buf out r → c ≡ count_of searched → Ends (impl_within (ltb f.limit) (finder_of s f) (eqb basic 1) q count) buf out (record { number = r; count = c })
+  ask_ends : (buf out : Words) (r : Tried ℕ Stopped) → 662794 ≤ length vs → EndsImpl s (question_types q) (impl_query q) (query_of asked) searched vs buf out (end_number r) → end_count r ≡ count_of searched → Ends (impl_within (ltb f.limit) (finder_of s f) (eqb basic 1) q count) buf out r
   unfolding impl_within
-  ask_ends buf out r c long e k = record {
-    closed = ends_call s q (question_types q) (impl_query q) (query_of asked) searched vs buf out r e refl refl (ap (λ (y : ImplType × Types). y.0) (sym x.is)) vs _ (front_self vs (omega arith)) answers
+  ask_ends buf out r long e k = record {
+    closed = ends_call s q (question_types q) (impl_query q) (query_of asked) searched vs buf out (end_number r) e refl refl (ap (λ (y : ImplType × Types). y.0) (sym x.is)) vs _ (front_self vs (omega arith)) answers
         (λ m z. search_number (ltb f.limit) 16 (finder_of s f) (eqb basic 1) (types_of us) (query_of asked) count m (ap (λ (y : Run (List Result)). (within (ltb f.limit) y count).0) (sym searches) ∙ z));
     count = k ∙ count-after _ searched vs answers;
   }
+
+  -- n results, and what they come to.
+  module _ (c n : ℕ) (e : searched ≡ Found c n) where
+    pub ask_if_one : IfOne n asked vs
+    ask_if_one = found_if searched asked vs c n ask_one e
+
+    pub ask_answers : (buf out : Words) (v : ℕ) (r : Tried ℕ Stopped) → 662794 ≤ length vs → EndsResults s (question_types q) (impl_query q) (query_of asked) n vs buf out v → end_number r ≡ v → end_count r ≡ c → Ends (impl_within (ltb f.limit) (finder_of s f) (eqb basic 1) q count) buf out r
+    ask_answers buf out v r long k en ec = ask_ends buf out r long (subst (λ i. EndsImpl s (question_types q) (impl_query q) (query_of asked) searched vs buf out i) (sym en) (ends_found s (question_types q) (impl_query q) (query_of asked) searched vs buf out c n v e k)) (ec ∙ count-found searched c n e)
+
+  -- A refusal, which document 01 has.
+  module _ (m c : ℕ) (e : searched ≡ Refused m c) where
+    ask_in : Between 14 19 m
+    ask_in = search_in (ltb f.limit) 16 (finder_of s f) (eqb basic 1) (types_of us) (query_of asked) count m (ap (λ (o : Out (List Result) × ℕ). o.0) (w.refuses m c e))
+
+    pub ask_told : (o : Option Refusal) → Told m o → IsSome o
+    ask_told None t = absurd (⊎_elim (λ z. let h = ask_in in omega arith) (λ z. let h = ask_in in omega arith) t)
+    ask_told (Some w) t = search rules
+
+    pub ask_refuses : (buf : Words) (o : Option Refusal) (w : Refusal) → 662794 ≤ length vs → Told m o → o ≡ Some w → Ends (impl_within (ltb f.limit) (finder_of s f) (eqb basic 1) q count) buf buf (Err (record { refusal = w; count = c }))
+    ask_refuses buf o w long t d = ask_ends buf buf (Err (record { refusal = w; count = c })) long (subst (λ i. EndsImpl s (question_types q) (impl_query q) (query_of asked) searched vs buf buf i) (sym (subst (λ x. Told m x) d t)) (ends_refused s (question_types q) (impl_query q) (query_of asked) searched vs buf m c e)) (count_refused searched m c e)

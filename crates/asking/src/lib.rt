@@ -7,13 +7,14 @@ ghost use Rattle.rules.specs.Limits.{limit_answer};
 ghost use Rattle.rules.specs.Calls.{question_types, impl_query, impl_within};
 ghost use Rattle.queries.specs.Queries.{query_of};
 ghost use Rattle.loading.specs.Exports.{Exports};
-ghost use Rattle.closing.specs.Ends.{Front, IfFound, EndsImpl};
+ghost use Rattle.refusals.specs.Numbers.{verdict_number};
+ghost use Rattle.closing.specs.Ends.{IfOne, EndsResults};
 ghost use Rattle.closing.specs.Ended.{Ends};
 ghost use Rattle.steps.specs.Asking.{finder_of};
-ghost use Rattle.asking.specs.Impls.{Questions, Impls, count_of};
+ghost use Rattle.asking.specs.Impls.{Questions, Impls};
 
-use closing::Ended;
 use queries::Query;
+use refusals::{Refusal, Stopped};
 use slots::Asked;
 use steps::Finder;
 
@@ -41,49 +42,30 @@ fn export_asked(question: &[u32], ws: &mut [u32]) -> Query
     loading::export_question(&table, query, ws, &mut map)
 }
 
-// The front of a slice: slots 0 and 1.
-fn keep_front(ws: &[u32], found: &mut [u32])
-    requires in_bounds { 2564 ≤ length ws.now }
-    requires in_bounds_2 { 2564 ≤ length found.old }
-    ensures { Front ws.now found.new }
-{
-    words::copy(ws, found, FRONT)
-}
-
-// What the search comes to, as a number or an answer. The search is over: its slice serves the joins' memo, and its first result is kept aside.
+// What n results of the search come to. The search is over: its slice serves the joins' memo, and its first result is kept aside.
 fn end_asked(
     sheet: &[u32],
     question: &[u32],
     asked: Query,
-    searched: Asked,
+    n: usize,
     ws: &mut [u32],
     answer: &mut [u32],
-) -> u32
+) -> Result<(), Refusal>
     requires questions { Questions question.now }
-    requires if_found { IfFound searched asked ws.old }
+    requires if_one { IfOne n asked ws.old }
     requires in_bounds { 2564 ≤ length ws.old }
     requires limit_answer_in_bounds { limit_answer ≤ length answer.old }
-    ensures { EndsImpl sheet.now (question_types question.now) (impl_query question.now) (query_of asked) searched ws.old answer.old answer.new result }
+    ensures { EndsResults sheet.now (question_types question.now) (impl_query question.now) (query_of asked) n ws.old answer.old answer.new (verdict_number result) }
 {
     let mut found = [0u32; FRONT];
-    keep_front(ws, &mut found);
+    found.copy_from_slice(&ws[..FRONT]);
     let mut table = [0u32; TABLE];
     let mut out = [0u32; TABLE];
     loading::load_table(question, &mut table);
     let query = loading::read_question(question);
     closing::end_impl(
-        sheet, query, asked, searched, &found, &mut table, &mut out, ws, answer,
+        sheet, query, asked, n, &found, &mut table, &mut out, ws, answer,
     )
-}
-
-// The count after a search.
-fn count_of(searched: Asked) -> u32
-    ensures { result ≡ count_of searched }
-{
-    match searched {
-        Asked::Found { count, n } => count,
-        Asked::Refused { number, count } => count,
-    }
 }
 
 // The impl call, once its checks have passed and the sets of its source stand.
@@ -96,7 +78,7 @@ pub fn ask_impl(
     ws: &mut [u32],
     answer: &mut [u32],
     count: u32,
-) -> Ended
+) -> Result<u32, Stopped>
     requires impls { Impls sheet.now sets.now question.now f basic }
     requires in_bounds { 662794 ≤ length ws.old }
     requires limit_answer_in_bounds { limit_answer ≤ length answer.old }
@@ -104,11 +86,14 @@ pub fn ask_impl(
     ensures { Ends (impl_within (ltb f.limit) (finder_of sheet.now f) (eqb basic 1) question.now count) answer.old answer.new result }
 {
     let asked = export_asked(question, ws);
-    let searched = finder::question(sheet, sets, ws, f, basic, asked, DEPTH, count);
-    let number = end_asked(sheet, question, asked, searched, ws, answer);
-    let after = count_of(searched);
-    Ended {
-        number,
-        count: after,
+    match finder::question(sheet, sets, ws, f, basic, asked, DEPTH, count) {
+        Asked::Found { count, n } => match end_asked(sheet, question, asked, n, ws, answer) {
+            Ok(()) => Ok(count),
+            Err(refusal) => Err(Stopped { refusal, count }),
+        },
+        Asked::Refused { number, count } => {
+            let refusal = Refusal::from_number(number).unwrap();
+            Err(Stopped { refusal, count })
+        }
     }
 }

@@ -1,5 +1,5 @@
 -- What is found has room in a word of trees: a kind below 8, and an id below 4,096 where the ids of duplicate, erase and of a closure are.
-use Rattle.std.specs.Prelude.{ℕ, zero, suc, ◌/◌, ◌%◌, ◌≤◌, ◌<◌, ◌≡◌, refl, Bool, true, false, not, ◌&&◌, ◌||◌, List, [], ◌∷◌, map, T, eqb, get_or}
+use Rattle.std.specs.Prelude.{ℕ, zero, suc, ◌/◌, ◌%◌, ◌≤◌, ◌<◌, ◌≡◌, refl, Bool, true, false, not, ◌&&◌, ◌||◌, List, [], ◌∷◌, map, T, eqb, get_or, Some}
 use Rattle.std.proofs.Common.{sym, subst, true≢false, arith, eqb→eq}
 use Rattle.rules.specs.Lists.{Words, optional_list}
 use Rattle.rules.specs.Layout.{header_fork, header_drop, header_duplicate, header_erase, header_closures, closure_flex, flex_fork, flex_drop, tree_def, tree_fork_closure, tree_drop_closure, kind_fn, kind_closure, kind_default}
@@ -7,7 +7,7 @@ use Rattle.rules.specs.Sheet.{at, field}
 use Rattle.rules.specs.Types.{TypeState, unknown, known, Types, ImplType, kind}
 use Rattle.rules.specs.Search.{Trees, end, tree, leaf, find_auto_impl, find_auto_impls}
 use Rattle.rules.specs.Slim.{SlimState, Slim, slim_kind}
-use Rattle.auto.specs.declared.Auto.TheVariants.{Leaf}
+use Rattle.auto.specs.declared.Leaf.{Leaf}
 use Rattle.auto.specs.Built.{leaves}
 
 -- Trees whose first nodes fit.
@@ -49,6 +49,6 @@ all_fit s ts q hd he hi =
     go false false true us vs f g = g
     go false false false us vs f g = tt
 
-pub leaf_fits : (s : Words) (ts : Types) (q : ImplType) (k i : ℕ) → leaves (Leaf k i) ≡ find_auto_impls s ts q → at s header_duplicate ≤ 4096 → at s header_erase ≤ 4096 → Slim ts → (k < 8) × (i < 4096)
+pub leaf_fits : (s : Words) (ts : Types) (q : ImplType) (l : Leaf) → leaves (Some l) ≡ find_auto_impls s ts q → at s header_duplicate ≤ 4096 → at s header_erase ≤ 4096 → Slim ts → (l.kind < 8) × (l.id < 4096)
 unfolding leaves Fitting
-leaf_fits s ts q k i e hd he hi = let f = subst Fitting (sym e) (all_fit s ts q hd he hi) in (f.0, f.1)
+leaf_fits s ts q l e hd he hi = let f = subst Fitting (sym e) (all_fit s ts q hd he hi) in (f.0, f.1)

@@ -10,11 +10,11 @@ ghost use Rattle.auto.specs.Built.{leaves, set_leaf, own_leaf, auto_of};
 
 use chart::layout;
 
-// A tree without children, or none.
+// A tree without children.
 #[derive(Clone, Copy)]
-pub enum Auto {
-    Nothing,
-    Leaf { kind: u32, id: u32 },
+pub struct Leaf {
+    pub kind: u32,
+    pub id: u32,
 }
 
 // Kinds of trees, and of types.
@@ -31,50 +31,45 @@ const CLOSURE: u32 = layout::KIND_CLOSURE as u32;
 const DEFAULT: u32 = layout::KIND_DEFAULT as u32;
 
 // duplicate or erase, where header word h has it.
-fn set_impl(s: &[u32], h: usize) -> Auto
+fn set_impl(s: &[u32], h: usize) -> Option<Leaf>
     ensures { leaves result ≡ set_leaf s.now h }
 {
-    let w = words::word(s, h);
-    if w == 0 {
-        return Auto::Nothing;
-    }
-    Auto::Leaf {
-        kind: DEF,
-        id: w - 1,
-    }
+    let id = words::word(s, h).checked_sub(1)?;
+    Some(Leaf { kind: DEF, id })
 }
 
 // A closure's own, where its flex has that bit.
-fn closure_impl(s: &[u32], bit: usize, kind: u32, id: u32) -> Auto
+fn closure_impl(s: &[u32], bit: usize, kind: u32, id: u32) -> Option<Leaf>
     requires { 0 < bit }
     ensures { leaves result ≡ own_leaf s.now bit kind id }
 {
-    let i = words::wide(id);
-    let flex = chart::closure_flex(s, i);
+    let flex = chart::closure_flex(s, id as usize);
     if flex / bit % 2 == 1 {
-        return Auto::Leaf { kind, id };
+        Some(Leaf { kind, id })
+    } else {
+        None
     }
-    Auto::Nothing
 }
 
 // By the kind, the inversion and the id of a type.
-fn auto_of(s: &[u32], h: usize, bit: usize, tree: u32, kind: u32, inverted: bool, id: u32) -> Auto
+fn auto_of(
+    s: &[u32],
+    h: usize,
+    bit: usize,
+    tree: u32,
+    kind: u32,
+    inverted: bool,
+    id: u32,
+) -> Option<Leaf>
     requires { 0 < bit }
     ensures { leaves result ≡ auto_of s.now h bit tree kind inverted id }
 {
-    if kind == DEFAULT {
-        return set_impl(s, h);
+    match kind {
+        DEFAULT => set_impl(s, h),
+        FN if !inverted => set_impl(s, h),
+        CLOSURE if !inverted => closure_impl(s, bit, tree, id),
+        _ => None,
     }
-    if inverted {
-        return Auto::Nothing;
-    }
-    if kind == FN {
-        return set_impl(s, h);
-    }
-    if kind == CLOSURE {
-        return closure_impl(s, bit, tree, id);
-    }
-    Auto::Nothing
 }
 
 // Whether what the root of a type is, is inverted in the type.
@@ -83,11 +78,11 @@ fn inversion(table: &[u32], u: u32) -> bool
 {
     let flipped = table::is_inverted(u);
     let inverted = table::inverted_of(table, u / 2);
-    table::xor(flipped, inverted)
+    flipped != inverted
 }
 
 // `find_auto_impls_fork` and `_drop`, by the header word, the bit of flex and the kind of tree.
-fn find_auto_impl(s: &[u32], table: &[u32], t: u32, h: usize, bit: usize, tree: u32) -> Auto
+fn find_auto_impl(s: &[u32], table: &[u32], t: u32, h: usize, bit: usize, tree: u32) -> Option<Leaf>
     requires { 0 < bit }
     ensures { leaves result ≡ find_auto_impl s.now h bit tree (kind (types_of table.now) (type_of_word t)) }
 {
@@ -99,25 +94,25 @@ fn find_auto_impl(s: &[u32], table: &[u32], t: u32, h: usize, bit: usize, tree: 
 }
 
 // `find_auto_impls`: for a trait? and the type words of its arguments. One trait set as both counts as Fork.
-pub fn find_auto_impls(s: &[u32], table: &[u32], tr: u32, args: &[u32]) -> Auto
+pub fn find_auto_impls(s: &[u32], table: &[u32], tr: u32, args: &[u32]) -> Option<Leaf>
     ensures { leaves result ≡ find_auto_impls s.now (types_of table.now) (tr, map type_of_word args.now) }
 {
     if tr == 0 {
-        return Auto::Nothing;
+        return None;
     }
     let t = words::word(args, 0);
     if tr == words::word(s, layout::FORK) {
-        return find_auto_impl(
+        find_auto_impl(
             s,
             table,
             t,
             layout::DUPLICATE,
             layout::FLEX_FORK,
             FORK_CLOSURE,
-        );
+        )
+    } else if tr == words::word(s, layout::DROP) {
+        find_auto_impl(s, table, t, layout::ERASE, layout::FLEX_DROP, DROP_CLOSURE)
+    } else {
+        None
     }
-    if tr == words::word(s, layout::DROP) {
-        return find_auto_impl(s, table, t, layout::ERASE, layout::FLEX_DROP, DROP_CLOSURE);
-    }
-    Auto::Nothing
 }

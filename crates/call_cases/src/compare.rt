@@ -1,68 +1,59 @@
-// What a call gave beside what is stored of it.
+// What a call gives beside what is stored of it.
+ghost use Rattle.std.specs.Prelude.{◌≡◌, ◌↔◌, IsTrue, IfNone, All, length, take, drop};
+
+use cases::{Call, End};
 
 // What buffers are full of before a call.
-pub const MARK: u32 = 2863311530;
+const MARK: u32 = 0xaaaa_aaaa;
 
-// The end of a call as it is stored: its number (0 answered), its count, and how many words its answer has.
-#[derive(Clone, Copy)]
-pub struct Stored {
-    pub number: u32,
-    pub count: u32,
-    pub length: usize,
+// What a call came to, and whether all of it is what is stored.
+#[derive(Clone, Copy, Debug, PartialEq, Eq)]
+pub struct Seen {
+    pub end: End,
+    pub right: bool,
 }
 
-pub fn number_of(outcome: calls::Outcome) -> u32 {
-    match outcome {
-        calls::Outcome::Answered { count } => 0,
-        calls::Outcome::Refused { number, count } => number,
-    }
+// Whether a buffer holds nothing but a word.
+fn holds(buffer: &[u32], word: u32) -> bool
+    ensures { IsTrue result ↔ All (λ w. w ≡ word) buffer.now }
+{
+    buffer.iter().all(|&w| w == word)
 }
 
-fn count_of(outcome: calls::Outcome) -> u32 {
-    match outcome {
-        calls::Outcome::Answered { count } => count,
-        calls::Outcome::Refused { number, count } => count,
-    }
+// Whether the answer buffer begins with the stored words, with nothing written behind them; there are none for a refusal.
+fn answer_holds(stored: &[u32], answer: &[u32]) -> bool
+    ensures { IsTrue result ↔ ((take (length stored.now) answer.now ≡ stored.now)
+        × All (λ w. w ≡ MARK) (drop (length stored.now) answer.now)) }
+{
+    answer
+        .strip_prefix(stored)
+        .is_some_and(|rest| holds(rest, MARK))
 }
 
-// Whether number and count are those that are stored.
-pub fn agrees(outcome: calls::Outcome, k: Stored) -> bool {
-    number_of(outcome) == k.number && count_of(outcome) == k.count
+// Whether the workspace is untouched by a refusal at entry, 1 to 5, and else cleared.
+fn workspace_holds(end: End, workspace: &[u32]) -> bool
+    ensures { IfNone end.refusal (IsTrue result ↔ All (λ w. w ≡ 0) workspace.now) }
+{
+    let untouched = end.refusal.is_some_and(|refusal| refusal.number() <= 5);
+    holds(workspace, if untouched { MARK } else { 0 })
 }
 
-// Whether the first n words of two buffers are equal.
-fn same(a: &[u32], b: &[u32], n: usize) -> bool {
-    let mut i = 0;
-    while i < n {
-        if words::word(a, i) != words::word(b, i) {
-            return false;
-        }
-        i += 1;
-    }
-    true
-}
-
-// Whether a buffer holds nothing but a word, from a place on.
-fn holds(ws: &[u32], from: usize, w: u32) -> bool {
-    let mut i = from;
-    while i < ws.len() {
-        if ws[i] != w {
-            return false;
-        }
-        i += 1;
-    }
-    true
-}
-
-// Whether the answer's words are those that are stored, with nothing written behind them; none for a refusal.
-pub fn answer_holds(k: Stored, expected: &[u32], answer: &[u32]) -> bool {
-    same(expected, answer, k.length) && holds(answer, k.length, MARK)
-}
-
-// Whether the workspace is untouched by 1 to 5, and else cleared.
-pub fn work_holds(k: Stored, ws: &[u32]) -> bool {
-    if 1 <= k.number && k.number <= 5 {
-        return holds(ws, 0, MARK);
-    }
-    holds(ws, 0, 0)
+// Makes a stored call on buffers full of marks, of which it says how much is lent, and compares what it gives.
+pub fn replay<F: FnOnce(&mut [u32], &mut [u32]) -> End>(
+    call: &Call,
+    workspace: &mut [u32],
+    make: F,
+) -> Seen
+    requires { (answer : _) (work : _) → F.pre make answer work }
+    ensures { IsTrue result.right → result.end ≡ call.now.end }
+{
+    let mut answer = [MARK; 10304];
+    workspace.fill(MARK);
+    let most = call.lent.answer.min(answer.len());
+    let lent = call.lent.workspace.min(workspace.len());
+    let end = make(&mut answer[..most], &mut workspace[..lent]);
+    let right = end == call.end
+        && answer_holds(call.answer.as_slice(), &answer)
+        && workspace_holds(call.end, workspace);
+    Seen { end, right }
 }

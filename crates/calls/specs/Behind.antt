@@ -17,8 +17,8 @@ use Rattle.checks.specs.Numbers.{number, finder}
 use Rattle.steps.specs.Asking.{Searching}
 use Rattle.asking.specs.Impls.{Impls}
 use Rattle.flexing.specs.Asked.{Flexing}
-use Rattle.closing.specs.declared.Ended.{Ended}
-use Rattle.closing.specs.Ended.{Ends}
+use Rattle.calls.specs.declared.Ended.{Ended}
+use Rattle.calls.specs.Ended.{Ends}
 use Rattle.calls.specs.Prepared.{Passed, Prepared}
 
 -- The lengths and the count that entry has tested; the workspace's part has exactly its words.

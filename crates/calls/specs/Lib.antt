@@ -3,3 +3,4 @@ pub mod Prepared
 pub mod Behind
 pub mod Whole
 pub mod Demand
+pub mod Ended

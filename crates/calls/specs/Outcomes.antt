@@ -4,7 +4,7 @@ use Rattle.std.proofs.Common.{sym, ◌∙◌, ap, arith}
 use Rattle.rules.specs.Lists.{Words}
 use Rattle.rules.specs.Run.{Out, got, refused}
 use Rattle.rules.specs.Calls.{answer_after, work_after}
-use Rattle.closing.specs.declared.Ended.{Ended}
+use Rattle.calls.specs.declared.Ended.{Ended}
 use Rattle.calls.specs.declared.Outcome.{Outcome}
 use Rattle.calls.specs.declared.Outcome.TheVariants.{Answered, Refused}
 

@@ -18,8 +18,8 @@ use Rattle.rules.specs.Calls.{impl_within, flex_within, try_find_impl, find_flex
 use Rattle.rules.proofs.Refusals.{impl_ends, flex_ends}
 use Rattle.words.specs.Buffers.{cleared, cleared_front}
 use Rattle.checks.specs.Numbers.{number, finder}
-use Rattle.closing.specs.declared.Ended.{Ended}
-use Rattle.closing.specs.Ended.{Ends}
+use Rattle.calls.specs.declared.Ended.{Ended}
+use Rattle.calls.specs.Ended.{Ends}
 use Rattle.calls.specs.declared.Outcome.{Outcome}
 use Rattle.calls.specs.declared.Outcome.TheVariants.{Answered, Refused}
 use Rattle.calls.specs.Outcomes.{outcome_of, ended_of, Calls}

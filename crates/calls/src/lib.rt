@@ -7,12 +7,13 @@ ghost use Rattle.rules.specs.Limits.{limit_answer, limit_workspace, limit_steps}
 ghost use Rattle.rules.specs.Check.{refusal, impl_checks, flex_checks};
 ghost use Rattle.rules.specs.Calls.{impl_within, flex_within, try_find_impl, find_flex};
 ghost use Rattle.checks.specs.Numbers.{finder};
-ghost use Rattle.closing.specs.Ended.{Ends};
+ghost use Rattle.refusals.specs.Numbers.{end_number, end_count};
+ghost use Rattle.calls.specs.Ended.{Ends};
 ghost use Rattle.calls.specs.Prepared.{Passed, Prepared};
 ghost use Rattle.calls.specs.Outcomes.{ended_of, Calls, packed_of, PackedCalls};
 ghost use Rattle.calls.specs.Behind.{ImplPassed, FlexPassed, Entered, behind, Behind};
 
-use closing::Ended;
+use refusals::Stopped;
 use steps::Finder;
 
 // What a call comes to: answered, or refused with a number of document 01; with the count of steps after it.
@@ -20,6 +21,13 @@ use steps::Finder;
 pub enum Outcome {
     Answered { count: u32 },
     Refused { number: u32, count: u32 },
+}
+
+// What a call comes to behind its checks: 0 where it is answered, or the number of its refusal; and the count after.
+#[derive(Clone, Copy)]
+pub struct Ended {
+    pub number: u32,
+    pub count: u32,
 }
 
 // The workspace's words that a call uses, and clears.
@@ -33,6 +41,19 @@ pub fn workspace_words() -> usize
     ensures { result ≡ limit_workspace }
 {
     WORKSPACE
+}
+
+// What a search and its closing came to, in numbers.
+fn in_numbers(r: Result<u32, Stopped>) -> Ended
+    ensures { (result.number ≡ end_number r) × (result.count ≡ end_count r) }
+{
+    match r {
+        Ok(count) => Ended { number: 0, count },
+        Err(stopped) => Ended {
+            number: stopped.refusal.number(),
+            count: stopped.count,
+        },
+    }
 }
 
 // What a call behind its checks came to, as an outcome.
@@ -82,7 +103,7 @@ fn impl_with_sets(
         generics,
         limit: STEPS,
     };
-    asking::ask_impl(sheet, &sets, question, f, basic, ws, answer, count)
+    in_numbers(asking::ask_impl(sheet, &sets, question, f, basic, ws, answer, count))
 }
 
 // The impl call behind entry, in the workspace's first words.
@@ -99,7 +120,8 @@ fn impl_within(
     requires { Entered sheet.now question.now (length answer.old) (length ws.old) count }
     ensures { Behind (behind (refusal (impl_checks (finder sheet.now source generics) basic question.now)) (impl_within (ltb limit_steps) (finder sheet.now source generics) (eqb basic 1) question.now count) count) answer.old answer.new ws.old ws.new result }
 {
-    let number = checks::check_impl(sheet, question, source, generics, basic, ws);
+    let checked = checks::check_impl(sheet, question, source, generics, basic, ws);
+    let number = checks::number(checked);
     if number != 0 {
         words::clear(ws, workspace_words()); // refused by 6 to 13
         return Ended { number, count };
@@ -122,7 +144,8 @@ pub fn try_find_impl(
 ) -> Outcome
     ensures { Calls (try_find_impl limit_steps (finder sheet.now source generics) basic question.now (length answer.old) (length work.old) count) answer.old answer.new work.old work.new result }
 {
-    let number = checks::check_entry(sheet, question, answer.len(), work.len(), count);
+    let checked = checks::check_entry(sheet, question, answer.len(), work.len(), count);
+    let number = checks::number(checked);
     if number != 0 {
         return Outcome::Refused { number, count };
     }
@@ -156,7 +179,7 @@ fn flex_with_sets(
         generics,
         limit: STEPS,
     };
-    flexing::ask_flex(sheet, &sets, question, f, ws, answer, count)
+    in_numbers(flexing::ask_flex(sheet, &sets, question, f, ws, answer, count))
 }
 
 // The flex call behind entry, in the workspace's first words.
@@ -172,7 +195,8 @@ fn flex_within(
     requires { Entered sheet.now question.now (length answer.old) (length ws.old) count }
     ensures { Behind (behind (refusal (flex_checks (finder sheet.now source generics) question.now)) (flex_within (ltb limit_steps) (finder sheet.now source generics) question.now count) count) answer.old answer.new ws.old ws.new result }
 {
-    let refusal = checks::check_flex(sheet, question, source, generics, ws);
+    let checked = checks::check_flex(sheet, question, source, generics, ws);
+    let refusal = checks::number(checked);
     if refusal != 0 {
         words::clear(ws, workspace_words());
         return Ended {
@@ -197,7 +221,8 @@ pub fn find_flex(
 ) -> Outcome
     ensures { Calls (find_flex limit_steps (finder sheet.now source generics) question.now (length answer.old) (length work.old) count) answer.old answer.new work.old work.new result }
 {
-    let number = checks::check_entry(sheet, question, answer.len(), work.len(), count);
+    let checked = checks::check_entry(sheet, question, answer.len(), work.len(), count);
+    let number = checks::number(checked);
     if number != 0 {
         return Outcome::Refused { number, count };
     }

@@ -1,11 +1,12 @@
 -- Candidates by id from the sets that stand in the workspace. The ids that are found one after the other are the lists of the rules.
-use Rattle.std.specs.Prelude.{ℕ, zero, suc, ◌+◌, ◌*◌, ◌-◌, ◌/◌, ◌%◌, ◌≤◌, ◌<◌, ◌≡◌, refl, Bool, true, false, not, ◌||◌, ◌&&◌, [], ◌∷◌, ◌↔◌, ◌≢◌, T, eqb, leb, length, get_or, drop}
-use Rattle.std.proofs.Common.{sym, ◌∙◌, ap, ap₂, subst, ⊎_elim, add-one, arith, leb→le, le→leb, eqb→eq, drop_of_length-le, drop-cons, eqb-true, eq-eqb, ne_eqb}
+use Rattle.std.specs.Prelude.{ℕ, zero, suc, ◌+◌, ◌*◌, ◌-◌, ◌/◌, ◌%◌, ◌≤◌, ◌<◌, ◌≡◌, refl, Bool, true, false, not, ◌||◌, ◌&&◌, [], ◌∷◌, ◌↔◌, ◌≢◌, T, eqb, leb, max, Option, Some, None, IfSome, MatchOption}
+use Rattle.std.proofs.Common.{sym, ◌∙◌, ap, ap₂, subst, ⊎_elim, arith, leb→le, le→leb, eqb→eq, eq-eqb, ne_eqb}
 use Rattle.std.proofs.Math.Dec.{eqb_refl}
-use Rattle.std.proofs.lemmas.Bool.{eqb-false}
+use mathlib.Core.Bool.{beq}
+use Rattle.std.specs.List.{list_any}
 use Rattle.rules.specs.Lists.{Words, any, select, is_in}
 use Rattle.rules.specs.Layout.{header_definitions, header_impls, flag_basic}
-use Rattle.rules.specs.Sheet.{at, many, field, impl_flag, impl_trait}
+use Rattle.rules.specs.Sheet.{many, field, impl_flag, impl_trait}
 use Rattle.rules.specs.Members.{In, first, later, in_cases, in_empty, any_in, and_iff, is_in_in, select_in, select_rising, Rising, rising_unique}
 use Rattle.rules.specs.CheckLaws.{Checked}
 use Rattle.rules.proofs.CheckLaws.{passed}
@@ -13,9 +14,8 @@ use Rattle.rules.specs.CheckedSheet.{valid}
 use Rattle.rules.specs.Candidates.{node_count, admitted, get_candidates}
 use Rattle.rules.specs.Admission.{Admits, SomeAdmits}
 use Rattle.rules.proofs.AdmissionLaws.{admits_in, admission, candidates, admitted_rises, candidates_rise}
-use Rattle.candidates.specs.Layout.{rows_sets, index_impls}
+use Rattle.candidates.specs.Layout.{rows_sets}
 use Rattle.candidates.specs.Bits.{on}
-use Rattle.candidates.specs.Index.{Indexes}
 use Rattle.candidates.specs.Build.{Candidates}
 
 -- The ids of a list from one on.
@@ -164,6 +164,20 @@ pub record NextAdmitted (s ws : Words) (node from r : ℕ) : Type 0 where
   pub found : (src : ℕ) → Standing s src ws (node ∷ []) → r < many s header_impls → from_on from (admitted s src (node ∷ [])) ≡ r ∷ from_on (r + 1) (admitted s src (node ∷ []))
   pub none : (src : ℕ) → Standing s src ws (node ∷ []) → many s header_impls ≤ r → from_on from (admitted s src (node ∷ [])) ≡ []
 
+-- An id that is found, or the end of the ids from one on, of n in all.
+abbrev pub id_or_end : ℕ → ℕ → Option ℕ → ℕ
+id_or_end from n None = max from n
+id_or_end from n (Some i) = i
+
+-- What is found is one of the sheet's impls; its id, or the end where nothing is found, is the next.
+pub record CandidateFrom (s ws nodes : Words) (t : ℕ) (b : Bool) (from : ℕ) (o : Option ℕ) : Type 0 where
+  pub next : NextCandidate s ws nodes t b from (id_or_end from (many s header_impls) o)
+  pub impl : IfSome o (λ i. i < many s header_impls)
+
+pub record AdmittedFrom (s ws : Words) (node from : ℕ) (o : Option ℕ) : Type 0 where
+  pub next : NextAdmitted s ws node from (id_or_end from (many s header_impls) o)
+  pub impl : IfSome o (λ i. i < many s header_impls)
+
 admitted_are : (s : Words) (src : ℕ) (ws : Words) (node : ℕ) → Standing s src ws (node ∷ []) → (i : ℕ) → In i (admitted s src (node ∷ [])) ↔ ((i < many s header_impls) × T (on ws (rows_sets + 12 * node) i))
 admitted_are s src ws node d i = (there, back)
   where
@@ -189,32 +203,16 @@ next_admitted s ws node from r g = record {
   none = λ src d. next_none (λ i. on ws (rows_sets + 12 * node) i) from (many s header_impls) r (admitted s src (node ∷ [])) (admitted_rises s src (node ∷ [])) (admitted_are s src ws node d) g;
 }
 
--- What is left of the nodes decides.
-pub record Left (ws nodes : Words) (i k : ℕ) : Type 0 where
-  pub same_as : in_some ws nodes i ≡ in_some ws (drop k nodes) i
-
-pub left_start : (ws nodes : Words) (i : ℕ) → Left ws nodes i 0
-left_start ws nodes i = record { same_as = refl }
-
+-- By the nodes one after the other.
 some_cons : (ws : Words) (n : ℕ) (nodes : Words) (i : ℕ) (b : Bool) → on ws (rows_sets + 12 * n) i ≡ b → in_some ws (n ∷ nodes) i ≡ (b || in_some ws nodes i)
 unfolding in_some any
 some_cons ws n nodes i true e = rw (e, in_some, any) refl
 some_cons ws n nodes i false e = rw (e, in_some, any) refl
 
-pub left-found : (ws nodes : Words) (i k n : ℕ) (r : Bool) → k < length nodes → n ≡ get_or nodes k 0 → r ≡ on ws (rows_sets + 12 * n) i → r ≡ true → Left ws nodes i k → true ≡ in_some ws nodes i
-left-found ws nodes i k n r h e f g l =
-    sym (l.same_as ∙ ap (λ z. in_some ws z i) (drop-cons nodes k 0 h) ∙ some_cons ws (get_or nodes k 0) (drop (suc k) nodes) i true (ap (λ z. on ws (rows_sets + 12 * z) i) (sym e) ∙ sym f ∙ g))
-
-pub left_on : (ws nodes : Words) (i k n : ℕ) (r : Bool) → k < length nodes → n ≡ get_or nodes k 0 → r ≡ on ws (rows_sets + 12 * n) i → r ≡ false → Left ws nodes i k → Left ws nodes i (k + 1)
-left_on ws nodes i k n r h e f g l = record {
-  same_as =
-      l.same_as ∙ ap (λ z. in_some ws z i) (drop-cons nodes k 0 h) ∙ some_cons ws (get_or nodes k 0) (drop (suc k) nodes) i false (ap (λ z. on ws (rows_sets + 12 * z) i) (sym e) ∙ sym f ∙ g)
-      ∙ ap (λ c. in_some ws (drop c nodes) i) (sym (add-one k));
-}
-
-pub left_end : (ws nodes : Words) (i k : ℕ) → length nodes ≤ k → Left ws nodes i k → false ≡ in_some ws nodes i
+pub some_listed : (ws nodes : Words) (i : ℕ) → list_any (λ n. on ws (rows_sets + 12 * n) i) nodes ≡ in_some ws nodes i
 unfolding in_some any
-left_end ws nodes i k h l = sym (l.same_as ∙ ap (λ z. in_some ws z i) (drop_of_length-le nodes h))
+some_listed ws [] i = refl
+some_listed ws (n ∷ nodes) i = ap (λ b. on ws (rows_sets + 12 * n) i || b) (some_listed ws nodes i) ∙ sym (some_cons ws n nodes i (on ws (rows_sets + 12 * n) i) refl)
 
 -- The cases of trait and flag.
 trait_differs : (s : Words) (t : ℕ) (b : Bool) (i : ℕ) → impl_trait s i ≢ suc t → false ≡ wanted s t b i
@@ -243,6 +241,25 @@ wanted_basic s t i w u basic v l e f z n k =
     digits (suc zero) (suc (suc y)) h j = absurd (omega arith)
     digits (suc (suc x)) y h j = absurd (omega arith)
 
+beq_same : (x y : Bool) → beq x y ≡ same x y
+unfolding same
+beq_same true true = refl
+beq_same true false = refl
+beq_same false true = refl
+beq_same false false = refl
+
+-- By the trait of the impl's word, where it has one, and its flag.
+pub wanted_flag : (s : Words) (t i w u : ℕ) (r b : Bool) → w ≡ field s header_impls i 3 → 1 ≤ w → u ≡ w - 1 → u ≡ t → r ≡ impl_flag s flag_basic i → beq r b ≡ wanted s t b i
+unfolding wanted impl_trait
+wanted_flag s t i w u r b e l f z k =
+    ap (λ c. beq c b) k ∙ beq_same (impl_flag s flag_basic i) b ∙ ap (λ c. c && same (impl_flag s flag_basic i) b) (sym (eq-eqb (field s header_impls i 3) (suc t) (omega (arith, e))))
+
+pub wanted_not : (s : Words) (t i w u : ℕ) (b : Bool) → w ≡ field s header_impls i 3 → 1 ≤ w → u ≡ w - 1 → u ≢ t → eqb u t ≡ wanted s t b i
+wanted_not s t i w u b e l f z = ne_eqb u t z ∙ wanted_other s t i w w b e refl (omega arith) (λ q. z (f ∙ q))
+
+pub wanted_none : (s : Words) (t i w : ℕ) (b : Bool) → w ≡ field s header_impls i 3 → (1 ≤ w → ⊥) → false ≡ wanted s t b i
+wanted_none s t i w b e h = wanted_error s t i w w b e refl (omega arith)
+
 pub tested_yes : (s ws nodes : Words) (t : ℕ) (b : Bool) (i : ℕ) (r q : Bool) → r ≡ wanted s t b i → r ≡ true → q ≡ in_some ws nodes i → q ≡ tested s ws nodes t b i
 unfolding tested
 tested_yes s ws nodes t b i r q e f g = g ∙ ap (λ c. c && in_some ws nodes i) (sym (sym e ∙ f))
@@ -251,49 +268,30 @@ pub tested_no : (s ws nodes : Words) (t : ℕ) (b : Bool) (i : ℕ) (r : Bool) �
 unfolding tested
 tested_no s ws nodes t b i r e f = ap (λ c. c && in_some ws nodes i) (sym (sym e ∙ f))
 
--- None passed so far.
-pub record Looking (f : ℕ → Bool) (from i : ℕ) : Type 0 where
-  pub up : from ≤ i
-  pub none : (k : ℕ) → from ≤ k → k < i → f k ≡ false
+-- What a search of the ids below n from one on finds.
+abbrev pub Finds : (ℕ → Bool) → ℕ → ℕ → Option ℕ → Type 0
+Finds f from n o = MatchOption o ((k : ℕ) → from ≤ k → k < n → f k ≡ false) (λ i. (from ≤ i) × (i < n) × (f i ≡ true) × ((k : ℕ) → from ≤ k → k < i → f k ≡ false))
 
-looking_start : (f : ℕ → Bool) (from : ℕ) → Looking f from from
-looking_start f from = record { up = omega arith; none = λ k h l. absurd (omega arith) }
+first_found : (f : ℕ → Bool) (from n : ℕ) (o : Option ℕ) → Finds f from n o → First f from n (id_or_end from n o)
+first_found f from n None h = record { up = omega arith; below = λ k a b c. h k a c; here = λ l. absurd (omega arith) }
+first_found f from n (Some i) h = record { up = h.0; below = λ k a b c. h.3 k a b; here = λ l. h.2 }
 
-looking_on : (f : ℕ → Bool) (from i : ℕ) (r : Bool) → r ≡ f i → r ≡ false → Looking f from i → Looking f from (i + 1)
-looking_on f from i r e g l = record { up = omega (arith, l.up); none = λ k h j. go k h j (eqb k i) refl }
-  where
-    go : (k : ℕ) → from ≤ k → k < i + 1 → (b : Bool) → eqb k i ≡ b → f k ≡ false
-    go k h j true q = ap f (eqb-true k i q) ∙ sym e ∙ g
-    go k h j false q = l.none k h (omega (arith, eqb-false k i q))
+impl_found : (f : ℕ → Bool) (from n : ℕ) (o : Option ℕ) → Finds f from n o → IfSome o (λ i. i < n)
+impl_found f from n None h = tt
+impl_found f from n (Some i) h = h.1
 
-looking_found : (f : ℕ → Bool) (from n i : ℕ) (r : Bool) → r ≡ f i → r ≡ true → Looking f from i → First f from n i
-looking_found f from n i r e g l = record { up = l.up; below = λ k h j m. l.none k h j; here = λ h. sym e ∙ g }
+pub candidate_from : (s ws nodes : Words) (t : ℕ) (b : Bool) (from n : ℕ) (o : Option ℕ) → n ≡ many s header_impls → Finds (tested s ws nodes t b) from n o → CandidateFrom s ws nodes t b from o
+candidate_from s ws nodes t b from n o e h =
+    let g : Finds (tested s ws nodes t b) from (many s header_impls) o = subst (λ k. Finds (tested s ws nodes t b) from k o) e h in
+    record {
+      next = next_candidate s ws nodes t b from (id_or_end from (many s header_impls) o) (first_found (tested s ws nodes t b) from (many s header_impls) o g);
+      impl = impl_found (tested s ws nodes t b) from (many s header_impls) o g;
+    }
 
-looking_end : (f : ℕ → Bool) (from n i : ℕ) → n ≤ i → Looking f from i → First f from n i
-looking_end f from n i h l = record { up = l.up; below = λ k a b m. l.none k a b; here = λ j. absurd (omega arith) }
-
-module _ (s ws nodes : Words) (t : ℕ) (b : Bool) (from : ℕ) where
-  pub candidate_start : Looking (tested s ws nodes t b) from from
-  candidate_start = looking_start (tested s ws nodes t b) from
-
-  pub candidate_on : (i : ℕ) (r : Bool) → r ≡ tested s ws nodes t b i → r ≡ false → Looking (tested s ws nodes t b) from i → Looking (tested s ws nodes t b) from (i + 1)
-  candidate_on = looking_on (tested s ws nodes t b) from
-
-  pub candidate_found : (i : ℕ) (r : Bool) → r ≡ tested s ws nodes t b i → r ≡ true → Looking (tested s ws nodes t b) from i → NextCandidate s ws nodes t b from i
-  candidate_found i r e g l = next_candidate s ws nodes t b from i (looking_found (tested s ws nodes t b) from (many s header_impls) i r e g l)
-
-  pub candidate_end : (i n : ℕ) → Indexes s ws → n ≡ at ws index_impls → n ≤ i → Looking (tested s ws nodes t b) from i → NextCandidate s ws nodes t b from i
-  candidate_end i n x e h l = next_candidate s ws nodes t b from i (looking_end (tested s ws nodes t b) from (many s header_impls) i (omega (arith, e ∙ x.impls.count)) l)
-
-module _ (ws : Words) (node from : ℕ) where
-  pub admitted_start : Looking (on ws (rows_sets + 12 * node)) from from
-  admitted_start = looking_start (on ws (rows_sets + 12 * node)) from
-
-  pub admitted_on : (i : ℕ) (r : Bool) → r ≡ on ws (rows_sets + 12 * node) i → r ≡ false → Looking (on ws (rows_sets + 12 * node)) from i → Looking (on ws (rows_sets + 12 * node)) from (i + 1)
-  admitted_on = looking_on (on ws (rows_sets + 12 * node)) from
-
-  pub admitted-found : (s : Words) (i : ℕ) (r : Bool) → r ≡ on ws (rows_sets + 12 * node) i → r ≡ true → Looking (on ws (rows_sets + 12 * node)) from i → NextAdmitted s ws node from i
-  admitted-found s i r e g l = next_admitted s ws node from i (looking_found (on ws (rows_sets + 12 * node)) from (many s header_impls) i r e g l)
-
-  pub admitted_end : (s : Words) (i n : ℕ) → Indexes s ws → n ≡ at ws index_impls → n ≤ i → Looking (on ws (rows_sets + 12 * node)) from i → NextAdmitted s ws node from i
-  admitted_end s i n x e h l = next_admitted s ws node from i (looking_end (on ws (rows_sets + 12 * node)) from (many s header_impls) i (omega (arith, e ∙ x.impls.count)) l)
+pub admitted_from : (s ws : Words) (node from n : ℕ) (o : Option ℕ) → n ≡ many s header_impls → Finds (on ws (rows_sets + 12 * node)) from n o → AdmittedFrom s ws node from o
+admitted_from s ws node from n o e h =
+    let g : Finds (on ws (rows_sets + 12 * node)) from (many s header_impls) o = subst (λ k. Finds (on ws (rows_sets + 12 * node)) from k o) e h in
+    record {
+      next = next_admitted s ws node from (id_or_end from (many s header_impls) o) (first_found (on ws (rows_sets + 12 * node)) from (many s header_impls) o g);
+      impl = impl_found (on ws (rows_sets + 12 * node)) from (many s header_impls) o g;
+    }

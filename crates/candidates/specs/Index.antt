@@ -1,26 +1,18 @@
 -- The index of a chain in the workspace: at its base the count of the chain's records, then the place of each.
-use Rattle.std.specs.Prelude.{ℕ, zero, suc, ◌+◌, ◌-◌, ◌≤◌, ◌<◌, ◌≡◌, refl, Bool, true, false, ◌∷◌, ◌⊎◌, ◌≢◌, ltb, eqb, length, set}
-use Rattle.std.proofs.Common.{sym, ◌∙◌, ap, ap₂, subst, inl, inr, ⊎_elim, not-suc-le-zero, zero-add, arith, get_or-set_same, get_or-set_other, lt-ltb, le-ltb, ltb-true, ltb-false, eqb-true}
-use Rattle.std.proofs.Math.Nat.{sub-zero}
+use Rattle.std.specs.Prelude.{ℕ, ◌+◌, ◌≤◌, ◌<◌, ◌≡◌, refl, Bool, true, false, ◌⊎◌, ltb, length, set}
+use Rattle.std.proofs.Common.{sym, ◌∙◌, ap, subst, inl, inr, ⊎_elim, arith, get_or-set_same, get_or-set_other, lt-ltb, le-ltb, ltb-true, ltb-false}
 use Rattle.std.proofs.Math.ListN.{get_or-eq_default}
-use Rattle.std.proofs.lemmas.Bool.{eqb-false}
 use Rattle.rules.specs.Lists.{Words}
 use Rattle.rules.specs.Layout.{header_definitions, header_traits, header_impls, header_imports}
 use Rattle.rules.specs.ChainLaws.{chain_short}
-use Rattle.rules.specs.Sheet.{at, chain, chain_of, records, many, field, trait_def, inherent_params, import_def}
-use Rattle.rules.specs.WordLaws.{count_start, count_end, count_on, count_full}
+use Rattle.rules.specs.Sheet.{at, chain, records, many, field, trait_def, inherent_params, import_def}
+use Rattle.words.specs.Chain.{chain_within}
+use Rattle.chart.specs.Index as Index
 use Rattle.candidates.specs.Layout.{rows_end, index_definitions, index_impls, index_traits, index_imports, candidates_length}
 
 -- Outside the words that may be written.
 abbrev pub Outside : ℕ → ℕ → ℕ → Type 0
 Outside base n p = (p < base) ⊎ (base + n ≤ p)
-
--- The first k places of a chain are written, and i is the place of the next record.
-pub record Listed (s : Words) (head base k i : ℕ) (ws us : Words) : Type 0 where
-  pub places : (j : ℕ) → j < k → at us (base + j) ≡ at (chain s head) j
-  pub rest : (j : ℕ) → at (chain_of (length s - k) s i) j ≡ at (chain s head) (k + j)
-  pub total : k + length (chain_of (length s - k) s i) ≡ length (chain s head)
-  pub others : (p : ℕ) → Outside base (length s) p → at us p ≡ at ws p
 
 -- All places of a chain are written, r of them.
 pub record Places (s : Words) (head base : ℕ) (ws us : Words) (r : ℕ) : Type 0 where
@@ -28,56 +20,13 @@ pub record Places (s : Words) (head base : ℕ) (ws us : Words) (r : ℕ) : Type
   pub places : (j : ℕ) → j < length (chain s head) → at us (base + j) ≡ at (chain s head) j
   pub others : (p : ℕ) → Outside base (length s) p → at us p ≡ at ws p
 
-pub listed_start : (s : Words) (head base : ℕ) (ws : Words) → Listed s head base 0 head ws ws
-unfolding chain
-listed_start s head base ws = record {
-  places = λ j h. absurd (not-suc-le-zero h);
-  rest = λ j. ap₂ (λ n k. at (chain_of n s head) k) (sub-zero (length s)) (sym (zero-add j));
-  total = count_start s head;
-  others = λ p o. refl;
+-- An index of the chain holds them.
+pub indexed_places : (s : Words) (head base : ℕ) (ws us : Words) (r : ℕ) → Index.Indexed s head ws us base r → Places s head base ws us r
+indexed_places s head base ws us r x = record {
+  count = x.count;
+  places = λ j h. x.place j (omega (arith, x.count));
+  others = λ p o. ⊎_elim (λ a. x.below p a) (λ a. x.above p (omega (arith, x.count, chain_within s head))) o;
 }
-
--- The first record of what is left, and what is left behind it.
-rest_cons : (N k : ℕ) (s : Words) (i : ℕ) → i ≢ 0 → k < N → chain_of (N - k) s i ≡ i ∷ chain_of (N - (k + 1)) s (at s i)
-unfolding chain_of
-rest_cons N k s zero h l = absurd (h refl)
-rest_cons N k s (suc i) h l = ap (λ n. chain_of n s (suc i)) (let q : N - k ≡ suc (N - (k + 1)) = omega arith in q)
-
-pub listed_more : (s : Words) (head base k i j v : ℕ) (ws us : Words) → i ≢ 0 → k < length s → base + length s ≤ length us → v ≡ i → j ≡ at s v → Listed s head base k i ws us → Listed s head base (k + 1) j ws (set us (base + k) i)
-listed_more s head base k i j v ws us hi h fits f e₀ l = record {
-  places = places;
-  rest = rest;
-  total = count_on s (length (chain s head)) (length s) k i j h hi e l.total;
-  others = λ p o. get_or-set_other us (base + k) p i 0 (λ q. ⊎_elim (λ a. omega (arith, a, q)) (λ a. omega (arith, a, q)) o) ∙ l.others p o;
-}
-  where
-    e : j ≡ at s i
-    e = e₀ ∙ ap (at s) f
-
-    cons : chain_of (length s - k) s i ≡ i ∷ chain_of (length s - (k + 1)) s (at s i)
-    cons = rest_cons (length s) k s i hi h
-
-    places : (d : ℕ) → d < k + 1 → at (set us (base + k) i) (base + d) ≡ at (chain s head) d
-    places d hd = go (eqb d k) refl
-      where
-        go : (b : Bool) → eqb d k ≡ b → at (set us (base + k) i) (base + d) ≡ at (chain s head) d
-        go true q =
-            let r : d ≡ k = eqb-true d k q in
-            ap (λ z. at (set us (base + k) i) (base + z)) r ∙ get_or-set_same us (base + k) i 0 (omega arith)
-            ∙ sym (ap (λ z. at z 0) cons) ∙ l.rest 0 ∙ ap (at (chain s head)) (let z : k + 0 ≡ d = omega arith in z)
-        go false q = get_or-set_other us (base + k) (base + d) i 0 (λ z. eqb-false d k q (omega arith)) ∙ l.places d (omega (arith, eqb-false d k q))
-
-    rest : (d : ℕ) → at (chain_of (length s - (k + 1)) s j) d ≡ at (chain s head) (k + 1 + d)
-    rest d = ap (λ z. at (chain_of (length s - (k + 1)) s z) d) e ∙ sym (ap (λ z. at z (suc d)) cons) ∙ l.rest (suc d) ∙ ap (at (chain s head)) (let z : k + suc d ≡ k + 1 + d = omega arith in z)
-
-listed_done : (s : Words) (head base k i : ℕ) (ws us : Words) → k ≡ length (chain s head) → Listed s head base k i ws us → Places s head base ws us k
-listed_done s head base k i ws us e l = record { count = e; places = λ j h. l.places j (omega arith); others = l.others }
-
-pub listed_end : (s : Words) (head base k i : ℕ) (ws us : Words) → i ≡ 0 → Listed s head base k i ws us → Places s head base ws us k
-listed_end s head base k i ws us e l = listed_done s head base k i ws us (count_end s (length (chain s head)) (length s) k i e l.total) l
-
-pub listed_full : (s : Words) (head base k i : ℕ) (ws us : Words) → length s ≤ k → Listed s head base k i ws us → Places s head base ws us k
-listed_full s head base k i ws us h l = listed_done s head base k i ws us (count_full s (length (chain s head)) (length s) k i h l.total) l
 
 -- The index of the chain that header word h heads stands at a base.
 pub record Indexed (s : Words) (h base : ℕ) (ws : Words) : Type 0 where

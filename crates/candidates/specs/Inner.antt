@@ -1,5 +1,5 @@
 -- Rows of what reaches what, from the nodes themselves on, and edges that are opened where their end reaches their start.
-use Rattle.std.specs.Prelude.{ℕ, zero, suc, ◌+◌, ◌*◌, ◌-◌, ◌/◌, ◌%◌, ◌≤◌, ◌<◌, ◌≡◌, refl, Bool, true, false, ◌||◌, ◌&&◌, ◌⊎◌, ◌≢◌, eqb, length}
+use Rattle.std.specs.Prelude.{ℕ, zero, suc, ◌+◌, ◌*◌, ◌-◌, ◌/◌, ◌%◌, ◌≤◌, ◌<◌, ◌≡◌, refl, Bool, true, false, ◌||◌, ◌&&◌, ◌⊎◌, ◌≢◌, eqb, length, Option, Some}
 use Rattle.std.proofs.Common.{sym, ◌∙◌, ap₂, subst, inl, inr, ⊎_elim, not-suc-le-zero, arith, eqb-true, eq-eqb, ne_eqb}
 use Rattle.std.proofs.Math.Path.{ap}
 use Rattle.std.proofs.lemmas.Bool.{eqb-false}
@@ -8,7 +8,7 @@ use Rattle.rules.specs.Sheet.{at}
 use Rattle.candidates.specs.Layout.{rows_links, rows_open, rows_reach, rows_sets, rows_end}
 use Rattle.candidates.specs.Bits.{bit, on, with_bit}
 use Rattle.candidates.specs.Links.{set_other, set-row, set_elsewhere}
-use Rattle.candidates.specs.Spread.{NextOn}
+use Rattle.candidates.specs.Spread.{NextOn, NextBit, or_end, Below, bit_next}
 
 or_false : (b : Bool) → b ≡ (b || false)
 or_false true = refl
@@ -136,6 +136,15 @@ opening_start n x y ws l hx o = record { inner = inner_skip x 0 n y ws ws (omega
 
 pub opening_next : (n x y w : ℕ) (ws us vs : Words) → n ≤ 384 → x < n → Opening n x y ws us → InnerStep x y us vs → NextOn vs (rows_links + 12 * x) (y + 1) n w → Opening n x w ws vs
 opening_next n x y w ws us vs l hx i s o = record { inner = inner_skip x (y + 1) n w ws vs (omega arith) o (s.more ws i.inner); next = o.here }
+
+-- The same where the next node is found, or none is.
+pub opening_first : (n x : ℕ) (o : Option ℕ) (ws : Words) → n ≤ 384 → x < n → NextBit ws (rows_links + 12 * x) 0 n o → Opening n x (or_end n o) ws ws
+opening_first n x o ws l hx b = opening_start n x (or_end n o) ws l hx (bit_next ws (rows_links + 12 * x) 0 n o (omega arith) b)
+
+pub opening_after : (n x y : ℕ) (p o : Option ℕ) (ws us vs : Words) → n ≤ 384 → x < n → p ≡ Some y → Below n p → Opening n x (or_end n p) ws us → InnerStep x y us vs → NextBit vs (rows_links + 12 * x) (y + 1) n o → Opening n x (or_end n o) ws vs
+opening_after n x y p o ws us vs l hx e h i s b =
+    let hy : y < n = subst (Below n) e h in
+    opening_next n x y (or_end n o) ws us vs l hx (subst (λ q. Opening n x (or_end n q) ws us) e i) s (bit_next vs (rows_links + 12 * x) (y + 1) n o (omega arith) b)
 
 pub opening_leads : (n x y : ℕ) (ws us : Words) → Opening n x y ws us → y < n → on us (rows_links + 12 * x) y ≡ true
 opening_leads n x y ws us i h = i.next h

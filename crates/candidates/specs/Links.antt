@@ -2,7 +2,7 @@
 use Prim.Native.Nat.{ℕ, zero, suc, ◌+◌, ◌*◌, ◌-◌, ◌/◌, ◌%◌, ◌^◌, ◌≤◌, ◌<◌}
 use Rattle.std.specs.Prelude.{◌≡◌, Bool, true, false, ◌||◌, ◌&&◌, ◌⊎◌, ◌≢◌, ltb, eqb, length, set}
 use Rattle.std.proofs.Math.Path.{refl, sym, ap, subst}
-use Rattle.std.proofs.Common.{◌∙◌, ap₂, inl, inr, not-suc-le-zero, one-mul, mod-eq_of_lt, arith, get_or-set_same, ltb-true, eqb-true, eq-eqb, ne_eqb}
+use Rattle.std.proofs.Common.{◌∙◌, ap₂, append_assoc, append-nil, inl, inr, not-suc-le-zero, one-mul, mod-eq_of_lt, arith, get_or-set_same, ltb-true, eqb-true, eq-eqb, ne_eqb}
 use mathlib.Core.List.{List, [], ◌∷◌, ◌++◌, map}
 use Rattle.std.proofs.Math.Logic.{⊎_elim}
 use Rattle.std.proofs.Math.Nat.{zero-div, suc-sub-suc, sub-zero}
@@ -12,7 +12,7 @@ use Rattle.std.proofs.Math.Seq.{get_or-set_other}
 use Rattle.std.proofs.lemmas.Bool.{eqb-false}
 use Rattle.rules.specs.Lists.{Words, any, concat_map, optional, optional_list}
 use Rattle.rules.specs.Layout.{header_definitions, header_prelude, header_impls, flag_named}
-use Rattle.rules.specs.Sheet.{at, chain, chain_of, field, parent, trait_vis, def_trait, bindings, named_members, implicit_members, trait_def, import_def, impl_flag, impl_trait}
+use Rattle.rules.specs.Sheet.{at, chain, field, parent, trait_vis, def_trait, bindings, named_members, implicit_members, trait_def, import_def, impl_flag, impl_trait}
 use Rattle.rules.specs.Candidates.{Edge, direct, within_def, get_member, member_edges, binding_edges, for_each_child, edges}
 use Rattle.rules.proofs.Components.{edges-direct, edges-within, edges-ancestors}
 use Rattle.candidates.specs.Layout.{rows_links, rows_open, rows_reach, rows_end, candidates_length}
@@ -232,6 +232,9 @@ trait_some s x vis zero d w ws us h e f a = absurd (h refl)
 trait_some s x vis (suc t) d w ws us h e f a =
     subst (λ (c : ℕ). Adds x ((vis, 3 * c + 1) ∷ []) ws us) (f ∙ e ∙ ap (trait_def s) (suc-sub-suc t 0 ∙ sub-zero t)) a
 
+pub trait_at : (s : Words) (x vis t u w : ℕ) (ws us : Words) → 1 ≤ t → u ≡ t - 1 → w ≡ trait_def s u → Adds x ((vis, 3 * w + 1) ∷ []) ws us → Adds x (trait_edges s vis t) ws us
+trait_at s x vis t u w ws us h e f a = trait_some s x vis t w w ws us (omega arith) (f ∙ ap (trait_def s) e) refl a
+
 -- The edges of a member: of a child, of an import that names nothing, of one that names a definition.
 member_child_edges : (s : Words) (m : ℕ) → at s (m + 2) ≡ 0 → member_edges s m ≡ (at s (m + 1), 3 * at s (m + 3)) ∷ []
 unfolding member_edges get_member
@@ -260,6 +263,9 @@ member_resolved s x m v i id t w (suc d) ws us e f g h z k l o a =
     ∙ sym (member_import-edges s m (λ q. z (h ∙ q)) ∙ ap (λ u. map (λ c. (at s (m + 1), direct c)) (optional_list u)) (ap (import_def s) (sym f ∙ sym g) ∙ sym k ∙ sym l)))
     a
 
+pub member_at : (s : Words) (x m v id t w d : ℕ) (ws us : Words) → v ≡ at s (m + 1) → id ≡ at s (m + 3) → t ≡ at s (m + 2) → t ≢ 0 → w ≡ import_def s id → 1 ≤ w → d ≡ w - 1 → Adds x ((v, 3 * d) ∷ []) ws us → Adds x (member_edges s m) ws us
+member_at s x m v id t w d ws us e f g z h k l a = member_resolved s x m v id id t w w ws us e f refl g z h refl (omega arith) (subst (λ c. Adds x ((v, 3 * c) ∷ []) ws us) l a)
+
 -- The edges of a binding: none where the impl is named otherwise than asked, else that of its trait?.
 binding_same : (s : Words) (b : Bool) (m : ℕ) → impl_flag s flag_named (at s (m + 2)) ≡ b → binding_edges s b m ≡ trait_edges s (at s (m + 1)) (impl_trait s (at s (m + 2)))
 unfolding binding_edges trait_edges
@@ -273,55 +279,22 @@ binding_other s true false m e h = rw (e, binding_edges) refl
 binding_other s false true m e h = rw (e, binding_edges) refl
 binding_other s false false m e h = absurd (h refl)
 
-named_is : (s : Words) (i w : ℕ) → w ≡ field s header_impls i 2 → impl_flag s flag_named i ≡ eqb (w / 8 % 2) 1
-unfolding impl_flag
-named_is s i w e = ap (λ x. eqb (x / 8 % 2) 1) (sym e)
+pub binding_not_asked : (s : Words) (x m i : ℕ) (named r : Bool) (ws : Words) → i ≡ at s (m + 2) → r ≡ impl_flag s flag_named i → (r ≡ named → ⊥) → Adds x (binding_edges s named m) ws ws
+binding_not_asked s x m i named r ws e f h = subst (λ es. Adds x es ws ws) (sym (binding_other s named r m (ap (impl_flag s flag_named) (sym e) ∙ sym f) h)) (adds_none x ws)
 
-pub binding_none : (s : Words) (x m named i j w : ℕ) (ws : Words) → named < 2 → i ≡ at s (m + 2) → j ≡ i → w ≡ field s header_impls j 2 → w / 8 % 2 ≢ named → Adds x (binding_edges s (eqb named 1) m) ws ws
-binding_none s x m named i j w ws l e f g h =
-    subst (λ es. Adds x es ws ws) (sym (binding_other s (eqb named 1) (eqb (w / 8 % 2) 1) m (ap (impl_flag s flag_named) (sym e ∙ sym f) ∙ named_is s j w g) differ)) (adds_none x ws)
-  where
-    differ : eqb (w / 8 % 2) 1 ≡ eqb named 1 → ⊥
-    differ q = go (eqb named 1) refl
-      where
-        go : (b : Bool) → eqb named 1 ≡ b → ⊥
-        go true k = h (omega (arith, eqb-true (w / 8 % 2) 1 (q ∙ k), eqb-true named 1 k))
-        go false k = h (omega (arith, eqb-false (w / 8 % 2) 1 (q ∙ k), eqb-false named 1 k))
-
-pub binding_some : (s : Words) (x m named i j w v t u : ℕ) (ws us : Words) → i ≡ at s (m + 2) → j ≡ i → w ≡ field s header_impls j 2 → w / 8 % 2 ≡ named → v ≡ at s (m + 1) → t ≡ field s header_impls j 3 → u ≡ t
-    → Adds x (trait_edges s v u) ws us → Adds x (binding_edges s (eqb named 1) m) ws us
+pub binding_asked : (s : Words) (x m i v t : ℕ) (named r : Bool) (ws us : Words) → i ≡ at s (m + 2) → r ≡ impl_flag s flag_named i → r ≡ named → v ≡ at s (m + 1) → t ≡ field s header_impls i 3 → Adds x (trait_edges s v t) ws us → Adds x (binding_edges s named m) ws us
 unfolding impl_trait
-binding_some s x m named i j w v t u ws us e f g h k n o a =
-    subst (λ es. Adds x es ws us)
-    (ap₂ (trait_edges s) k (o ∙ n ∙ ap (impl_trait s) (f ∙ e)) ∙ sym (binding_same s (eqb named 1) m (ap (impl_flag s flag_named) (sym e ∙ sym f) ∙ named_is s j w g ∙ ap (λ c. eqb c 1) h)))
-    a
+binding_asked s x m i v t named r ws us e f h k n a =
+    subst (λ es. Adds x es ws us) (ap₂ (trait_edges s) k (n ∙ ap (impl_trait s) e) ∙ sym (binding_same s named m (ap (impl_flag s flag_named) (sym e) ∙ sym f ∙ h))) a
 
--- A walk along a chain whose records have edges: with those still to come added, those of the whole chain are.
-pub record Walking (f : ℕ → List Edge) (x : ℕ) (s : Words) (head : ℕ) (ws us : Words) (i left : ℕ) : Type 0 where
-  pub to_come : (vs : Words) → Adds x (concat_map f (chain_of left s i)) us vs → Adds x (concat_map f (chain s head)) ws vs
+-- The edges of records one after the other.
+concat_more : (f : ℕ → List Edge) (ms : Words) (m : ℕ) → concat_map f ms ++ f m ≡ concat_map f (ms ++ m ∷ [])
+unfolding concat_map
+concat_more f [] m = sym (append-nil (f m))
+concat_more f (k ∷ ms) m = append_assoc (f k) (concat_map f ms) (f m) ∙ ap (λ (l : List Edge). f k ++ l) (concat_more f ms m)
 
-module _ (f : ℕ → List Edge) (x : ℕ) (s : Words) (head : ℕ) where
-  pub walking_start : (ws : Words) → Walking f x s head ws ws head (length s)
-  unfolding chain
-  walking_start ws = record { to_come = λ vs a. a }
-
-  pub walking_spent : (ws us : Words) (i left : ℕ) → left ≡ 0 → Walking f x s head ws us i left → Adds x (concat_map f (chain s head)) ws us
-  unfolding chain_of concat_map
-  walking_spent ws us i left e w = w.to_come us (subst (λ n. Adds x (concat_map f (chain_of n s i)) us us) (sym e) (adds_none x us))
-
-  pub walking_end : (ws us : Words) (i left : ℕ) → i ≡ 0 → left ≢ 0 → Walking f x s head ws us i left → Adds x (concat_map f (chain s head)) ws us
-  unfolding chain_of concat_map
-  walking_end ws us i zero e h w = absurd (h refl)
-  walking_end ws us i (suc left) e h w = w.to_come us (subst (λ n. Adds x (concat_map f (chain_of (suc left) s n)) us us) (sym e) (adds_none x us))
-
-  pub walking_on : (ws us vs : Words) (i j left : ℕ) → left ≢ 0 → i ≢ 0 → j ≡ at s i → Adds x (f i) us vs → Walking f x s head ws us i left → Walking f x s head ws vs j (left - 1)
-  unfolding chain_of concat_map
-  walking_on ws us vs i j zero h k e a w = absurd (h refl)
-  walking_on ws us vs zero j (suc left) h k e a w = absurd (k refl)
-  walking_on ws us vs (suc i) j (suc left) h k e a w = record {
-    to_come = λ zs b.
-        w.to_come zs (adds_on x (f (suc i)) (concat_map f (chain_of left s (at s (suc i)))) us vs zs a (subst (λ l. Adds x (concat_map f l) vs zs) (ap₂ (λ n p. chain_of n s p) (suc-sub-suc left 0 ∙ sub-zero left) e) b));
-  }
+pub adds_more : (f : ℕ → List Edge) (x : ℕ) (ms : Words) (m : ℕ) (ws us vs : Words) → Adds x (concat_map f ms) ws us → Adds x (f m) us vs → Adds x (concat_map f (ms ++ m ∷ [])) ws vs
+adds_more f x ms m ws us vs a b = subst (λ l. Adds x l ws vs) (concat_more f ms m) (adds_on x (concat_map f ms) (f m) ws us vs a b)
 
 -- The edges of a definition's three nodes.
 pub direct-edges : (s : Words) (d v t₀ t b₀ b m₀ m : ℕ) (w₀ w₁ w₂ w₃ : Words) → v ≡ field s header_definitions d 2 → t₀ ≡ field s header_definitions d 3 → t ≡ t₀ → b₀ ≡ field s header_definitions d 4 → b ≡ b₀ → m₀ ≡ field s header_definitions d 6 → m ≡ m₀
@@ -366,6 +339,12 @@ module _ (s : Words) (d p₀ p q : ℕ) (w₀ w₁ : Words) (f : p₀ ≡ field 
   unfolding parent optional_list
   no_prelude_edges q₀ z g g' h =
       subst (λ es. Adds (3 * d + 2) es w₀ w₁) (sym (ancestors_prelude s d (sym f ∙ sym f' ∙ z) ∙ ap (λ c. (0, 3 * d + 1) ∷ map (λ r. (0, 3 * r + 1)) (optional_list c)) (sym g ∙ sym g' ∙ h))) i
+
+pub parent_at : (s : Words) (d p u : ℕ) (w₀ w₁ w₂ : Words) → p ≡ field s header_definitions d 1 → Adds (3 * d + 2) ((0, 3 * d + 1) ∷ []) w₀ w₁ → 1 ≤ p → u ≡ p - 1 → Adds (3 * d + 2) ((0, 3 * u + 2) ∷ []) w₁ w₂ → Adds (3 * d + 2) (edges s (3 * d + 2)) w₀ w₂
+parent_at s d p u w₀ w₁ w₂ f i h e j = parent-edges s d p p 0 w₀ w₁ f refl i w₂ (omega arith) (subst (λ c. Adds (3 * d + 2) ((0, 3 * c + 2) ∷ []) w₁ w₂) e j)
+
+pub prelude_at : (s : Words) (d p q u : ℕ) (w₀ w₁ w₂ : Words) → p ≡ field s header_definitions d 1 → Adds (3 * d + 2) ((0, 3 * d + 1) ∷ []) w₀ w₁ → p ≡ 0 → q ≡ at s 11 → 1 ≤ q → u ≡ q - 1 → Adds (3 * d + 2) ((0, 3 * u + 1) ∷ []) w₁ w₂ → Adds (3 * d + 2) (edges s (3 * d + 2)) w₀ w₂
+prelude_at s d p q u w₀ w₁ w₂ f i z g h e j = prelude_edges s d p p q w₀ w₁ f refl i q w₂ z g refl (omega arith) (subst (λ c. Adds (3 * d + 2) ((0, 3 * c + 1) ∷ []) w₁ w₂) e j)
 
 -- The edges of a definition's three nodes were added, one node after the other.
 pub record LinksDefinition (s : Words) (d : ℕ) (ws us : Words) : Type 0 where

@@ -5,12 +5,11 @@ use Rattle.std.proofs.Math.Path.{sym, ap, subst}
 use Rattle.std.proofs.Common.{◌∙◌, ap₂, inl, inr, not-suc-le-zero, arith}
 use Rattle.std.proofs.Math.Bool.{true, false, not}
 use Rattle.std.proofs.Math.Logic.{⊎_elim}
-use Rattle.std.proofs.Math.Nat.{suc-sub-suc, sub-zero}
 use Rattle.std.proofs.Math.Dec.{eqb}
 use borrow.Author.Tests.{eqb-true, eqb-false, eq-eqb, ne_eqb}
 use Rattle.rules.specs.Lists.{Words, any}
 use Rattle.rules.specs.Layout.{header_definitions, header_impls, binding_vis, binding_impl, flag_manual, flag_unsafe, flag_named}
-use Rattle.rules.specs.Sheet.{at, chain, chain_of, field, bindings, impl_flag, impl_trait}
+use Rattle.rules.specs.Sheet.{at, chain, field, bindings, impl_flag, impl_trait}
 use Rattle.rules.specs.Candidates.{may_enter}
 use Rattle.rules.specs.Admission.{binding_node}
 use Rattle.candidates.specs.Layout.{rows_sets, rows_end, candidates_length}
@@ -162,7 +161,7 @@ module _ (s : Words) (d b j i : ℕ) (ws : Words) (e : j ≡ at s (b + 2)) (f : 
           apart (suc w) a = inl (omega arith)
 
 -- Bindings one after the other.
-enters_none : (s : Words) (d : ℕ) (ws : Words) → Enters s d [] ws ws
+pub enters_none : (s : Words) (d : ℕ) (ws : Words) → Enters s d [] ws ws
 unfolding any
 enters_none s d ws = record { sets = λ x i hx hi. or_false (on ws (rows_sets + 12 * x) i); others = λ p o. refl }
 
@@ -186,32 +185,8 @@ enters_on s d bs cs ws us vs a b = record {
 pub binding_on : (d : ℕ) (s bs ws us : Words) → length us ≡ length ws → Binding d s ws → Enters s d bs ws us → Binding d s us
 binding_on d s bs ws us e l a = record { low = l.low; short = l.short; fits = omega (arith, l.fits); indexes = indexes_keep s ws us l.short (λ p h. a.others p (inr h)) l.indexes }
 
--- A walk along a chain of bindings: with those still to come entered, those of the whole chain are.
-pub record Walking (s : Words) (d head : ℕ) (ws us : Words) (i left : ℕ) : Type 0 where
-  pub to_come : (vs : Words) → Enters s d (chain_of left s i) us vs → Enters s d (chain s head) ws vs
-
-module _ (s : Words) (d head : ℕ) where
-  pub walking_start : (ws : Words) → Walking s d head ws ws head (length s)
-  unfolding chain
-  walking_start ws = record { to_come = λ vs a. a }
-
-  pub walking_spent : (ws us : Words) (i left : ℕ) → left ≡ 0 → Walking s d head ws us i left → Enters s d (chain s head) ws us
-  unfolding chain_of
-  walking_spent ws us i left e w = w.to_come us (subst (λ n. Enters s d (chain_of n s i) us us) (sym e) (enters_none s d us))
-
-  pub walking_end : (ws us : Words) (i left : ℕ) → i ≡ 0 → left ≢ 0 → Walking s d head ws us i left → Enters s d (chain s head) ws us
-  unfolding chain_of
-  walking_end ws us i zero e h w = absurd (h refl)
-  walking_end ws us i (suc left) e h w = w.to_come us (subst (λ n. Enters s d (chain_of (suc left) s n) us us) (sym e) (enters_none s d us))
-
-  pub walking_on : (ws us vs : Words) (i j left : ℕ) → left ≢ 0 → i ≢ 0 → j ≡ at s i → Enters s d (i ∷ []) us vs → Walking s d head ws us i left → Walking s d head ws vs j (left - 1)
-  unfolding chain_of
-  walking_on ws us vs i j zero h k e a w = absurd (h refl)
-  walking_on ws us vs zero j (suc left) h k e a w = absurd (k refl)
-  walking_on ws us vs (suc i) j (suc left) h k e a w = record {
-    to_come = λ zs b.
-        w.to_come zs (enters_on s d (suc i ∷ []) (chain_of left s (at s (suc i))) us vs zs a (subst (λ l. Enters s d l vs zs) (ap₂ (λ n p. chain_of n s p) (suc-sub-suc left 0 ∙ sub-zero left) e) b));
-  }
+pub enters_more : (s : Words) (d : ℕ) (bs : Words) (b : ℕ) (ws us vs : Words) → Enters s d bs ws us → Enters s d (b ∷ []) us vs → Enters s d (bs ++ b ∷ []) ws vs
+enters_more s d bs b ws us vs h k = enters_on s d bs (b ∷ []) ws us vs h k
 
 pub definition_bound : (s : Words) (d h₀ h : ℕ) (ws us : Words) → h₀ ≡ field s header_definitions d 4 → h ≡ h₀ → Enters s d (chain s h) ws us → Enters s d (bindings s d) ws us
 unfolding bindings

@@ -1,13 +1,15 @@
 -- Rows that spread along a relation: n rows of 384 bits at place m say which node leads to which, and each of the n rows at m + rows·behind takes what the rows that its node leads to have.
 -- What is there in the end is what walks along the relation reach.
 use Prim.Native.Nat.{ℕ, zero, suc, ◌+◌, ◌*◌, ◌-◌, ◌/◌, ◌%◌, ◌^◌, ◌≤◌, ◌<◌}
-use Rattle.std.specs.Prelude.{◌≡◌, Bool, true, false, ◌||◌, ◌⊎◌, ◌↔◌, ◌≢◌, T, eqb, length, set}
+use Rattle.std.specs.Prelude.{◌≡◌, Bool, true, false, ◌||◌, ◌⊎◌, ◌↔◌, ◌≢◌, T, eqb, length, set, Option, Some, None}
 use Rattle.std.proofs.Math.Path.{refl, ap}
-use Rattle.std.proofs.Common.{sym, ◌∙◌, ap₂, subst, not-suc-le-zero, le_of_suc-le-suc, div-one, arith, eqb→eq, shr-shr, get_or-set_same, eqb-true, eq-eqb, ne_eqb}
+use Rattle.std.proofs.Common.{Fits, div-le_self, sym, ◌∙◌, ap₂, subst, not-suc-le-zero, le_of_suc-le-suc, div-one, arith, eqb→eq, shr-shr, get_or-set_same, eqb-true, eq-eqb, ne_eqb}
 use Rattle.std.proofs.Math.Logic.{inl, inr, ⊎_elim}
-use Rattle.std.proofs.Math.Nat.{pow-succ', div-div-eq-div-mul}
+use Rattle.std.proofs.Math.Nat.{pow-succ', div-div-eq-div-mul, div-eq_of_lt, pow-le-pow_right}
 use Rattle.std.specs.Int.Bits.{bit_or}
-use Rattle.std.specs.Int.Count.{count_trailing_zeros, under}
+use Rattle.std.specs.Int.{w32}
+use Rattle.std.specs.Int.Count.{count_trailing_zeros, trailing_of_zero, under}
+use Rattle.std.proofs.lemmas.Nat.Bits.{bit_at-trailing_zeros}
 use Rattle.std.proofs.Math.ListN.{length-set}
 use Rattle.std.proofs.Math.Seq.{get_or-set_other}
 use Rattle.std.proofs.lemmas.Bool.{eqb-false}
@@ -287,6 +289,38 @@ pub record NextOn (us : Words) (p y n r : ℕ) : Type 0 where
   pub none : (k : ℕ) → y ≤ k → k < r → on us p k ≡ false
   pub here : r < n → on us p r ≡ true
 
+-- Where a search of bits below n ends: at the bit, or at the end.
+abbrev pub or_end : ℕ → Option ℕ → ℕ
+or_end n None = n
+or_end n (Some r) = r
+
+-- A bit is below n, if it is one.
+abbrev pub Below : ℕ → Option ℕ → Type 0
+Below n None = Unit {0}
+Below n (Some r) = r < n
+
+-- A bit is one from y on that is 1, if it is one.
+abbrev pub Found : Words → ℕ → ℕ → Option ℕ → Type 0
+Found us p y None = Unit {0}
+Found us p y (Some r) = (y ≤ r) × (on us p r ≡ true)
+
+-- o is the next bit of the row from y on, of those below n, if there is one.
+pub record NextBit (us : Words) (p y n : ℕ) (o : Option ℕ) : Type 0 where
+  pub none : (k : ℕ) → y ≤ k → k < or_end n o → on us p k ≡ false
+  pub below : Below n o
+  pub found : Found us p y o
+
+-- So the end of the search is the next bit by number.
+pub bit_next : (us : Words) (p y n : ℕ) (o : Option ℕ) → y ≤ n → NextBit us p y n o → NextOn us p y n (or_end n o)
+bit_next us p y n None h b = record { up = h; none = b.none; here = λ k. absurd (omega arith) }
+bit_next us p y n (Some r) h b = record { up = b.found.0; none = b.none; here = λ k. b.found.1 }
+
+pub bit_found : (us : Words) (p y n r : ℕ) → r < n → NextOn us p y n r → NextBit us p y n (Some r)
+bit_found us p y n r h b = record { none = b.none; below = h; found = (b.up, b.here h) }
+
+pub bit_past : (us : Words) (p y n r : ℕ) → n ≤ r → NextOn us p y n r → NextBit us p y n None
+bit_past us p y n r h b = record { none = λ k a c. b.none k a (omega arith); below = tt; found = tt }
+
 pub taken_skip : (n m x y w : ℕ) (ws us : Words) (changed : Bool) → NextOn us (m + 12 * x) y n w → Taken n m x y ws us changed → Taken n m x w ws us changed
 unfolding leads
 taken_skip n m x y w ws us changed o k = record {
@@ -310,6 +344,15 @@ taking_start n m x y ws r o = record { taken = taken_skip n m x 0 y ws ws false 
 
 pub taking_next : (n m x y w : ℕ) (ws us vs : Words) (changed r : Bool) → Taking n m x y ws us changed → Takes n m x y us vs r → NextOn vs (m + 12 * x) (y + 1) n w → Taking n m x w ws vs (changed || r)
 taking_next n m x y w ws us vs changed r k g o = record { taken = taken_skip n m x (y + 1) w ws vs (changed || r) o (g.more ws changed k.taken); room = room_same n m x us vs g.size k.room; next = o.here }
+
+-- The same where the next node is found, or none is.
+pub taking_first : (n m x : ℕ) (o : Option ℕ) (ws : Words) → Room n m x ws → NextBit ws (m + 12 * x) 0 n o → Taking n m x (or_end n o) ws ws false
+taking_first n m x o ws r b = taking_start n m x (or_end n o) ws r (bit_next ws (m + 12 * x) 0 n o (omega arith) b)
+
+pub taking_after : (n m x y : ℕ) (p o : Option ℕ) (ws us vs : Words) (changed r : Bool) → p ≡ Some y → Below n p → Taking n m x (or_end n p) ws us changed → Takes n m x y us vs r → NextBit vs (m + 12 * x) (y + 1) n o → Taking n m x (or_end n o) ws vs (changed || r)
+taking_after n m x y p o ws us vs changed r e h k g b =
+    let l : y < n = subst (Below n) e h in
+    taking_next n m x y (or_end n o) ws us vs changed r (subst (λ q. Taking n m x (or_end n q) ws us changed) e k) g (bit_next vs (m + 12 * x) (y + 1) n o (omega arith) b)
 
 pub taking_leads : (n m x y : ℕ) (ws us : Words) (changed : Bool) → Taking n m x y ws us changed → y < n → on us (m + 12 * x) y ≡ true
 taking_leads n m x y ws us changed k h = k.next h
@@ -457,6 +500,65 @@ first_here us p y n j t z e f h c = record {
 
 pub first_past : (us : Words) (p y n j : ℕ) → n ≤ 32 * j → Clear us p y (32 * j) → NextOn us p y n (32 * j)
 first_past us p y n j h c = record { up = c.up; none = c.none; here = λ q. absurd (omega arith) }
+
+-- A word that is 0 has no bit, and another has one.
+zero-zeros : (w : ℕ) → w ≡ 0 → 32 ≡ count_trailing_zeros 32 w
+zero-zeros w e = sym (ap (count_trailing_zeros 32) e ∙ trailing_of_zero 32)
+
+some_zeros : (w : ℕ) → w ≢ 0 → w < 2 ^ 32 → count_trailing_zeros 32 w < 32
+some_zeros w h l = (bit_at-trailing_zeros w32 w (omega arith) l).0
+
+pub clear_zero : (us : Words) (p y j : ℕ) → at us (p + j) ≡ 0 → Clear us p y (32 * j) → Clear us p y (32 * (j + 1))
+clear_zero us p y j e c = clear_word us p y j 32 32 refl (zero-zeros (at us (p + j)) e) (omega arith) c
+
+-- The first bit of word j on is found, or it is past the end.
+pub word_found : (us : Words) (p y n j t : ℕ) → at us (p + j) ≢ 0 → Fits w32 (at us (p + j)) → t ≡ count_trailing_zeros 32 (at us (p + j)) → 32 * j + t < n → Clear us p y (32 * j) → NextBit us p y n (Some (32 * j + t))
+word_found us p y n j t h f e l c = bit_found us p y n (32 * j + t) l (first_here us p y n j t t refl e (omega (arith, e, some_zeros (at us (p + j)) h f.fits)) c)
+
+pub word_past : (us : Words) (p y n j t : ℕ) → at us (p + j) ≢ 0 → Fits w32 (at us (p + j)) → t ≡ count_trailing_zeros 32 (at us (p + j)) → n ≤ 32 * j + t → Clear us p y (32 * j) → NextBit us p y n None
+word_past us p y n j t h f e l c = bit_past us p y n (32 * j + t) l (first_here us p y n j t t refl e (omega (arith, e, some_zeros (at us (p + j)) h f.fits)) c)
+
+-- So it is with the bits of the word of y, shifted.
+module _ (us : Words) (p y n : ℕ) where
+  abbrev shifted : ℕ
+  shifted = at us (p + y / 32) / 2 ^ (y % 32)
+
+  -- It has no digit past those that are left of the word.
+  shifted_end : Fits w32 (at us (p + y / 32)) → shifted ≢ 0 → y % 32 + count_trailing_zeros 32 shifted < 32
+  shifted_end f h = go (32 - (y % 32 + t)) refl
+    where
+      t : ℕ
+      t = count_trailing_zeros 32 shifted
+
+      one : at us (p + y / 32) / 2 ^ (y % 32 + t) % 2 ≡ 1
+      one = ap (λ x. x % 2) (sym (shr-shr (at us (p + y / 32)) (y % 32) t)) ∙ zeros_end 32 shifted (some_zeros shifted h (omega (arith, f.fits, div-le_self (at us (p + y / 32)) (2 ^ (y % 32)))))
+
+      none : 32 ≤ y % 32 + t → at us (p + y / 32) / 2 ^ (y % 32 + t) ≡ 0
+      none l = div-eq_of_lt (let q : at us (p + y / 32) < 2 ^ (y % 32 + t) = omega (arith, f.fits, pow-le-pow_right {n = 2} (omega arith) l) in q)
+
+      go : (d : ℕ) → 32 - (y % 32 + t) ≡ d → y % 32 + t < 32
+      go (suc d) e = omega arith
+      go zero e = absurd (omega (arith, one, ap (λ x. x % 2) (none (omega arith))))
+
+  here : shifted ≢ 0 → Fits w32 (at us (p + y / 32)) → NextOn us p y n (y + count_trailing_zeros 32 shifted)
+  here h f = next_here us p y n (count_trailing_zeros 32 shifted) (count_trailing_zeros 32 shifted) refl refl (shifted_end f h)
+
+  pub next_found : shifted ≢ 0 → Fits w32 (at us (p + y / 32)) → y + count_trailing_zeros 32 shifted < n → NextBit us p y n (Some (y + count_trailing_zeros 32 shifted))
+  next_found h f l = bit_found us p y n (y + count_trailing_zeros 32 shifted) l (here h f)
+
+  pub next_over : shifted ≢ 0 → Fits w32 (at us (p + y / 32)) → n ≤ y + count_trailing_zeros 32 shifted → NextBit us p y n None
+  next_over h f l = bit_past us p y n (y + count_trailing_zeros 32 shifted) l (here h f)
+
+  pub next_later : (o : Option ℕ) → shifted ≡ 0 → NextBit us p (32 * (y / 32 + 1)) n o → NextBit us p y n o
+  next_later o e b = record { none = λ k a h. go k a h (32 * (y / 32 + 1) - k) refl; below = b.below; found = found o b.found }
+    where
+      found : (o : Option ℕ) → Found us p (32 * (y / 32 + 1)) o → Found us p y o
+      found None f = tt
+      found (Some r) f = (omega (arith, f.0), f.1)
+
+      go : (k : ℕ) → y ≤ k → k < or_end n o → (d : ℕ) → 32 * (y / 32 + 1) - k ≡ d → on us p k ≡ false
+      go k a h zero q = b.none k (omega arith) h
+      go k a h (suc d) q = off_at us p y k 32 (at us (p + y / 32)) refl (zero-zeros shifted e) a (omega arith) (omega arith)
 
 -- There is room for the rows.
 pub record Rows (n m : ℕ) (ws : Words) : Type 0 where
@@ -618,11 +720,20 @@ way_after n m x ws us y w v = record {
   next = λ h. visited_leads n m x y ws us w.room h (w.next h) v;
 }
 
+-- The same at the next node that x leads to, if there is one.
+pub record WayOn (n m x : ℕ) (ws : Words) (o : Option ℕ) : Type 0 where
+  pub way : Way n m x ws (or_end n o)
+  pub below : Below n o
+
 -- What x leads to at y is taken, and it is at r.
 pub record Childs (n m x y : ℕ) (us vs : Words) (r : ℕ) : Type 0 where
   pub visited : Visited n m us vs
   pub way : Way n m x vs r
   pub up : y < r
+
+pub record ChildsOn (n m x y : ℕ) (us vs : Words) (o : Option ℕ) : Type 0 where
+  pub childs : Childs n m x y us vs (or_end n o)
+  pub below : Below n o
 
 pub child_fits : (n m x y : ℕ) (us vs : Words) → Way n m x us y → length vs ≡ length us → m + 12 * x + 12 ≤ length vs
 child_fits n m x y us vs w e = omega (arith, w.room.node, w.room.fits)
@@ -632,8 +743,20 @@ child_taken n m x y us vs t r w k o =
     let v : Visited n m us vs = record { grown = k.grown; less = moved_less us vs t k.moved } in
     record { visited = v; way = record { room = (way_after n m x us vs y w v).room; kin = (way_after n m x us vs y w v).kin; next = o.here }; up = omega (arith, o.up) }
 
+pub child_next : (n m x y : ℕ) (us vs : Words) (t : Bool) (o : Option ℕ) → Way n m x us y → y < n → Takes n m x y us vs t → NextBit vs (m + 12 * x) (y + 1) n o → ChildsOn n m x y us vs o
+child_next n m x y us vs t o w h k b = record { childs = child_taken n m x y us vs t (or_end n o) w k (bit_next vs (m + 12 * x) (y + 1) n o (omega arith) b); below = b.below }
+
+pub child_on : (n m x y : ℕ) (us vs : Words) (o : Option ℕ) → ChildsOn n m x y us vs o → WayOn n m x vs o
+child_on n m x y us vs o k = record { way = k.childs.way; below = k.below }
+
+pub way_later : (n m x y : ℕ) (p : Option ℕ) (us vs : Words) → p ≡ Some y → WayOn n m x us p → Visited n m us vs → Way n m x vs y × (y < n)
+way_later n m x y p us vs e w v = (way_after n m x us vs y (subst (λ q. Way n m x us (or_end n q)) e w.way) v, subst (Below n) e w.below)
+
 pub child_visited : (n m x y : ℕ) (w₀ w₁ w₂ w₃ : Words) (r : ℕ) → Way n m x w₁ y → Visited n m w₀ w₁ → Visited n m w₁ w₂ → Childs n m x y w₂ w₃ r → Visited n m w₀ w₃
 child_visited n m x y w₀ w₁ w₂ w₃ r w a b k = visited_on n m w₀ w₂ w₃ w.room.few (visited_on n m w₀ w₁ w₂ w.room.few a b) k.visited
+
+pub child_grown : (n m x y : ℕ) (p o : Option ℕ) (w₀ w₁ w₂ w₃ : Words) → p ≡ Some y → WayOn n m x w₁ p → Visited n m w₀ w₁ → Visited n m w₁ w₂ → ChildsOn n m x y w₂ w₃ o → Visited n m w₀ w₃
+child_grown n m x y p o w₀ w₁ w₂ w₃ e w a b k = child_visited n m x y w₀ w₁ w₂ w₃ (or_end n o) (subst (λ q. Way n m x w₁ (or_end n q)) e w.way) a b k.childs
 
 pub left_visited : (n m x y : ℕ) (ws us vs : Words) → Way n m x us y → Visited n m ws us → Visited n m us vs → Visited n m ws vs
 left_visited n m x y ws us vs w a b = visited_on n m ws us vs w.room.few a b

@@ -1,88 +1,58 @@
 // Candidates by id from the sets that stand in the workspace: `get_candidates` for a trait, a basic flag and some nodes, and what one node's set admits.
-ghost use Rattle.std.specs.Prelude.{◌≡◌, ◌<◌, eqb};
+ghost use Rattle.std.specs.Prelude.{◌≡◌, ◌<◌};
 ghost use Rattle.candidates.specs.Index.{Indexes};
-ghost use Rattle.candidates.specs.Find.{in_some, wanted, tested, NextCandidate, NextAdmitted};
+ghost use Rattle.candidates.specs.Find.{in_some, wanted, tested, CandidateFrom, AdmittedFrom};
 
-use crate::index::{impl_word, wide};
+use crate::index::{impl_flag, impl_word, impls};
 use crate::layout;
 use crate::rows::on;
+use chart::layout::{FLAG_BASIC, IMPL_TRAIT};
 
 // The set of some node among these has impl i.
 fn in_some(ws: &[u32], nodes: &[u32], i: usize) -> bool
     ensures { result ≡ in_some ws.now nodes.now i }
 {
-    let mut k = 0;
-    while k < nodes.len() {
-        if on(ws, layout::SETS + 12 * wide(nodes[k]), i) {
-            return true;
-        }
-        k += 1;
-    }
-    false
+    nodes.iter().any(|node| on(ws, layout::SETS + layout::ROW * *node as usize, i))
 }
 
-// Impl i is of a trait, and basic (1) or not (0) as asked.
-fn wanted(s: &[u32], ws: &[u32], t: usize, basic: u32, i: usize) -> bool
-    requires { Indexes s.now ws.now × (basic < 2) }
-    ensures { result ≡ wanted s.now t (eqb basic 1) i }
+// Impl i is of a trait, and basic or not as asked.
+fn wanted(s: &[u32], ws: &[u32], t: usize, basic: bool, i: usize) -> bool
+    requires { Indexes s.now ws.now }
+    ensures { result ≡ wanted s.now t basic i }
 {
-    let u = wide(impl_word(s, ws, i, 3));
-    if u == 0 {
-        return false;
+    match (impl_word(s, ws, i, IMPL_TRAIT) as usize).checked_sub(1) {
+        Some(u) => u == t && impl_flag(s, ws, i, FLAG_BASIC) == basic,
+        None => false,
     }
-    if u - 1 != t {
-        return false;
-    }
-    impl_word(s, ws, i, 2) / 2 % 2 == basic
 }
 
 // Impl i is a candidate of a trait and a basic flag from some nodes.
-fn candidate(s: &[u32], ws: &[u32], nodes: &[u32], t: usize, basic: u32, i: usize) -> bool
-    requires { Indexes s.now ws.now × (basic < 2) }
-    ensures { result ≡ tested s.now ws.now nodes.now t (eqb basic 1) i }
+fn candidate(s: &[u32], ws: &[u32], nodes: &[u32], t: usize, basic: bool, i: usize) -> bool
+    requires { Indexes s.now ws.now }
+    ensures { result ≡ tested s.now ws.now nodes.now t basic i }
 {
-    if wanted(s, ws, t, basic, i) {
-        in_some(ws, nodes, i)
-    } else {
-        false
-    }
+    wanted(s, ws, t, basic, i) && in_some(ws, nodes, i)
 }
 
-// The next of the candidates of a trait and a basic flag from some nodes, from an id on; as many as there are impls, or more, where there is none.
+// The next of the candidates of a trait and a basic flag from some nodes, from an id on.
 pub fn next_candidate(
     s: &[u32],
     ws: &[u32],
     nodes: &[u32],
     t: usize,
-    basic: u32,
+    basic: bool,
     from: usize,
-) -> usize
-    requires { Indexes s.now ws.now × (basic < 2) }
-    ensures { NextCandidate s.now ws.now nodes.now t (eqb basic 1) from result }
+) -> Option<usize>
+    requires { Indexes s.now ws.now }
+    ensures { CandidateFrom s.now ws.now nodes.now t basic from result }
 {
-    let n = words::next(ws, layout::IMPLS);
-    let mut i = from;
-    while i < n {
-        if candidate(s, ws, nodes, t, basic, i) {
-            return i;
-        }
-        i += 1;
-    }
-    i
+    (from..impls(s, ws)).find(|i| candidate(s, ws, nodes, t, basic, *i))
 }
 
-// The next of the impls that the set of a node admits, from an id on; as many as there are impls, or more, where there is none.
-pub fn next_admitted(s: &[u32], ws: &[u32], node: usize, from: usize) -> usize
+// The next of the impls that the set of a node admits, from an id on.
+pub fn next_admitted(s: &[u32], ws: &[u32], node: usize, from: usize) -> Option<usize>
     requires { Indexes s.now ws.now × (node < 384) }
-    ensures { NextAdmitted s.now ws.now node from result }
+    ensures { AdmittedFrom s.now ws.now node from result }
 {
-    let n = words::next(ws, layout::IMPLS);
-    let mut i = from;
-    while i < n {
-        if on(ws, layout::SETS + 12 * node, i) {
-            return i;
-        }
-        i += 1;
-    }
-    i
+    (from..impls(s, ws)).find(|i| on(ws, layout::SETS + layout::ROW * node, *i))
 }

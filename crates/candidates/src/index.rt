@@ -2,42 +2,19 @@
 // such an index in the workspace, and every field is then read in constant time. A record that is not there has place 0, as in the rules.
 ghost use Rattle.std.specs.Prelude.{◌≡◌, ◌+◌, ◌≤◌, ◌<◌, length};
 ghost use Rattle.rules.specs.Layout.{header_definitions, header_impls};
-ghost use Rattle.rules.specs.Sheet.{many, field, trait_def, inherent_params, import_def};
+ghost use Rattle.rules.specs.Sheet.{many, field, trait_def, inherent_params, import_def, impl_flag};
 ghost use Rattle.candidates.specs.Layout.{candidates_length};
-ghost use Rattle.candidates.specs.Index.{Places, Indexing, looked, Indexes, IndexedAll};
+ghost use Rattle.candidates.specs.Index.{Indexing, looked, Indexes, IndexedAll};
 
 use crate::layout;
-
-pub fn wide(w: u32) -> usize
-    ensures { (result ≡ w) × (result < 4294967296) }
-{
-    w as usize
-}
-
-// Writes the places of the records of the chain from a head; how many there are.
-fn places(s: &[u32], head: u32, ws: &mut [u32], base: usize) -> usize
-    requires { base + length s.now ≤ length ws.old }
-    ensures { Places s.now head base ws.old ws.new result }
-{
-    let mut i = head;
-    let mut k = 0;
-    while k < s.len() {
-        if i == 0 {
-            return k;
-        }
-        ws[base + k] = i;
-        i = words::word(s, wide(i));
-        k += 1;
-    }
-    k
-}
+use chart::layout as sheet;
 
 // Writes the index of the chain that header word h heads.
 fn index(s: &[u32], h: usize, ws: &mut [u32], base: usize)
     requires { (length s.now ≤ 4096) × (base + 1 + length s.now ≤ length ws.old) }
     ensures { Indexing s.now h base ws.old ws.new }
 {
-    let count = places(s, words::word(s, h), ws, base + 1);
+    let count = chart::index_chain(s, words::word(s, h), ws, base + 1);
     ws[base] = count as u32;
 }
 
@@ -45,8 +22,8 @@ fn index(s: &[u32], h: usize, ws: &mut [u32], base: usize)
 fn look(ws: &[u32], base: usize, id: usize) -> usize
     ensures { result ≡ looked ws.now base id }
 {
-    if id < wide(words::word(ws, base)) {
-        wide(words::offset(ws, base, id + 1))
+    if id < words::next(ws, base) {
+        words::offset(ws, base, id + 1) as usize
     } else {
         0
     }
@@ -57,10 +34,10 @@ pub fn index_all(s: &[u32], ws: &mut [u32])
     requires { (length s.now ≤ 4096) × (candidates_length ≤ length ws.old) }
     ensures { IndexedAll s.now ws.old ws.new }
 {
-    index(s, 1, ws, layout::DEFINITIONS);
-    index(s, 4, ws, layout::IMPLS);
-    index(s, 3, ws, layout::TRAITS);
-    index(s, 10, ws, layout::IMPORTS);
+    index(s, sheet::DEFINITIONS, ws, layout::DEFINITIONS);
+    index(s, sheet::IMPLS, ws, layout::IMPLS);
+    index(s, sheet::TRAITS, ws, layout::TRAITS);
+    index(s, sheet::IMPORTS, ws, layout::IMPORTS);
 }
 
 // How many definitions there are.
@@ -95,12 +72,20 @@ pub fn impl_word(s: &[u32], ws: &[u32], i: usize, k: usize) -> u32
     words::offset(s, look(ws, layout::IMPLS, i), k)
 }
 
+// Impl i has a flag.
+pub(crate) fn impl_flag(s: &[u32], ws: &[u32], i: usize, flag: usize) -> bool
+    requires { Indexes s.now ws.now × (0 < flag) }
+    ensures { result ≡ impl_flag s.now flag i }
+{
+    impl_word(s, ws, i, sheet::IMPL_FLAGS) as usize / flag % 2 == 1
+}
+
 // The definition of a trait.
 pub fn trait_def(s: &[u32], ws: &[u32], t: usize) -> u32
     requires { Indexes s.now ws.now }
     ensures { result ≡ trait_def s.now t }
 {
-    words::offset(s, look(ws, layout::TRAITS, t), 1)
+    words::offset(s, look(ws, layout::TRAITS, t), sheet::TRAIT_DEFINITION)
 }
 
 // How many of a trait's arguments are inherent.
@@ -108,7 +93,7 @@ pub fn inherent(s: &[u32], ws: &[u32], t: usize) -> u32
     requires { Indexes s.now ws.now }
     ensures { result ≡ inherent_params s.now t }
 {
-    words::offset(s, look(ws, layout::TRAITS, t), 3)
+    words::offset(s, look(ws, layout::TRAITS, t), sheet::TRAIT_INHERENT)
 }
 
 // The definition? of an import.
@@ -116,5 +101,5 @@ pub fn import_def(s: &[u32], ws: &[u32], i: usize) -> u32
     requires { Indexes s.now ws.now }
     ensures { result ≡ import_def s.now i }
 {
-    words::offset(s, look(ws, layout::IMPORTS, i), 1)
+    words::offset(s, look(ws, layout::IMPORTS, i), sheet::IMPORT_DEFINITION)
 }

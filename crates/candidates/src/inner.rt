@@ -13,10 +13,8 @@ pub fn selves(ws: &mut [u32], n: usize)
     requires { (n ≤ 384) × (rows_end ≤ length ws.old) }
     ensures { Selves n ws.old ws.new }
 {
-    let mut x = 0;
-    while x < n {
-        set_bit(ws, layout::REACH + 12 * x, x);
-        x += 1;
+    for x in 0..n {
+        set_bit(ws, layout::REACH + layout::ROW * x, x);
     }
 }
 
@@ -25,8 +23,8 @@ fn inner_edge(ws: &mut [u32], x: usize, y: usize)
     requires { (x < 384) × (y < 384) × (rows_end ≤ length ws.old) × (on ws.old (rows_links + 12 * x) y ≡ true) }
     ensures { InnerStep x y ws.old ws.new }
 {
-    if on(ws, layout::REACH + 12 * y, x) {
-        set_bit(ws, layout::OPEN + 12 * x, y);
+    if on(ws, layout::REACH + layout::ROW * y, x) {
+        set_bit(ws, layout::OPEN + layout::ROW * x, y);
     }
 }
 
@@ -35,10 +33,11 @@ fn inner_row(ws: &mut [u32], n: usize, x: usize)
     requires { (n ≤ 384) × (x < n) × (rows_end ≤ length ws.old) }
     ensures { InnerRow n x ws.old ws.new }
 {
-    let mut y = next_on(ws, layout::LINKS + 12 * x, 0, n);
-    while y < n {
+    let row = layout::LINKS + layout::ROW * x;
+    let mut next = next_on(ws, row, 0, n);
+    while let Some(y) = next {
         inner_edge(ws, x, y);
-        y = next_on(ws, layout::LINKS + 12 * x, y + 1, n);
+        next = next_on(ws, row, y + 1, n);
     }
 }
 
@@ -47,9 +46,7 @@ pub fn inner(ws: &mut [u32], n: usize)
     requires { (n ≤ 384) × (rows_end ≤ length ws.old) }
     ensures { InnerAll n n ws.old ws.new }
 {
-    let mut x = 0;
-    while x < n {
+    for x in 0..n {
         inner_row(ws, n, x);
-        x += 1;
     }
 }

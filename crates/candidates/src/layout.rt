@@ -2,6 +2,13 @@
 // then rows of 12 words for each of 384 nodes, then indexes of chains.
 pub const LINKS: usize = 128;
 
+// The marks of definitions, which come first; the nodes, as many as a row has bits; the words of a row.
+pub const MARKS: usize = 128;
+
+pub const NODES: usize = 384;
+
+pub const ROW: usize = 12;
+
 pub const OPEN: usize = 4736;
 
 pub const REACH: usize = 9344;

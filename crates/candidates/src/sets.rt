@@ -7,24 +7,23 @@ ghost use Rattle.rules.specs.Admission.{binding_node};
 ghost use Rattle.candidates.specs.Index.{Indexes};
 ghost use Rattle.candidates.specs.Sets.{Binding, BindingAll, Enters, Bound};
 
-use crate::index::{definition, impl_word, wide};
+use crate::index::{definition, impl_flag, impl_word};
 use crate::layout;
 use crate::rows::set_bit;
 use crate::source::visible;
+use chart::layout::{
+    BINDING_IMPL, BINDING_VIS, DEFINITION_BINDINGS, FLAG_MANUAL, FLAG_NAMED, FLAG_UNSAFE,
+    IMPL_TRAIT,
+};
 
 // "Manual, unsafe and Error impls never enter."
 fn may_enter(s: &[u32], ws: &[u32], i: usize) -> bool
     requires { Indexes s.now ws.now }
     ensures { result ≡ may_enter s.now i }
 {
-    let flags = impl_word(s, ws, i, 2);
-    if flags % 2 == 1 {
-        return false;
-    }
-    if flags / 4 % 2 == 1 {
-        return false;
-    }
-    impl_word(s, ws, i, 3) != 0
+    !impl_flag(s, ws, i, FLAG_MANUAL)
+        && !impl_flag(s, ws, i, FLAG_UNSAFE)
+        && impl_word(s, ws, i, IMPL_TRAIT) != 0
 }
 
 // The node at which a definition binds an impl: its direct level for a named impl, the level within for another.
@@ -32,7 +31,7 @@ fn binding_node(s: &[u32], ws: &[u32], d: usize, i: usize) -> usize
     requires { Indexes s.now ws.now × (d < 128) }
     ensures { (result ≡ binding_node (impl_flag s.now flag_named i) d) × (result < 384) }
 {
-    if impl_word(s, ws, i, 2) / 8 % 2 == 1 {
+    if impl_flag(s, ws, i, FLAG_NAMED) {
         3 * d
     } else {
         3 * d + 1
@@ -44,16 +43,11 @@ fn bind(s: &[u32], ws: &mut [u32], d: usize, b: usize)
     requires { Binding d s.now ws.old }
     ensures { Enters s.now d (b ∷ []) ws.old ws.new }
 {
-    let i = wide(words::offset(s, b, 2));
-    let open = visible(ws, words::offset(s, b, 1));
-    if 384 <= i {
-        return;
-    }
-    if open {
-        if may_enter(s, ws, i) {
-            let x = binding_node(s, ws, d, i);
-            set_bit(ws, layout::SETS + 12 * x, i);
-        }
+    let i = words::offset(s, b, BINDING_IMPL) as usize;
+    let open = visible(ws, words::offset(s, b, BINDING_VIS));
+    if i < layout::NODES && open && may_enter(s, ws, i) {
+        let x = binding_node(s, ws, d, i);
+        set_bit(ws, layout::SETS + layout::ROW * x, i);
     }
 }
 
@@ -62,15 +56,8 @@ fn bind_chain(s: &[u32], ws: &mut [u32], d: usize, head: usize)
     requires { Binding d s.now ws.old }
     ensures { Enters s.now d (chain s.now head) ws.old ws.new }
 {
-    let mut i = head;
-    let mut left = s.len();
-    while left != 0 {
-        if i == 0 {
-            return;
-        }
-        bind(s, ws, d, i);
-        i = words::next(s, i);
-        left -= 1;
+    for b in words::records(s, head) {
+        bind(s, ws, d, b);
     }
 }
 
@@ -79,7 +66,7 @@ fn bind_definition(s: &[u32], ws: &mut [u32], d: usize)
     requires { Binding d s.now ws.old }
     ensures { Enters s.now d (bindings s.now d) ws.old ws.new }
 {
-    let head = wide(definition(s, ws, d, 4));
+    let head = definition(s, ws, d, DEFINITION_BINDINGS) as usize;
     bind_chain(s, ws, d, head);
 }
 
@@ -88,9 +75,7 @@ pub fn bind_all(s: &[u32], ws: &mut [u32], n: usize)
     requires { BindingAll n s.now ws.old }
     ensures { Bound s.now n ws.old ws.new }
 {
-    let mut d = 0;
-    while d < n {
+    for d in 0..n {
         bind_definition(s, ws, d);
-        d += 1;
     }
 }

@@ -4,34 +4,34 @@ ghost use Rattle.candidates.specs.Layout.{candidates_length};
 ghost use Rattle.candidates.specs.Index.{Indexes};
 ghost use Rattle.candidates.specs.Source.{Marked, Climbed, Sourced, seen};
 
-use crate::index::{definition, wide};
+use crate::index::{definition, definitions};
 use crate::layout;
+use chart::layout::DEFINITION_PARENT;
 
 // Marks a definition.
 fn mark(ws: &mut [u32], d: usize)
     requires { 128 ≤ length ws.old }
     ensures { Marked ws.old ws.new d }
 {
-    if d < 128 {
+    if d < layout::MARKS {
         ws[d] = 1;
     }
 }
 
-// Marks the ancestors of a definition.
+// Marks the ancestors of a definition: no more than there are definitions.
 fn climb(s: &[u32], ws: &mut [u32], src: usize)
     requires { (length s.now ≤ 4096) × (candidates_length ≤ length ws.old) × Indexes s.now ws.old }
     ensures { Climbed s.now src ws.old ws.new }
 {
     let mut d = src;
-    let mut left = words::next(ws, layout::DEFINITIONS);
-    while left != 0 {
+    let n = definitions(s, ws);
+    for _ in 0..n {
         mark(ws, d);
-        let p = wide(definition(s, ws, d, 1));
-        if p == 0 {
+        let parent = definition(s, ws, d, DEFINITION_PARENT) as usize;
+        if parent == 0 {
             return;
         }
-        d = p - 1;
-        left -= 1;
+        d = parent - 1;
     }
 }
 
@@ -40,7 +40,7 @@ pub fn source(s: &[u32], ws: &mut [u32], src: usize)
     requires { (length s.now ≤ 4096) × (candidates_length ≤ length ws.old) × Indexes s.now ws.old }
     ensures { Sourced s.now src ws.old ws.new }
 {
-    words::clear(ws, 128);
+    words::clear(ws, layout::MARKS);
     climb(s, ws, src);
 }
 
@@ -48,13 +48,8 @@ pub fn source(s: &[u32], ws: &mut [u32], src: usize)
 pub fn visible(ws: &[u32], vis: u32) -> bool
     ensures { result ≡ seen ws.now vis }
 {
-    if vis == 0 {
-        return true;
-    }
-    let a = wide(vis) - 1;
-    if a < 128 {
-        words::word(ws, a) == 1
-    } else {
-        false
+    match (vis as usize).checked_sub(1) {
+        None => true,
+        Some(a) => a < layout::MARKS && words::word(ws, a) == 1,
     }
 }

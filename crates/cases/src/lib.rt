@@ -1,41 +1,204 @@
-// Stored cases: little-endian words read from a source, a case at a time. oracle/stored/README.md says how they are laid out.
+// Stored cases: little-endian words read from a source, a case at a time, and how many came to what. oracle/stored/README.md says how they are laid out.
 #![tactic(auto)]
 
-ghost use Rattle.std.specs.Prelude.{◌<◌};
+ghost use Rattle.std.specs.Prelude.{◌≡◌, ◌≢◌, ◌↔◌, ◌<◌, ◌^◌, IfOk, IfSome, IfNone, vec_len};
+ghost use Rattle.refusals.specs.Numbers.{number_of};
+ghost use Rattle.cases.specs.Word.{TakesWord};
 
+use refusals::Refusal;
+use std::alloc::Global;
 use std::io;
 use std::io::{ErrorKind, Read};
 
-// A word of four bytes, the lowest first.
-pub fn word_of(b: [u8; 4]) -> u32 {
-    wide(b[0]) + 256 * wide(b[1]) + 65536 * wide(b[2]) + 16777216 * wide(b[3])
-}
+mod tally;
 
-fn wide(b: u8) -> u32
-    ensures { result < 256 }
+pub use tally::Tally;
+
+// The next word, if there is one.
+fn next_word<R: Read>(source: &mut R) -> io::Result<Option<u32>>
+    ensures { IfOk result (λ word. IfSome word (TakesWord (R.remaining source.old) (R.remaining source.new))) }
 {
-    b as u32
-}
-
-// The next word; 0 at the end.
-pub fn read_word<R: Read>(source: &mut R) -> io::Result<u32> {
-    let mut b = [0u8; 4];
-    match source.read_exact(&mut b) {
-        Ok(()) => Ok(word_of(b)),
-        Err(e) if e.kind() == ErrorKind::UnexpectedEof => Ok(0),
-        Err(e) => Err(e),
+    let mut bytes = [0u8; 4];
+    match source.read_exact(&mut bytes) {
+        Ok(()) => Ok(Some(u32::from_le_bytes(bytes))),
+        Err(why) if why.kind() == ErrorKind::UnexpectedEof => Ok(None),
+        Err(why) => Err(why),
     }
 }
 
-// Reads n words into the front of a buffer, or as many as it has room for.
-pub fn read_words<R: Read>(source: &mut R, buf: &mut [u32], n: usize) -> io::Result<()> {
-    let mut i = 0;
-    while i < n {
-        if buf.len() <= i {
-            return Ok(());
+/// The next word; 0 at the end.
+pub fn read_word<R: Read>(source: &mut R) -> io::Result<u32>
+    ensures { IfOk result (λ word. word ≢ 0 → TakesWord (R.remaining source.old) (R.remaining source.new) word) }
+{
+    Ok(next_word(source)?.unwrap_or(0))
+}
+
+/// Words behind their number; as many as there are where the source ends before.
+pub fn read_words<R: Read>(alloc: Global, source: &mut R) -> io::Result<Vec<u32>>
+    ensures { IfOk result (λ words. vec_len words < 2 ^ 32) }
+{
+    let n = read_word(source)?;
+    let mut words = Vec::new(alloc);
+    for _ in 0..n {
+        let Some(word) = next_word(source)? else {
+            break
+        };
+        words.push(word)?;
+    }
+    Ok(words)
+}
+
+/// Which call is made.
+#[derive(Clone, Copy, Debug, PartialEq, Eq)]
+pub enum Form {
+    Impl { basic: u32 },
+    Flex,
+    Listing,
+}
+
+impl Form {
+    fn new(form: u32, basic: u32) -> Self
+        ensures impls { form ≡ 0 → result ≡ Form.Impl basic }
+        ensures listings { form ≡ 2 ↔ (result ≡ Form.Listing) }
+    {
+        match form {
+            0 => Form::Impl { basic },
+            2 => Form::Listing,
+            _ => Form::Flex,
         }
-        buf[i] = read_word(source)?;
-        i += 1;
     }
-    Ok(())
+}
+
+/// How many words of the answer buffer and of the workspace are lent.
+#[derive(Clone, Copy, Debug, PartialEq, Eq)]
+pub struct Lent {
+    pub answer: usize,
+    pub workspace: usize,
+}
+
+impl Lent {
+    fn read<R: Read>(source: &mut R) -> io::Result<Self> {
+        Ok(Lent {
+            answer: read_word(source)? as usize,
+            workspace: read_word(source)? as usize,
+        })
+    }
+}
+
+/// Who asks.
+#[derive(Clone, Copy, Debug, PartialEq, Eq)]
+pub struct Asker {
+    pub source: u32,
+    pub generics: u32,
+}
+
+impl Asker {
+    fn read<R: Read>(source: &mut R) -> io::Result<Self> {
+        Ok(Asker {
+            source: read_word(source)?,
+            generics: read_word(source)?,
+        })
+    }
+}
+
+/// What a call comes to: why it is turned away, if it is, and the count after it.
+#[derive(Clone, Copy, Debug, PartialEq, Eq)]
+pub struct End {
+    pub refusal: Option<Refusal>,
+    pub count: u32,
+}
+
+/// The number of a refusal; 0 where there is none.
+pub fn number(refusal: Option<Refusal>) -> u32
+    ensures passed { IfNone refusal (result ≡ 0) }
+    ensures refused { IfSome refusal (λ refusal. result ≡ number_of refusal) }
+{
+    refusal.map_or(0, |refusal| refusal.number())
+}
+
+/// A call with its end and its answer's words, as they are stored.
+#[derive(Debug, Drop)]
+pub struct Call {
+    pub form: Form,
+    pub lent: Lent,
+    pub question: Vec<u32>,
+    pub end: End,
+    pub answer: Vec<u32>,
+}
+
+impl Call {
+    // What is behind the words that say how a call is made.
+    fn read_behind<R: Read>(
+        alloc: Global,
+        source: &mut R,
+        form: Form,
+        lent: Lent,
+    ) -> io::Result<Self> {
+        Ok(Call {
+            form,
+            lent,
+            question: read_words(alloc, source)?,
+            end: End {
+                refusal: Refusal::from_number(read_word(source)?),
+                count: read_word(source)?,
+            },
+            answer: read_words(alloc, source)?,
+        })
+    }
+
+    /// The next call of a sitting.
+    pub fn read<R: Read>(alloc: Global, source: &mut R) -> io::Result<Self> {
+        let form = Form::new(read_word(source)?, read_word(source)?);
+        let lent = Lent::read(source)?;
+        Call::read_behind(alloc, source, form, lent)
+    }
+}
+
+/// A call from a count on a sheet of its own.
+#[derive(Debug, Drop)]
+pub struct Case {
+    pub asker: Asker,
+    pub count: u32,
+    pub sheet: Vec<u32>,
+    pub call: Call,
+}
+
+impl Case {
+    pub fn read<R: Read>(alloc: Global, source: &mut R) -> io::Result<Self> {
+        let _length = read_word(source)?;
+        let form = read_word(source)?;
+        let asker = Asker::read(source)?;
+        let form = Form::new(form, read_word(source)?);
+        let count = read_word(source)?;
+        let lent = Lent::read(source)?;
+        let sheet = read_words(alloc, source)?;
+        let call = Call::read_behind(alloc, source, form, lent)?;
+        Ok(Case {
+            asker,
+            count,
+            sheet,
+            call,
+        })
+    }
+}
+
+/// What the calls of a sitting share, which follow it: who asks, the count that the first begins with, and the sheet; and how many there are.
+#[derive(Debug, Drop)]
+pub struct Sitting {
+    pub asker: Asker,
+    pub count: u32,
+    pub sheet: Vec<u32>,
+    pub calls: u32,
+}
+
+impl Sitting {
+    pub fn read<R: Read>(alloc: Global, source: &mut R) -> io::Result<Self> {
+        let _length = read_word(source)?;
+        Ok(Sitting {
+            asker: Asker::read(source)?,
+            count: read_word(source)?,
+            sheet: read_words(alloc, source)?,
+            calls: read_word(source)?,
+        })
+    }
 }

@@ -8,7 +8,7 @@ use Rattle.rules.specs.Layout.{header_length, binding_length, member_length, imp
 use Rattle.rules.specs.Sheet.{at}
 use Rattle.rules.specs.Chains.{record_keeps, head_keeps, no_heads, cells_keep, nodes_keep, plain_keep, impl_params_keep}
 use Rattle.words.specs.Buffers.{cleared}
-use Rattle.chains.specs.Walks.{Kept, Tested, Walked, nothing, never, kept_below, kept_above, ok_no, ok_yes}
+use Rattle.chains.specs.Walks.{ok_at, Kept, Tested, Walked, nothing, kept_below, kept_above, ok_yes}
 
 -- The heads of records over cells: one, `off` words on.
 unfoldable pub over_cells : ℕ → Words → ℕ → ℕ → Bool
@@ -20,22 +20,19 @@ Cells s ws = Kept s cell_length no_heads 0 ws
 
 -- A record with one head of cells, tested.
 module _ (lo : ℕ) (s : Words) (len off b p : ℕ) (ws : Words) (k : Bool) (e : k ≡ record_keeps s len p) where
-  pub celled_no : (us : Words) → not k ≡ true → Tested (Cells s) (length s) s len (over_cells lo s off) b p ws us false
-  celled_no us f = record { is = ok_no s len (over_cells lo s off) p k e f; rest = never; others = never }
-
   module _ (h : ℕ) (us : Words) (r : Bool) (f : not k ≡ false) (q : h ≡ at s (p + off)) (w : Walked nothing 0 lo s cell_length no_heads 0 h ws us r) where
     heads_is : r ≡ over_cells lo s off p
     unfolding over_cells cells_keep
     heads_is = w.is ∙ ap (head_keeps lo s cell_length no_heads) q
 
-    pub celled_low : not r ≡ true → Tested (Cells s) (length s) s len (over_cells lo s off) b p ws us false
-    celled_low g = record { is = ok_yes s len (over_cells lo s off) p k e f false (sym (not-true r g) ∙ heads_is); rest = never; others = never }
+    pub celled_low : not r ≡ true → ok_at s len (over_cells lo s off) p ≡ false
+    celled_low g = sym (ok_yes s len (over_cells lo s off) p k e f false (sym (not-true r g) ∙ heads_is))
 
-    pub celled_yes : length s ≤ b → not r ≡ false → Tested (Cells s) (length s) s len (over_cells lo s off) b p ws (set us (b + p) 1) true
+    pub celled_yes : length s ≤ b → not r ≡ false → Tested (Cells s) (length s) s len (over_cells lo s off) b p ws (set us (b + p) 1)
     celled_yes l g = record {
-      is = ok_yes s len (over_cells lo s off) p k e f true (sym (not-false r g) ∙ heads_is);
-      rest = λ t. record { is = λ v i m. (w.kept (not-false r g)).is v i (sym (get_or-set_other us (b + p) (0 + v) 1 0 (λ z. absurd (omega arith))) ∙ m) };
-      others = λ t j i d. get_or-set_other us (b + p) j 1 0 d ∙ (w.apart (not-false r g)).above j (omega arith) (omega arith);
+      is = sym (ok_yes s len (over_cells lo s off) p k e f true (sym (not-false r g) ∙ heads_is));
+      rest = record { is = λ v i m. (w.kept (not-false r g)).is v i (sym (get_or-set_other us (b + p) (0 + v) 1 0 (λ z. absurd (omega arith))) ∙ m) };
+      others = λ j i d. get_or-set_other us (b + p) j 1 0 d ∙ (w.apart (not-false r g)).above j (omega arith) (omega arith);
     }
 
 -- All planes.

@@ -1,5 +1,9 @@
 -- A walk along a chain of one kind: what marks say, what holds on the way, and how a walk ends.
-use Rattle.std.specs.Prelude.{ℕ, zero, suc, ◌+◌, ◌-◌, ◌≤◌, ◌<◌, ◌≡◌, refl, Bool, not, ◌≢◌, ◌⊎◌, T, eqb, leb, set}
+use Rattle.std.specs.Prelude.{ℕ, zero, suc, ◌+◌, ◌-◌, ◌≤◌, ◌<◌, ◌≡◌, refl, Bool, not, [], ◌∷◌, ◌≢◌, ◌⊎◌, T, eqb, leb, set}
+use Rattle.std.specs.Borrow.{MutBor}
+use Rattle.std.specs.ControlFlow.{MatchControlFlow}
+use Rattle.std.specs.declared.ops.ControlFlow.{ControlFlow}
+use Rattle.std.specs.declared.ops.ControlFlow.TheVariants.{Continue, Break}
 use Rattle.std.proofs.Common.{sym, ◌∙◌, subst, inl, inr, arith, get_or-set_other}
 use Rattle.std.proofs.Math.Path.{ap}
 use Rattle.std.proofs.Math.Bool.{true, false}
@@ -7,7 +11,7 @@ use Rattle.std.proofs.Math.Decide.{ℕ_discrete}
 use borrow.Author.Tests.{eqb-true, not-true, not-false}
 use Rattle.std.proofs.Math.ListN.{length}
 use Rattle.rules.specs.Lists.{Words}
-use Rattle.rules.specs.Sheet.{at}
+use Rattle.rules.specs.Sheet.{at, chain, chain_of}
 use Rattle.rules.specs.Chains.{zero_or_from, record_keeps, chain_keeps, head_keeps, no_heads}
 use Rattle.rules.specs.ChainLaws.{sits_in, runs_step, runs_end}
 
@@ -34,11 +38,74 @@ pub record Known (s : Words) (b p : ℕ) (ws : Words) (r : Bool) : Type 0 where
   pub inside : r ≡ true → p < length s
   pub marked : r ≡ true → at ws (b + p) ≡ 1
 
--- A record is tested, and marked where it passes: words from c on are as they were but for the mark, and Q holds of the workspace.
-pub record Tested (Q : Words → Type 0) (c : ℕ) (s : Words) (len : ℕ) (heads : ℕ → Bool) (b p : ℕ) (ws us : Words) (r : Bool) : Type 0 where
-  pub is : r ≡ ok_at s len heads p
-  pub rest : r ≡ true → Q us
-  pub others : r ≡ true → (j : ℕ) → c ≤ j → j ≢ b + p → at us j ≡ at ws j
+-- A record passed and is marked: words from c on are as they were but for the mark, and Q holds of the workspace.
+pub record Tested (Q : Words → Type 0) (c : ℕ) (s : Words) (len : ℕ) (heads : ℕ → Bool) (b p : ℕ) (ws us : Words) : Type 0 where
+  pub is : ok_at s len heads p ≡ true
+  pub rest : Q us
+  pub others : (j : ℕ) → c ≤ j → j ≢ b + p → at us j ≡ at ws j
+
+-- What a test of a record tells: the walk ends where its place is marked, and where it does not pass; else it goes on.
+abbrev pub Tells : (Words → Type 0) → ℕ → Words → ℕ → (ℕ → Bool) → ℕ → ℕ → Words → Words → ControlFlow Bool (Unit {0}) → Type 0
+Tells Q c s len heads b p ws us (Continue u) = Tested Q c s len heads b p ws us
+Tells Q c s len heads b p ws us (Break true) = Known s b p ws true × (us ≡ ws)
+Tells Q c s len heads b p ws us (Break false) = ok_at s len heads p ≡ false
+
+-- The same of a test without marks.
+abbrev pub on : Bool → ControlFlow Bool (Unit {0})
+on true = Continue tt
+on false = Break false
+
+-- A test that runs along some records, up to one where it ends the walk.
+unfoldable pub Runs : (Words → ℕ → ControlFlow Bool (Unit {0}) → Words → Type 0) → Words → Words → Words → Bool → Type 0
+Runs R [] us vs r = (us ≡ vs) × (r ≡ true)
+Runs R (p ∷ ps) us vs r = (f : ControlFlow Bool (Unit {0})) × (xs : Words) × R us p f xs × MatchControlFlow f (λ u. Runs R ps xs vs r) (λ e. (xs ≡ vs) × (r ≡ e))
+
+-- So along the chain from a head, where the head is not too low.
+pub record Walks (R : Words → ℕ → ControlFlow Bool (Unit {0}) → Words → Type 0) (lo : ℕ) (s : Words) (h : ℕ) (ws vs : Words) (r : Bool) : Type 0 where
+  pub low : zero_or_from lo h ≡ false → r ≡ false
+  pub runs : zero_or_from lo h ≡ true → Runs R (chain s h) ws vs r
+
+-- The calls of a closure as such a test: what it is lent, what it gives and what it leaves.
+unfoldable pub Calls : (MutBor Words → ℕ → ControlFlow Bool (Unit {0}) → MutBor Words → Type 0) → Words → ℕ → ControlFlow Bool (Unit {0}) → Words → Type 0
+Calls post us p f xs = (lent : MutBor Words) × (left : MutBor Words) × (lent.now ≡ us) × (left.now ≡ xs) × post lent p f left
+
+-- What is promised of a test that passes, where it failed.
+pub never : {A : Type 0} → false ≡ true → A
+never e = absurd (subst T (sym e) tt)
+
+module _ (R : Words → ℕ → ControlFlow Bool (Unit {0}) → Words → Type 0) where
+  -- No record is left,
+  pub runs_none : (rest us : Words) → rest ≡ [] → Runs R rest us us true
+  unfolding Runs
+  runs_none rest us e = subst (λ ps. Runs R ps us us true) (sym e) (refl, refl)
+
+  module _ (p : ℕ) (rest more us xs : Words) (q : rest ≡ p ∷ more) where
+    -- the test ends the walk at the first,
+    pub runs_break : (e : Bool) → R us p (Break e) xs → Runs R rest us xs e
+    unfolding Runs
+    runs_break e a = subst (λ ps. Runs R ps us xs e) (sym q) (Break e, xs, a, (refl, refl))
+
+    -- or goes on to the others.
+    pub runs_more : (vs : Words) (r : Bool) → R us p (Continue tt) xs → Runs R more xs vs r → Runs R rest us vs r
+    unfolding Runs
+    runs_more vs r a n = subst (λ ps. Runs R ps us vs r) (sym q) (Continue tt, xs, a, n)
+
+  module _ (lo : ℕ) (s : Words) (h : ℕ) (ws vs : Words) where
+    pub walks_low : zero_or_from lo h ≡ false → Walks R lo s h ws vs false
+    walks_low z = record { low = λ e. refl; runs = λ e. never (sym z ∙ e) }
+
+    pub walks_from : (r : Bool) → zero_or_from lo h ≡ true → Runs R (chain s h) ws vs r → Walks R lo s h ws vs r
+    walks_from r z n = record { low = λ e. never (sym e ∙ z); runs = λ e. n }
+
+-- One call of a closure.
+pub called : (post : MutBor Words → ℕ → ControlFlow Bool (Unit {0}) → MutBor Words → Type 0) (lent left : MutBor Words) (p : ℕ) (f : ControlFlow Bool (Unit {0})) → post lent p f left → Calls post lent.now p f left.now
+unfolding Calls
+called post lent left p f a = (lent, left, refl, refl, a)
+
+-- What each call of it tells.
+pub by_calls : (post : MutBor Words → ℕ → ControlFlow Bool (Unit {0}) → MutBor Words → Type 0) (P : Words → ℕ → ControlFlow Bool (Unit {0}) → Words → Type 0) → ((lent left : MutBor Words) (p : ℕ) (f : ControlFlow Bool (Unit {0})) → post lent p f left → P lent.now p f left.now) → (us : Words) (p : ℕ) (f : ControlFlow Bool (Unit {0})) (xs : Words) → Calls post us p f xs → P us p f xs
+unfolding Calls
+by_calls post P t us p f xs (lent, left, e, g, a) = subst (λ ws. P ws p f xs) e (subst (P lent.now p f) g (t lent left p f a))
 
 -- A walk from head h is over. Where it found a chain that keeps the rule, all marks are right.
 pub record Walked (Q : Words → Type 0) (c lo : ℕ) (s : Words) (len : ℕ) (heads : ℕ → Bool) (b h : ℕ) (ws us : Words) (r : Bool) : Type 0 where
@@ -59,10 +126,6 @@ pub record Going (Q : Words → Type 0) (c : ℕ) (s : Words) (len : ℕ) (heads
 abbrev pub nothing : Words → Type 0
 nothing ws = Unit {0}
 
--- What is promised of a test that passes, where it failed.
-pub never : {A : Type 0} → false ≡ true → A
-never e = absurd (subst T (sym e) tt)
-
 ok_record : (s : Words) (len : ℕ) (heads : ℕ → Bool) (p : ℕ) → ok_at s len heads p ≡ true → T (record_keeps s len p)
 unfolding ok_at
 ok_record s len heads p e = go (record_keeps s len p) refl
@@ -82,12 +145,12 @@ module _ (s : Words) (len : ℕ) (heads : ℕ → Bool) (p : ℕ) (long : 0 < le
   breaks e = runs_step s len long heads p (omega arith) some ∙ ap (λ x. elim x as (λ b. Bool) [ true ↦ chain_keeps s len heads (at s p) | false ↦ false ]) e
 
   -- A walk ends.
-  pub left_falls : (r : Bool) (q : ℕ) → r ≡ ok_at s len heads p → not r ≡ false → q ≡ at s p → left (length s) q < left (length s) p
+  pub left_falls : (q : ℕ) → ok_at s len heads p ≡ true → q ≡ at s p → left (length s) q < left (length s) p
   unfolding left
-  left_falls r q e f n = go p q pos room.0 (next room.1)
+  left_falls q e n = go p q pos room.0 (next room.1)
     where
       room : (p + len ≤ length s) × ((at s p ≡ 0) ⊎ (p + len ≤ at s p))
-      room = (sits_in s len p).0 (ok_record s len heads p (sym e ∙ not-false r f))
+      room = (sits_in s len p).0 (ok_record s len heads p e)
 
       next : (at s p ≡ 0) ⊎ (p + len ≤ at s p) → (q ≡ 0) ⊎ (p < q)
       next (inl z) = inl (n ∙ z)
@@ -100,7 +163,7 @@ module _ (s : Words) (len : ℕ) (heads : ℕ → Bool) (p : ℕ) (long : 0 < le
       go (suc p) (suc q) z l (inr m) = omega arith
 
 -- The test of a head.
-pub head_zero : (lo h : ℕ) → h ≡ 0 → true ≡ zero_or_from lo h
+pub head_zero : (lo h : ℕ) → h ≡ 0 → eqb h 0 ≡ zero_or_from lo h
 unfolding zero_or_from
 head_zero lo zero e = refl
 head_zero lo (suc h) e = absurd (omega arith)
@@ -111,14 +174,14 @@ head_from lo zero d = absurd (d refl)
 head_from lo (suc h) d = refl
 
 -- Head h: too low, or its chain decides.
-module _ (lo : ℕ) (s : Words) (len : ℕ) (heads : ℕ → Bool) (h : ℕ) (z : Bool) (e : z ≡ zero_or_from lo h) where
-  pub head_no : not z ≡ true → false ≡ head_keeps lo s len heads h
+module _ (lo : ℕ) (s : Words) (len : ℕ) (heads : ℕ → Bool) (h : ℕ) where
+  pub head_no : zero_or_from lo h ≡ false → false ≡ head_keeps lo s len heads h
   unfolding head_keeps
-  head_no f = rw (sym e ∙ not-true z f, head_keeps)
+  head_no f = rw (f, head_keeps)
 
-  pub head_yes : not z ≡ false → (r : Bool) → r ≡ chain_keeps s len heads h → r ≡ head_keeps lo s len heads h
+  pub head_yes : zero_or_from lo h ≡ true → (r : Bool) → r ≡ chain_keeps s len heads h → r ≡ head_keeps lo s len heads h
   unfolding head_keeps
-  head_yes f r q = rw (sym e ∙ not-false z f, head_keeps) q
+  head_yes f r q = rw (f, head_keeps) q
 
 -- The plane keeps what it has where others are written.
 pub kept_below : (s : Words) (len : ℕ) (heads : ℕ → Bool) (a c b n : ℕ) (ws us : Words) → Kept s len heads a ws → Apart c b n ws us → c ≤ a → a + length s ≤ b → Kept s len heads a us
@@ -150,64 +213,55 @@ module _ (s : Words) (len : ℕ) (heads : ℕ → Bool) (p : ℕ) (k : Bool) (e 
 
 -- A plain record, tested.
 module _ (s : Words) (len b p : ℕ) (ws : Words) (k : Bool) (e : k ≡ record_keeps s len p) where
-  pub plain_no : (us : Words) → not k ≡ true → Tested nothing 0 s len no_heads b p ws us false
-  plain_no us f = record { is = ok_no s len no_heads p k e f; rest = never; others = never }
-
-  pub plain_yes : not k ≡ false → Tested nothing 0 s len no_heads b p ws (set ws (b + p) 1) true
-  plain_yes f = record { is = ok_yes s len no_heads p k e f true refl; rest = λ t. tt; others = λ t j l d. get_or-set_other ws (b + p) j 1 0 d }
+  pub plain_yes : not k ≡ false → Tested nothing 0 s len no_heads b p ws (set ws (b + p) 1)
+  plain_yes f = record { is = sym (ok_yes s len no_heads p k e f true refl); rest = tt; others = λ j l d. get_or-set_other ws (b + p) j 1 0 d }
 
 -- Walks.
 module _ (Q : Words → Type 0) (c lo : ℕ) (s : Words) (len : ℕ) (heads : ℕ → Bool) (b h : ℕ) (ws : Words) where
   pub going_start : Kept s len heads b ws → Q ws → Going Q c s len heads b h h ws ws
   going_start k q = record { same = refl; rest = q; ahead = λ v l m e. k.is v l e; behind = λ e. k; apart = record { below = λ j l m. refl; above = λ j l m. refl } }
 
-  pub walked_low : (z : Bool) → z ≡ zero_or_from lo h → not z ≡ true → Walked Q c lo s len heads b h ws ws false
-  walked_low z e f = record { is = head_no lo s len heads h z e f; rest = never; kept = never; apart = never }
+  pub walked_low : (vs : Words) → zero_or_from lo h ≡ false → Walked Q c lo s len heads b h ws vs false
+  walked_low vs f = record { is = head_no lo s len heads h f; rest = never; kept = never; apart = never }
 
-  module _ (p : ℕ) (us : Words) (long : 0 < len) (some : 0 < length s) (g : Going Q c s len heads b h p ws us) where
-    over : (z : Bool) → z ≡ zero_or_from lo h → not z ≡ false → chain_keeps s len heads p ≡ true → Walked Q c lo s len heads b h ws us true
-    over z e f k = record { is = head_yes lo s len heads h z e f true (sym (g.same ∙ k)); rest = λ t. g.rest; kept = λ t. g.behind k; apart = λ t. g.apart }
+  module _ (p : ℕ) (us : Words) (long : 0 < len) (some : 0 < length s) (y : zero_or_from lo h ≡ true) (g : Going Q c s len heads b h p ws us) where
+    over : chain_keeps s len heads p ≡ true → Walked Q c lo s len heads b h ws us true
+    over k = record { is = head_yes lo s len heads h y true (sym (g.same ∙ k)); rest = λ t. g.rest; kept = λ t. g.behind k; apart = λ t. g.apart }
 
-    pub walked_end : (z : Bool) → z ≡ zero_or_from lo h → not z ≡ false → p ≡ 0 → Walked Q c lo s len heads b h ws us true
-    walked_end z e f n = over z e f (ap (chain_keeps s len heads) n ∙ runs_end s len long heads)
+    pub walked_end : p ≡ 0 → Walked Q c lo s len heads b h ws us true
+    walked_end n = over (ap (chain_keeps s len heads) n ∙ runs_end s len long heads)
 
-    pub walked_known : (z r : Bool) → z ≡ zero_or_from lo h → not z ≡ false → Known s b p us r → r ≡ true → Walked Q c lo s len heads b h ws us true
-    walked_known z r e f k t = over z e f (g.ahead p (k.inside t) (omega arith) (k.marked t))
+    pub walked_known : Known s b p us true → Walked Q c lo s len heads b h ws us true
+    walked_known k = over (g.ahead p (k.inside refl) (omega arith) (k.marked refl))
 
-    pub walked_broken : (z r : Bool) (vs : Words) → z ≡ zero_or_from lo h → not z ≡ false → p ≢ 0 → Tested Q c s len heads b p us vs r → not r ≡ true → Walked Q c lo s len heads b h ws vs false
-    walked_broken z r vs e f n t x = record {
-      is = head_yes lo s len heads h z e f false (sym (g.same ∙ breaks s len heads p long some n (sym t.is ∙ not-true r x)));
+    pub walked_broken : (vs : Words) → p ≢ 0 → ok_at s len heads p ≡ false → Walked Q c lo s len heads b h ws vs false
+    walked_broken vs n t = record {
+      is = head_yes lo s len heads h y false (sym (g.same ∙ breaks s len heads p long some n t));
       rest = never;
       kept = never;
       apart = never;
     }
 
-    pub going_on : (r : Bool) (q : ℕ) (vs : Words) → c ≤ b → p ≢ 0 → Tested Q c s len heads b p us vs r → not r ≡ false → q ≡ at s p → Going Q c s len heads b h q ws vs
-    going_on r q vs low n t x m = record {
+    pub going_on : (q : ℕ) (vs : Words) → c ≤ b → p ≢ 0 → Tested Q c s len heads b p us vs → q ≡ at s p → Going Q c s len heads b h q ws vs
+    going_on q vs low n t m = record {
       same = g.same ∙ step;
-      rest = t.rest yes';
+      rest = t.rest;
       ahead = λ v l k e. later v l k e room.1;
       behind = behind;
       apart = record {
-        below = λ j l k. t.others yes' j l (λ z. absurd (omega arith)) ∙ g.apart.below j l k;
-        above = λ j l k. t.others yes' j l (λ z. absurd (omega (arith, room.0))) ∙ g.apart.above j l k;
+        below = λ j l k. t.others j l (λ z. absurd (omega arith)) ∙ g.apart.below j l k;
+        above = λ j l k. t.others j l (λ z. absurd (omega (arith, room.0))) ∙ g.apart.above j l k;
       };
     }
       where
-        yes' : r ≡ true
-        yes' = not-false r x
-
-        fine : ok_at s len heads p ≡ true
-        fine = sym t.is ∙ yes'
-
         room : (p + len ≤ length s) × ((at s p ≡ 0) ⊎ (p + len ≤ at s p))
-        room = (sits_in s len p).0 (ok_record s len heads p fine)
+        room = (sits_in s len p).0 (ok_record s len heads p t.is)
 
         step : chain_keeps s len heads p ≡ chain_keeps s len heads q
-        step = goes_on s len heads p long some n fine ∙ ap (chain_keeps s len heads) (sym m)
+        step = goes_on s len heads p long some n t.is ∙ ap (chain_keeps s len heads) (sym m)
 
         old : (v : ℕ) → v ≢ p → at vs (b + v) ≡ at us (b + v)
-        old v d = t.others yes' (b + v) (omega arith) (λ z. d (omega arith))
+        old v d = t.others (b + v) (omega arith) (λ z. d (omega arith))
 
         behind : chain_keeps s len heads q ≡ true → Kept s len heads b vs
         behind k = record { is = λ v l e. go v l e (ℕ_discrete v p) }
@@ -219,3 +273,31 @@ module _ (Q : Words → Type 0) (c lo : ℕ) (s : Words) (len : ℕ) (heads : �
         later : (v : ℕ) → v < length s → q ≤ v → at vs (b + v) ≡ 1 → (at s p ≡ 0) ⊎ (p + len ≤ at s p) → chain_keeps s len heads v ≡ true
         later v l k e (inl z) = (behind (ap (chain_keeps s len heads) (m ∙ z) ∙ runs_end s len long heads)).is v l e
         later v l k e (inr w) = g.ahead v l (omega arith) (sym (old v (λ d. absurd (omega arith))) ∙ e)
+
+pub left_short : (s : Words) → 0 < length s → (p : ℕ) → left (length s) p ≤ length s
+unfolding left
+left_short s some zero = omega arith
+left_short s some (suc p) = omega arith
+
+-- A walk whose test tells so much is over as the rule says.
+module _ (Q : Words → Type 0) (c lo : ℕ) (s : Words) (len : ℕ) (heads : ℕ → Bool) (b h : ℕ) (ws : Words) (R : Words → ℕ → ControlFlow Bool (Unit {0}) → Words → Type 0) (long : 0 < len) (some : 0 < length s) (low : c ≤ b) (tells : (us : Words) (p : ℕ) (f : ControlFlow Bool (Unit {0})) (xs : Words) → Q us → R us p f xs → Tells Q c s len heads b p us xs f) where
+  run_over : (y : zero_or_from lo h ≡ true) (k p : ℕ) (us vs : Words) (r : Bool) → left (length s) p ≤ k → Going Q c s len heads b h p ws us → Runs R (chain_of k s p) us vs r → Walked Q c lo s len heads b h ws vs r
+  unfolding left chain_of Runs
+  run_over y zero zero us vs r l g (e, t) = rw (t, sym e) (walked_end Q c lo s len heads b h ws 0 us long some y g refl)
+  run_over y zero (suc p) us vs r l g n = absurd (omega arith)
+  run_over y (suc k) zero us vs r l g (e, t) = rw (t, sym e) (walked_end Q c lo s len heads b h ws 0 us long some y g refl)
+  run_over y (suc k) (suc p) us vs r l g (f, xs, a, n) = go f (tells us (suc p) f xs g.rest a) n (run_over y k (at s (suc p)) xs vs r)
+    where
+      go : (f : ControlFlow Bool (Unit {0})) → Tells Q c s len heads b (suc p) us xs f → MatchControlFlow f (λ u. Runs R (chain_of k s (at s (suc p))) xs vs r) (λ e. (xs ≡ vs) × (r ≡ e)) →
+          (left (length s) (at s (suc p)) ≤ k → Going Q c s len heads b h (at s (suc p)) ws xs → Runs R (chain_of k s (at s (suc p))) xs vs r → Walked Q c lo s len heads b h ws vs r) → Walked Q c lo s len heads b h ws vs r
+      go (Continue u) t n ih = ih (omega (arith, left_falls s len heads (suc p) long some (λ q. omega arith) (at s (suc p)) t.is refl)) (going_on Q c lo s len heads b h ws (suc p) us long some y g (at s (suc p)) xs low (λ q. omega arith) t refl) n
+      go (Break true) t n ih = rw (n.1, sym n.0, t.1) (walked_known Q c lo s len heads b h ws (suc p) us long some y g t.0)
+      go (Break false) t n ih = rw n.1 (walked_broken Q c lo s len heads b h ws (suc p) us long some y g vs (λ q. omega arith) t)
+
+  pub walked : (vs : Words) (r : Bool) → Kept s len heads b ws → Q ws → Walks R lo s h ws vs r → Walked Q c lo s len heads b h ws vs r
+  unfolding chain
+  walked vs r k q w = go (zero_or_from lo h) refl
+    where
+      go : (z : Bool) → zero_or_from lo h ≡ z → Walked Q c lo s len heads b h ws vs r
+      go true y = run_over y (length s) h ws vs r (left_short s some h) (going_start Q c lo s len heads b h ws k q) (w.runs y)
+      go false y = rw (w.low y) (walked_low Q c lo s len heads b h ws vs y)

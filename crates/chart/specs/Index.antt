@@ -1,13 +1,12 @@
 -- What an index of a chain is, and the laws that the loop which writes it cites.
-use Prim.Native.Nat.{ℕ, zero, suc, ◌+◌, ◌-◌, ◌≤◌, ◌<◌}
-use Rattle.std.specs.Prelude.{◌≡◌, refl, ◌∷◌, ◌≢◌, set}
-use Rattle.std.proofs.Common.{sym, ◌∙◌, subst, ⊎_elim, zero-add, add-zero, eq-or-lt_of_le, length-set, get_or-set_same, get_or-set_other}
+use Prim.Native.Nat.{ℕ, zero, suc, ◌+◌, ◌≤◌, ◌<◌}
+use Rattle.std.specs.Prelude.{◌≡◌, refl, [], ◌∷◌, set}
+use Rattle.std.proofs.Common.{sym, ◌∙◌, subst, ⊎_elim, zero-add, add-zero, eq-or-lt_of_le, length-set, get_or-set_same, get_or-set_other, Fits, w32, Fits-lit}
 use Rattle.std.proofs.Math.Path.{ap}
 use native.Mathlib.Omega.{arith}
 use Rattle.std.proofs.Math.ListN.{length}
 use Rattle.rules.specs.Lists.{Words}
 use Rattle.rules.specs.Sheet.{at, chain, chain_of, records, many, field}
-use Rattle.rules.specs.WordLaws.{count_start, count_end, count_on, count_full}
 
 -- us is ws but for the n places from b on, which hold the places of the records of the chain from a head.
 pub record Indexed (s : Words) (head : ℕ) (ws us : Words) (b n : ℕ) : Type 0 where
@@ -16,72 +15,65 @@ pub record Indexed (s : Words) (head : ℕ) (ws us : Words) (b n : ℕ) : Type 0
   pub below : (i : ℕ) → i < b → at us i ≡ at ws i
   pub above : (i : ℕ) → b + n ≤ i → at us i ≡ at ws i
 
--- n places are written, and the chain goes on at i.
-pub record Indexing (s : Words) (head : ℕ) (ws us : Words) (b n i : ℕ) : Type 0 where
+-- n places are written, and these are left.
+pub record Indexing (s : Words) (head : ℕ) (ws us : Words) (b n : ℕ) (left : Words) : Type 0 where
   pub long : length us ≡ length ws
-  pub low : n ≤ length s
-  pub count : n + length (chain_of (length s - n) s i) ≡ length (chain s head)
-  pub rest : (k : ℕ) → at (chain_of (length s - n) s i) k ≡ at (chain s head) (n + k)
+  pub count : n + length left ≡ length (chain s head)
+  pub rest : (k : ℕ) → at left k ≡ at (chain s head) (n + k)
   pub place : (j : ℕ) → j < n → at us (b + j) ≡ at (chain s head) j
   pub below : (j : ℕ) → j < b → at us j ≡ at ws j
   pub above : (j : ℕ) → b + n ≤ j → at us j ≡ at ws j
 
+-- A place is a word of the slice, or the head.
+of_fits : (s : Words) (k i j : ℕ) → Fits w32 i → ((j : ℕ) → Fits w32 (at s j)) → Fits w32 (at (chain_of k s i) j)
+unfolding chain_of
+of_fits s zero i j h f = Fits-lit tt
+of_fits s (suc k) zero j h f = Fits-lit tt
+of_fits s (suc k) (suc i) zero h f = h
+of_fits s (suc k) (suc i) (suc j) h f = of_fits s k (at s (suc i)) j (f (suc i)) f
+
 module _ (s : Words) (head : ℕ) (ws : Words) (b : ℕ) where
   -- Nothing is written yet.
-  pub index_start : Indexing s head ws ws b 0 head
-  unfolding chain
-  index_start = record {
+  pub index_start : (left : Words) → left ≡ chain s head → Indexing s head ws ws b 0 left
+  index_start left e = record {
     long = refl;
-    low = omega arith;
-    count = count_start s head;
-    rest = λ k. (λ t. at (chain_of ((let e : length s - 0 ≡ length s = omega arith in e) t) s head) (sym (zero-add k) t));
+    count = zero-add (length left) ∙ ap length e;
+    rest = λ k. ap (λ ps. at ps k) e ∙ ap (at (chain s head)) (sym (zero-add k));
     place = λ j h. absurd (omega arith);
     below = λ j h. refl;
     above = λ j h. refl;
   }
 
-  -- The chain ends.
-  pub index_end : (us : Words) (n i : ℕ) → Indexing s head ws us b n i → i ≡ 0 → Indexed s head ws us b n
-  index_end us n i h e = record { count = count_end s (length (chain s head)) (length s) n i e h.count; place = h.place; below = h.below; above = h.above }
+  -- None is left.
+  pub index_end : (us : Words) (n : ℕ) (left : Words) → Indexing s head ws us b n left → left ≡ [] → Indexed s head ws us b n
+  index_end us n left h e = record { count = omega (arith, h.count, ap length e); place = h.place; below = h.below; above = h.above }
 
-  -- The chain has as many records as the slice has words.
-  pub index_full : (us : Words) (n i : ℕ) → Indexing s head ws us b n i → length s ≤ n → Indexed s head ws us b n
-  index_full us n i h l = record { count = count_full s (length (chain s head)) (length s) n i l h.count; place = h.place; below = h.below; above = h.above }
+  module _ (us : Words) (n i : ℕ) (left more : Words) (h : Indexing s head ws us b n left) (e : left ≡ i ∷ more) where
+    -- The place fits a word.
+    pub index_fits : Fits w32 head → ((j : ℕ) → Fits w32 (at s j)) → Fits w32 i
+    unfolding chain
+    index_fits f g = subst (Fits w32) (sym (h.rest 0) ∙ ap (λ ps. at ps 0) e) (of_fits s (length s) head (n + 0) f g)
 
-  -- The chain has a record at i.
-  more : (n i : ℕ) → n < length s → i ≢ 0 → chain_of (length s - n) s i ≡ i ∷ chain_of (length s - (n + 1)) s (at s i)
-  unfolding chain_of
-  more n zero l hi = absurd (hi refl)
-  more n (suc i) l hi = ap (λ k. chain_of k s (suc i)) (let q : length s - n ≡ suc (length s - (n + 1)) = omega arith in q)
+    -- There is room for it.
+    pub index_room : b + length (chain s head) ≤ length ws → b + n < length us
+    index_room r = omega (arith, h.long, h.count, ap length e)
 
-  -- There is room for one more.
-  pub index_room : (us : Words) (n i : ℕ) → Indexing s head ws us b n i → n < length s → i ≢ 0 → b + length (chain s head) ≤ length ws → b + n < length us
-  index_room us n i h l hi r = omega (arith, ap length (more n i l hi))
-
-  -- One place more is written.
-  pub index_on : (us : Words) (n i w j : ℕ) → Indexing s head ws us b n i → n < length s → i ≢ 0 → b + length (chain s head) ≤ length ws → w ≡ i → j ≡ at s w → Indexing s head ws (set us (b + n) i) b (n + 1) j
-  index_on us n i w j h l hi room e f = record {
-    long = length-set us (b + n) i ∙ h.long;
-    low = omega arith;
-    count = count_on s (length (chain s head)) (length s) n i j l hi (f ∙ ap (at s) e) h.count;
-    rest = λ k.
-        (λ t. at (chain_of (length s - (n + 1)) s ((f ∙ ap (at s) e) t)) k)
-        ∙ sym (ap (λ ps. at ps (suc k)) (more n i l hi))
-        ∙ h.rest (suc k)
-        ∙ ap (at (chain s head)) (let q : n + suc k ≡ n + 1 + k = omega arith in q);
-    place = λ k lk. ⊎_elim
-        (λ q. ap (λ x. at (set us (b + n) i) (b + x)) q ∙ get_or-set_same us (b + n) i 0 r ∙ here ∙ ap (at (chain s head)) (sym q))
-        (λ lt. get_or-set_other us (b + n) (b + k) i 0 (λ q. omega arith) ∙ h.place k lt)
-        (eq-or-lt_of_le (let q : k ≤ n = omega arith in q));
-    below = λ k lk. get_or-set_other us (b + n) k i 0 (λ q. omega arith) ∙ h.below k lk;
-    above = λ k lk. get_or-set_other us (b + n) k i 0 (λ q. omega arith) ∙ h.above k (omega arith);
-  }
-    where
-      r : b + n < length us
-      r = index_room us n i h l hi room
-
-      here : i ≡ at (chain s head) n
-      here = sym (ap (λ ps. at ps 0) (more n i l hi)) ∙ h.rest 0 ∙ ap (at (chain s head)) (add-zero n)
+    -- One place more is written.
+    pub index_on : b + length (chain s head) ≤ length ws → Indexing s head ws (set us (b + n) i) b (n + 1) more
+    index_on room = record {
+      long = length-set us (b + n) i ∙ h.long;
+      count = omega (arith, h.count, ap length e);
+      rest = λ k. sym (ap (λ ps. at ps (suc k)) e) ∙ h.rest (suc k) ∙ ap (at (chain s head)) (let q : n + suc k ≡ n + 1 + k = omega arith in q);
+      place = λ k lk. ⊎_elim
+          (λ q. ap (λ x. at (set us (b + n) i) (b + x)) q ∙ get_or-set_same us (b + n) i 0 (index_room room) ∙ here ∙ ap (at (chain s head)) (sym q))
+          (λ lt. get_or-set_other us (b + n) (b + k) i 0 (λ q. omega arith) ∙ h.place k lt)
+          (eq-or-lt_of_le (let q : k ≤ n = omega arith in q));
+      below = λ k lk. get_or-set_other us (b + n) k i 0 (λ q. omega arith) ∙ h.below k lk;
+      above = λ k lk. get_or-set_other us (b + n) k i 0 (λ q. omega arith) ∙ h.above k (omega arith);
+    }
+      where
+        here : i ≡ at (chain s head) n
+        here = sym (ap (λ ps. at ps 0) e) ∙ h.rest 0 ∙ ap (at (chain s head)) (add-zero n)
 
 -- An index of the records of one kind is one of the chain that the header word heads.
 pub index_room_of : (s : Words) (h head b : ℕ) (ws : Words) → head ≡ at s h → b + many s h ≤ length ws → b + length (chain s head) ≤ length ws

@@ -1,5 +1,5 @@
 -- Laws of the kind table, as its readers ask for them.
-use Rattle.std.specs.Prelude.{ℕ, zero, suc, ◌+◌, ◌*◌, ◌-◌, ◌/◌, ◌%◌, ◌≤◌, ◌<◌, ◌≡◌, refl, Bool, false, List, [], ◌∷◌, ◌++◌, ◌≢◌, T, eqb, length, get_or, take, drop}
+use Rattle.std.specs.Prelude.{ℕ, zero, suc, ◌+◌, ◌*◌, ◌-◌, ◌/◌, ◌%◌, ◌≤◌, ◌<◌, ◌≡◌, refl, Bool, List, [], ◌∷◌, ◌++◌, ◌≢◌, T, eqb, length, get_or, take, drop}
 use Rattle.std.proofs.Common.{sym, ◌∙◌, ap, arith, eqb→eq, get_or-append-add, eq-eqb, ne_eqb}
 use Rattle.std.proofs.Math.ListN.{get_or-append}
 use Rattle.rules.specs.Lists.{Words, all}
@@ -7,6 +7,9 @@ use Rattle.rules.specs.Layout.{header_structs, header_unions, owner_self_dual, k
 use Rattle.rules.specs.Sheet.{at, field, kinds, kind_row, row_length, self_dual, kind_flag}
 use Rattle.rules.specs.Members.{all_cons}
 use Rattle.rules.specs.WordLaws.{word_past}
+use Rattle.chart.specs.declared.kinds.Kind.{Kind}
+use Rattle.chart.specs.declared.kinds.Kind.TheVariants.{Struct, Union}
+use Rattle.chart.specs.Numbers.{number_of, kind_apart}
 
 -- Rows one after the other.
 unfoldable flat : List Words → Words
@@ -69,12 +72,20 @@ pub of_other : (s : Words) (k id : ℕ) → k ≢ kind_struct → k ≢ kind_uni
 unfolding self_dual
 of_other s k id n m = rw (ne_eqb k kind_struct n, ne_eqb k kind_union m, self_dual) refl
 
+-- What numbers no kind is none of the two.
+pub of_none : (s : Words) (k id : ℕ) → kind_count ≤ k → 1 ≡ self_dual s k id
+of_none s k id h = of_other s k id (λ e. absurd (omega arith)) (λ e. absurd (omega arith))
+
+-- Nor is another kind.
+pub of_kind : (s : Words) (k id : ℕ) (kind : Kind) → number_of kind ≡ k → kind ≢ Struct → kind ≢ Union → 1 ≡ self_dual s k id
+of_kind s k id kind e n m = of_other s k id (kind_apart kind Struct k e n) (kind_apart kind Union k e m)
+
 -- A flag needs its row's and self-dual.
 pub flag_on : (s : Words) (j k id w r : ℕ) → w ≡ kind_row k j → w ≡ 1 → r ≡ self_dual s k id → eqb r 1 ≡ kind_flag s j k id
 unfolding kind_flag
 flag_on s j k id w r e f g = rw (eq-eqb (kind_row k j) 1 (sym e ∙ f), kind_flag) (ap (λ x. eqb x 1) g)
 
 -- The row's flag is not set.
-pub flag_off : (s : Words) (j k id w : ℕ) → w ≡ kind_row k j → w ≢ 1 → false ≡ kind_flag s j k id
+pub flag_off : (s : Words) (j k id w : ℕ) → w ≡ kind_row k j → w ≢ 1 → eqb w 1 ≡ kind_flag s j k id
 unfolding kind_flag
-flag_off s j k id w e f = rw (ne_eqb (kind_row k j) 1 (λ q. f (e ∙ q)), kind_flag) refl
+flag_off s j k id w e f = rw (ne_eqb w 1 f, ne_eqb (kind_row k j) 1 (λ q. f (e ∙ q)), kind_flag) refl

@@ -3,3 +3,5 @@ pub mod Index
 pub mod Kinds
 pub mod Scope
 pub mod Ancestors
+pub mod Tests
+pub mod Numbers

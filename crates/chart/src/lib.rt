@@ -15,7 +15,7 @@ pub mod scope; // scope.rt: `get_member`, `visible`
 pub fn field_at(s: &[u32], p: usize, k: usize) -> usize
     ensures { result ≡ at s.now (p + k) }
 {
-    words::wide(words::offset(s, p, k))
+    words::offset(s, p, k) as usize
 }
 
 // Word k of record `id` of the chain that header word h heads.
@@ -34,6 +34,9 @@ pub fn count_of(s: &[u32], h: usize) -> usize
     let head = words::next(s, h);
     words::chain_length(s, head)
 }
+
+// Fields by name. Each is one call of `field_of`, and stays a function: a struct of two constants with a method would need the
+// same list of names, and its callers would read `field(s, PARENT, d)` for `parent(s, d)`.
 
 // Of a definition: parent?.
 pub fn parent(s: &[u32], d: usize) -> usize
@@ -223,14 +226,9 @@ pub fn index_chain(s: &[u32], head: u32, ws: &mut [u32], b: usize) -> usize
     requires { b + length (chain s.now head) ≤ length ws.old }
     ensures { Indexed s.now head ws.old ws.new b result }
 {
-    let mut i = head;
     let mut n = 0;
-    while n < s.len() {
-        if i == 0 {
-            return n;
-        }
-        ws[b + n] = i;
-        i = words::word(s, words::wide(i));
+    for i in words::records(s, head as usize) {
+        ws[b + n] = i as u32;
         n += 1;
     }
     n

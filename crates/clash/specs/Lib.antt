@@ -9,3 +9,4 @@ pub mod Places
 pub mod Signatures
 pub mod Params
 pub mod Brought
+pub mod Told

@@ -11,7 +11,7 @@ ghost use Rattle.clash.specs.Cycles.{Roots, Within, Inside, Among, Cycling, Cycl
 
 use crate::{note_mask, noted, place_or_node};
 use chart::layout;
-use refs::{NODES, UNTOLD, find, kind, own_type, parameter, place_of};
+use refs::{NODES, UNTOLD, find, kind, own_type, parameter, place_of, record_count};
 
 const OPEN: u32 = 1;
 
@@ -21,14 +21,14 @@ const DONE: u32 = 2;
 fn mark_of(marks: &[u32; 2048], r: u32) -> u32
     ensures { result ≡ at marks.now (r % 2048) }
 {
-    marks[words::wide(r % 2048)]
+    marks[r as usize % 2048]
 }
 
 // Marks a ref.
 fn mark(marks: &mut [u32; 2048], r: u32, k: u32)
     ensures { marks.new ≡ set marks.old (r % 2048) k }
 {
-    marks[words::wide(r % 2048)] = k;
+    marks[r as usize % 2048] = k;
 }
 
 // The type of a root that a type is; of a Param of the signature, that its type parameter is.
@@ -36,11 +36,10 @@ fn root(sheet: &[u32], places: &[u32], links: &[u32; 2048], t: u32) -> u32
     ensures { Roots sheet.now places.now links.now t result }
 {
     let y = find(links, t);
-    let p = parameter(sheet, places, y);
-    if p == y {
-        return y;
+    match parameter(sheet, places, y) {
+        Some(p) => find(links, p),
+        None => y,
     }
-    find(links, p)
 }
 
 // A number for the ref of a type, not 0 and not that of a pair.
@@ -81,13 +80,7 @@ fn within(
     if k == OPEN {
         return true;
     }
-    if k == DONE {
-        return false;
-    }
-    if left == 0 {
-        return false;
-    }
-    if is_walked(places, notes, x) {
+    if k == DONE || left == 0 || is_walked(places, notes, x) {
         return false;
     }
     let j = kind(sheet, places, ws, x / 2);
@@ -129,16 +122,7 @@ fn below(
     }
     let p = place_of(places, r);
     let head = words::offset(sheet, p, layout::NODE_CHILDREN);
-    among_cells(
-        sheet,
-        places,
-        ws,
-        links,
-        marks,
-        notes,
-        words::wide(head),
-        left,
-    )
+    among_cells(sheet, places, ws, links, marks, notes, head as usize, left)
 }
 
 // Whether one of the n children of node r is. Most have been walked; a child is marked as done itself, beside its root.
@@ -159,10 +143,8 @@ fn among(
     requires n_bound { n ≤ 8 }
     ensures { Among sheet.now places.now ws.now links.now marks.old n (types_at ws.now r) marks.new result }
 {
-    let mut j: usize = 0;
-    while j < n {
+    for j in 0..n {
         let t = table::child_type(ws, r, j);
-        j += 1;
         if mark_of(marks, t / 2) != DONE {
             if within(sheet, places, ws, links, marks, notes, t, left) {
                 return true;
@@ -192,14 +174,12 @@ fn among_cells(
         return false;
     }
     let mut c = head;
-    let mut j: usize = 0;
-    while c != 0 {
-        if j == 8 {
+    for j in 0..8usize {
+        if c == 0 {
             return false;
         }
         let t = own_type(words::offset(sheet, c, layout::CELL_TYPE));
         c = words::next(sheet, c);
-        j += 1;
         if mark_of(marks, t / 2) != DONE {
             if within(sheet, places, ws, links, marks, notes, t, left) {
                 return true;
@@ -224,10 +204,7 @@ fn within_linked(
     requires r_bound { r < 2048 }
     ensures { Within sheet.now places.now ws.now links.now marks.old (2 * r) marks.new result }
 {
-    if kind(sheet, places, ws, r) != 0 {
-        return false;
-    }
-    within(sheet, places, ws, links, marks, notes, 2 * r, 512)
+    kind(sheet, places, ws, r) == 0 && within(sheet, places, ws, links, marks, notes, 2 * r, 512)
 }
 
 // Whether a class that a ref of n from one on is of contains itself.
@@ -245,27 +222,12 @@ fn cyclic_among(
     requires n_bound { from + n ≤ 2048 }
     ensures { Cycling sheet.now places.now ws.now links.now marks.old marks.new result }
 {
-    let mut k: u32 = 0;
-    while k < n {
-        let r = from + k;
-        k += 1;
-        if links[words::wide(r % 2048)] != 0 {
-            if within_linked(sheet, places, ws, links, marks, notes, r) {
-                return true;
-            }
+    for r in from..from + n {
+        if links[r as usize] != 0 && within_linked(sheet, places, ws, links, marks, notes, r) {
+            return true;
         }
     }
     false
-}
-
-// How many records there are, or 1,024.
-fn records(places: &[u32]) -> u32
-    ensures { result ≤ 1024 }
-{
-    if places.len() > 1024 {
-        return 1024;
-    }
-    places.len() as u32
 }
 
 // Whether a class contains itself.
@@ -291,6 +253,6 @@ pub fn cyclic(
         &mut marks,
         notes,
         1024,
-        records(places),
+        record_count(places),
     )
 }

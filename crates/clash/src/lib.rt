@@ -22,7 +22,7 @@ ghost use Rattle.table.specs.ChildTypes.{row_at};
 ghost use Rattle.queries.specs.Queries.{query_of};
 ghost use Rattle.queries.specs.Takes.{SignatureTakes, ParamTakes};
 ghost use Rattle.opening.specs.Sound.{Sound};
-ghost use Rattle.refs.specs.Refs.{KindOf, Bit, Sided};
+ghost use Rattle.refs.specs.Refs.{KindOf, Sided};
 ghost use Rattle.refs.specs.Meaning.{turn as turn_of};
 ghost use Rattle.loose.specs.Loose.{Opposed};
 ghost use Rattle.clash.specs.Meeting.{Aside, Queues, Puts, Decides, Inverts, Meets, Mirrors};
@@ -30,12 +30,13 @@ ghost use Rattle.clash.specs.Pairs.{Goes, Ran, Ends, ArgsMet, RootClash, Clashin
 ghost use Rattle.clash.specs.Across.{sides_across, RecordMet, CellsMet};
 ghost use Rattle.clash.specs.Signatures.{Against, Room, ImplAt, Clashes};
 ghost use Rattle.clash.specs.Params.{Calling, ParamClashes};
+ghost use Rattle.clash.specs.Told.{end_of};
 
 use chart::{kinds, layout};
 use queries::Query;
 use refs::{
     NODES, PARAM, RECORDS, UNTOLD, apart, children, find, id, kind, link, link_apart, own_type,
-    place_of, record_inverted, settle, turn,
+    place_of, record_inverted, ref_of, settle, turn,
 };
 use table::Row;
 
@@ -81,8 +82,9 @@ const NOTED: usize = 516;
 // At most so often the queue is looked at, twice for each pair.
 const PAIRS: usize = 2048;
 
-// What a clash is told by, in place of the queue's end.
-const CLASH: usize = 1000;
+// A clash is found, in place of the queue's end.
+#[derive(Clone, Copy, PartialEq, Eq, Debug)]
+struct Clash;
 
 const STRUCT: u32 = 4;
 
@@ -119,21 +121,9 @@ fn put(links: &mut [u32; 2048], queue: &mut [u32; 517], end: usize, x: u32, y: u
 fn sided(sheet: &[u32], k: u32, d: u32) -> bool
     ensures { Sided sheet.now k d result }
 {
-    if k == STRUCT {
-        return false;
-    }
-    if k == UNION {
-        return false;
-    }
-    if kinds::kind_flag(
-        sheet,
-        layout::ROW_OWN_INVERSE,
-        words::wide(k),
-        words::wide(d),
-    ) {
-        return false;
-    }
-    true
+    k != STRUCT
+        && k != UNION
+        && !kinds::kind_flag(sheet, layout::ROW_OWN_INVERSE, k as usize, d as usize)
 }
 
 // Whether a kind and id is surely not its own inverse; of Structs and Unions, nothing is said where the self-dual mark would have to be looked for far down their chain.
@@ -143,41 +133,23 @@ fn sided_near(sheet: &[u32], k: u32, d: u32, most: u32) -> bool
     if d >= most {
         return sided(sheet, k, d);
     }
-    if kinds::kind_flag(
-        sheet,
-        layout::ROW_OWN_INVERSE,
-        words::wide(k),
-        words::wide(d),
-    ) {
-        return false;
-    }
-    true
+    !kinds::kind_flag(sheet, layout::ROW_OWN_INVERSE, k as usize, d as usize)
 }
 
 // Whether the self-dual mark of id d may be looked for: as long as few links were gone in this test. They are counted.
 fn may_look(queue: &mut [u32; 517], end: usize, d: u32) -> bool
     ensures { Aside queue.old end queue.new }
 {
-    if d >= FAR {
+    if d >= FAR || end >= QUEUE || queue[GONE] >= FAR {
         return false;
     }
-    if end >= QUEUE {
-        return false;
-    }
-    let gone = queue[GONE];
-    if gone >= FAR {
-        return false;
-    }
-    queue[GONE] = gone + d + 1;
+    queue[GONE] += d + 1;
     true
 }
 
 // Whether a self-dual mark tells which ids of a kind are their own inverses.
 fn is_marked(k: u32) -> bool {
-    if k == STRUCT {
-        return true;
-    }
-    k == UNION
+    k == STRUCT || k == UNION
 }
 
 // Whether a kind and id is surely not its own inverse; of Structs and Unions, nothing is said where the mark may not be looked for.
@@ -185,10 +157,7 @@ fn sided_once(sheet: &[u32], queue: &mut [u32; 517], end: usize, k: u32, d: u32)
     ensures { Decides sheet.now queue.old end k d queue.new result }
 {
     if is_marked(k) {
-        if may_look(queue, end, d) {
-            return sided_near(sheet, k, d, FAR);
-        }
-        return false;
+        return may_look(queue, end, d) && sided_near(sheet, k, d, FAR);
     }
     sided(sheet, k, d)
 }
@@ -201,13 +170,12 @@ fn mirror(queue: &mut [u32; 517], end: usize, x: u32, y: u32) -> usize
         return end;
     }
     let r = x / 2;
-    let at = QUEUE + words::wide(r % 256);
+    let at = QUEUE + r as usize % 256;
     if queue[at] == r + 1 {
         return end;
     }
     queue[at] = r + 1;
-    let pair = x % 4096 + 4096 * (y % 4096);
-    queue[end] = pair;
+    queue[end] = x % 4096 + 4096 * (y % 4096);
     end + 1
 }
 
@@ -220,16 +188,16 @@ fn mirror_known(
     end: usize,
     x: u32,
     k: u32,
-) -> usize
+) -> Result<usize, Clash>
     requires kind_of { KindOf sheet.now places.now ws.now (x / 2) k }
     requires k_nonzero { k ≢ 0 }
-    ensures { Mirrors sheet.now places.now ws.now queue.old end x queue.new result }
+    ensures { Mirrors sheet.now places.now ws.now queue.old end x queue.new (end_of result) }
 {
     let d = id(sheet, places, ws, x / 2);
     if sided_once(sheet, queue, end, k, d) {
-        return CLASH;
+        return Err(Clash);
     }
-    mirror(queue, end, x, turn(1, x))
+    Ok(mirror(queue, end, x, turn(1, x)))
 }
 
 // Meets two types of kind k and id d that differ in side.
@@ -242,16 +210,16 @@ fn meet_inverted(
     y: u32,
     k: u32,
     d: u32,
-) -> usize
-    ensures { Inverts sheet.now links.old queue.old end x y k d links.new queue.new result }
+) -> Result<usize, Clash>
+    ensures { Inverts sheet.now links.old queue.old end x y k d links.new queue.new (end_of result) }
 {
     if sided_once(sheet, queue, end, k, d) {
-        return CLASH;
+        return Err(Clash);
     }
     if x / 2 == y / 2 {
-        return mirror(queue, end, x, y);
+        return Ok(mirror(queue, end, x, y));
     }
-    put(links, queue, end, x, y)
+    Ok(put(links, queue, end, x, y))
 }
 
 // Meets two types of kind k. Errors of different refs clash.
@@ -265,25 +233,23 @@ fn meet_known(
     x: u32,
     y: u32,
     k: u32,
-) -> usize
+) -> Result<usize, Clash>
     requires kind_of { KindOf sheet.now places.now ws.now (x / 2) k }
     requires kind_of_2 { KindOf sheet.now places.now ws.now (y / 2) k }
     requires k_nonzero { k ≢ 0 }
-    ensures { Meets sheet.now places.now ws.now links.old queue.old end x y links.new queue.new result }
+    ensures { Meets sheet.now places.now ws.now links.old queue.old end x y links.new queue.new (end_of result) }
 {
-    if k == ERROR {
-        if x / 2 != y / 2 {
-            return CLASH;
-        }
+    if k == ERROR && x / 2 != y / 2 {
+        return Err(Clash);
     }
     let d = id(sheet, places, ws, x / 2);
     if d != id(sheet, places, ws, y / 2) {
-        return CLASH;
+        return Err(Clash);
     }
-    if apart(sheet, places, ws, x, y) == 1 {
+    if apart(sheet, places, ws, x, y) {
         return meet_inverted(sheet, links, queue, end, x, y, k, d);
     }
-    put(links, queue, end, x, y)
+    Ok(put(links, queue, end, x, y))
 }
 
 // Counts an unknown that is linked, up to 127 and then from 0 on again.
@@ -330,18 +296,18 @@ fn bind_own(
     x: u32,
     y: u32,
     k: u32,
-) -> usize
+) -> Result<usize, Clash>
     requires kind_of { KindOf sheet.now places.now ws.now (y / 2) k }
     requires k_nonzero { k ≢ 0 }
-    ensures { Meets sheet.now places.now ws.now links.old queue.old end x y links.new queue.new result }
+    ensures { Meets sheet.now places.now ws.now links.old queue.old end x y links.new queue.new (end_of result) }
 {
     let r = x / 2 % 2048;
-    let up = links[words::wide(r)];
+    let up = links[r as usize];
     link(links, x, y);
     if up == 2 * r + 2 {
         return mirror_known(sheet, places, ws, queue, end, y, k);
     }
-    end
+    Ok(end)
 }
 
 // Meets an unknown with another type of a root: it is linked to that; but where it is its own inverse another unknown is linked to it, and a type that has a kind is met with its own inverse.
@@ -354,20 +320,20 @@ fn meet_unknown(
     end: usize,
     x: u32,
     y: u32,
-) -> usize
-    ensures { Meets sheet.now places.now ws.now links.old queue.old end x y links.new queue.new result }
+) -> Result<usize, Clash>
+    ensures { Meets sheet.now places.now ws.now links.old queue.old end x y links.new queue.new (end_of result) }
 {
     if x / 2 == y / 2 {
-        return meet_opposed(links, queue, end, x, y);
+        return Ok(meet_opposed(links, queue, end, x, y));
     }
-    if links[words::wide(x / 2 % 2048)] == 0 {
+    if links[ref_of(x)] == 0 {
         link(links, x, y);
-        return end;
+        return Ok(end);
     }
     let k = kind(sheet, places, ws, y / 2);
     if k == 0 {
         link(links, y, x);
-        return end;
+        return Ok(end);
     }
     bind_own(sheet, places, ws, links, queue, end, x, y, k)
 }
@@ -382,8 +348,8 @@ fn meet_roots(
     end: usize,
     x: u32,
     y: u32,
-) -> usize
-    ensures { Meets sheet.now places.now ws.now links.old queue.old end x y links.new queue.new result }
+) -> Result<usize, Clash>
+    ensures { Meets sheet.now places.now ws.now links.old queue.old end x y links.new queue.new (end_of result) }
 {
     let k = kind(sheet, places, ws, x / 2);
     if k == 0 {
@@ -396,7 +362,7 @@ fn meet_roots(
         return bind_own(sheet, places, ws, links, queue, end, y, x, k);
     }
     if k != j {
-        return CLASH;
+        return Err(Clash);
     }
     meet_known(sheet, places, ws, links, queue, end, x, y, k)
 }
@@ -411,13 +377,13 @@ fn meet_found(
     end: usize,
     a: u32,
     b: u32,
-) -> usize
-    ensures { Meets sheet.now places.now ws.now links.old queue.old end a b links.new queue.new result }
+) -> Result<usize, Clash>
+    ensures { Meets sheet.now places.now ws.now links.old queue.old end a b links.new queue.new (end_of result) }
 {
     let x = settle(sheet, places, links, a);
     let y = settle(sheet, places, links, b);
     if x == y {
-        return end;
+        return Ok(end);
     }
     meet_roots(sheet, places, ws, links, queue, end, x, y)
 }
@@ -432,15 +398,15 @@ fn meet(
     end: usize,
     a: u32,
     b: u32,
-) -> usize
-    ensures { Meets sheet.now places.now ws.now links.old queue.old end a b links.new queue.new result }
+) -> Result<usize, Clash>
+    ensures { Meets sheet.now places.now ws.now links.old queue.old end a b links.new queue.new (end_of result) }
 {
     let x = find(links, a);
     let y = find(links, b);
     link_apart(links, a, x);
     link_apart(links, b, y);
     if x == y {
-        return end;
+        return Ok(end);
     }
     meet_found(sheet, places, ws, links, queue, end, x, y)
 }
@@ -456,35 +422,28 @@ fn meet_all(
     xs: Row,
     ys: Row,
     b: u32,
-) -> usize
+) -> Result<usize, Clash>
     requires { xs.n ≤ 8 }
-    ensures { Goes sheet.now places.now ws.now links.old queue.old end xs.n b xs.types ys.types links.new queue.new result }
+    ensures { Goes sheet.now places.now ws.now links.old queue.old end xs.n b xs.types ys.types links.new queue.new (end_of result) }
 {
     let mut e = end;
-    let mut j: usize = 0;
-    while j < xs.n {
+    for j in 0..xs.n {
         let x = xs.types[j];
         let y = turn(b, ys.types[j]);
-        j += 1;
-        if links[words::wide(x / 2 % 2048)] != turn(x % 2, y) % 4096 + 1 {
-            e = meet(sheet, places, ws, links, queue, e, x, y);
-            if e == CLASH {
-                return e;
-            }
+        if links[ref_of(x)] != turn(x % 2, y) % 4096 + 1 {
+            e = meet(sheet, places, ws, links, queue, e, x, y)?;
         }
     }
-    e
+    Ok(e)
 }
 
-// Whether a type of the signature, whose record is at p, and a type of the question differ in side: 1 or 0.
-fn across(sheet: &[u32], p: usize, ws: &[u32], x: u32, y: u32) -> u32
-    ensures { Bit (sides_across sheet.now p ws.now x y) result }
+// Whether a type of the signature, whose record is at p, and a type of the question differ in side.
+fn across(sheet: &[u32], p: usize, ws: &[u32], x: u32, y: u32) -> bool
+    ensures { result ≡ sides_across sheet.now p ws.now x y }
 {
-    let a = record_inverted(sheet, p);
-    if table::inverted_of(ws, y / 2) {
-        return (x % 2 + y % 2 + a + 1) % 2;
-    }
-    (x % 2 + y % 2 + a) % 2
+    let own = (x % 2 == 1) ^ record_inverted(sheet, p);
+    let asked = (y % 2 == 1) ^ table::inverted_of(ws, y / 2);
+    own ^ asked
 }
 
 // Meets a type of the signature that has kind k, and whose record is at p, with a type of the question of a root. Two Errors clash.
@@ -498,27 +457,24 @@ fn meet_record(
     y: u32,
     p: usize,
     k: u32,
-) -> usize
+) -> Result<usize, Clash>
     requires p_nonzero { p ≢ 0 }
     requires k_value { k ≡ at sheet.now (p + 1) }
     requires lt_k { 1 < k }
     requires y_nonzero { kind_at (types_of ws.now) (y / 2) ≢ 0 }
-    ensures { RecordMet sheet.now ws.now links.old queue.old end x y p links.new queue.new result }
+    ensures { RecordMet sheet.now ws.now links.old queue.old end x y p links.new queue.new (end_of result) }
 {
-    if table::kind_of(ws, y / 2) != k {
-        return CLASH;
-    }
-    if k == ERROR {
-        return CLASH;
+    if table::kind_of(ws, y / 2) != k || k == ERROR {
+        return Err(Clash);
     }
     let d = words::offset(sheet, p, layout::NODE_ID);
     if d != table::id_of(ws, y / 2) {
-        return CLASH;
+        return Err(Clash);
     }
-    if across(sheet, p, ws, x, y) == 1 {
+    if across(sheet, p, ws, x, y) {
         return meet_inverted(sheet, links, queue, end, x, y, k, d);
     }
-    put(links, queue, end, x, y)
+    Ok(put(links, queue, end, x, y))
 }
 
 // Meets a type of the signature whose ref has no link with a type of the question of a root.
@@ -531,17 +487,13 @@ fn meet_new(
     end: usize,
     x: u32,
     y: u32,
-) -> usize
-    ensures { Meets sheet.now places.now ws.now links.old queue.old end x y links.new queue.new result }
+) -> Result<usize, Clash>
+    ensures { Meets sheet.now places.now ws.now links.old queue.old end x y links.new queue.new (end_of result) }
 {
     let p = place_of(places, x / 2);
     let k = words::offset(sheet, p, layout::NODE_KIND);
-    if k > PARAM {
-        if p != 0 {
-            if table::kind_of(ws, y / 2) != 0 {
-                return meet_record(sheet, ws, links, queue, end, x, y, p, k);
-            }
-        }
+    if k > PARAM && p != 0 && table::kind_of(ws, y / 2) != 0 {
+        return meet_record(sheet, ws, links, queue, end, x, y, p, k);
     }
     meet(sheet, places, ws, links, queue, end, x, y)
 }
@@ -556,10 +508,10 @@ fn meet_cell(
     end: usize,
     x: u32,
     y: u32,
-) -> usize
-    ensures { Meets sheet.now places.now ws.now links.old queue.old end x y links.new queue.new result }
+) -> Result<usize, Clash>
+    ensures { Meets sheet.now places.now ws.now links.old queue.old end x y links.new queue.new (end_of result) }
 {
-    if links[words::wide(x / 2 % 2048)] == 0 {
+    if links[ref_of(x)] == 0 {
         return meet_new(sheet, places, ws, links, queue, end, x, y);
     }
     meet(sheet, places, ws, links, queue, end, x, y)
@@ -586,46 +538,38 @@ fn meet_cells(
     y: u32,
     n: usize,
     b: u32,
-) -> usize
+) -> Result<usize, Clash>
     requires packed { Packed ws.now }
     requires in_bounds { 8 < length sheet.now }
     requires y_bound { y < 256 }
     requires n_bound { n ≤ 8 }
-    ensures { CellsMet sheet.now places.now ws.now links.old queue.old end head b (row_at ws.now y n) links.new queue.new result }
+    ensures { CellsMet sheet.now places.now ws.now links.old queue.old end head b (row_at ws.now y n) links.new queue.new (end_of result) }
 {
     let mut e = end;
     let mut c = head;
-    let mut j: usize = 0;
     let mut left = queue[ONLY];
-    while c != 0 {
-        if j >= n {
-            return CLASH;
+    for j in 0..n {
+        if c == 0 {
+            return Err(Clash);
         }
         if left == 0 {
-            return e;
+            return Ok(e);
         }
-        let cell = c;
-        let at = j;
-        let bit = left % 2;
-        c = words::next(sheet, c);
-        j += 1;
-        left = left / 2;
-        if bit == 1 {
-            let x = own_type(words::offset(sheet, cell, layout::CELL_TYPE));
-            let z = turn(b, table::child_type(ws, y, at));
-            if links[words::wide(x / 2 % 2048)] != turn(x % 2, z) % 4096 + 1 {
-                count_met(queue, e, at);
-                e = meet_cell(sheet, places, ws, links, queue, e, x, z);
-                if e == CLASH {
-                    return e;
-                }
+        if left % 2 == 1 {
+            let x = own_type(words::offset(sheet, c, layout::CELL_TYPE));
+            let z = turn(b, table::child_type(ws, y, j));
+            if links[ref_of(x)] != turn(x % 2, z) % 4096 + 1 {
+                count_met(queue, e, j);
+                e = meet_cell(sheet, places, ws, links, queue, e, x, z)?;
             }
         }
+        left /= 2;
+        c = words::next(sheet, c);
     }
-    if j != n {
-        return CLASH;
+    if c != 0 {
+        return Err(Clash);
     }
-    e
+    Ok(e)
 }
 
 // Meets the children of a type of the signature with those of a type of the question.
@@ -638,28 +582,25 @@ fn meet_across(
     end: usize,
     x: u32,
     y: u32,
-) -> usize
+) -> Result<usize, Clash>
     requires packed { Packed ws.now }
     requires bound { 1024 ≤ x / 2 }
     requires y_bound { y / 2 < 256 }
-    ensures { Meets sheet.now places.now ws.now links.old queue.old end x y links.new queue.new result }
+    ensures { Meets sheet.now places.now ws.now links.old queue.old end x y links.new queue.new (end_of result) }
 {
     if sheet.len() <= 8 {
-        return end;
+        return Ok(end);
     }
-    if kind(sheet, places, ws, x / 2) == 0 {
-        return end;
-    }
-    if table::kind_of(ws, y / 2) == 0 {
-        return end;
+    if kind(sheet, places, ws, x / 2) == 0 || table::kind_of(ws, y / 2) == 0 {
+        return Ok(end);
     }
     let n = table::own_children(ws, y / 2);
     if n == UNTOLD {
-        return end;
+        return Ok(end);
     }
     let p = place_of(places, x / 2);
     let head = words::offset(sheet, p, layout::NODE_CHILDREN);
-    let b = across(sheet, p, ws, x, y);
+    let b = u32::from(across(sheet, p, ws, x, y));
     meet_cells(
         sheet,
         places,
@@ -667,7 +608,7 @@ fn meet_across(
         links,
         queue,
         end,
-        words::wide(head),
+        head as usize,
         y / 2,
         n,
         b,
@@ -676,7 +617,7 @@ fn meet_across(
 
 // Whether the ref of a type is marked in the queue as queued with its own inverse.
 fn is_mirrored(queue: &[u32; 517], x: u32) -> bool {
-    queue[QUEUE + words::wide(x / 2 % 256)] == x / 2 + 1
+    queue[QUEUE + x as usize / 2 % 256] == x / 2 + 1
 }
 
 // Meets a type with its own inverse: if what is found from it has a kind, that is met with its own.
@@ -688,8 +629,8 @@ fn meet_own(
     queue: &mut [u32; 517],
     end: usize,
     t: u32,
-) -> usize
-    ensures { Meets sheet.now places.now ws.now links.old queue.old end t (turn_of 1 t) links.new queue.new result }
+) -> Result<usize, Clash>
+    ensures { Meets sheet.now places.now ws.now links.old queue.old end t (turn_of 1 t) links.new queue.new (end_of result) }
 {
     let x = find(links, t);
     let k = kind(sheet, places, ws, x / 2);
@@ -708,23 +649,18 @@ fn meet_mirrored(
     queue: &mut [u32; 517],
     end: usize,
     xs: Row,
-) -> usize
+) -> Result<usize, Clash>
     requires { xs.n ≤ 8 }
-    ensures { Goes sheet.now places.now ws.now links.old queue.old end xs.n 1 xs.types xs.types links.new queue.new result }
+    ensures { Goes sheet.now places.now ws.now links.old queue.old end xs.n 1 xs.types xs.types links.new queue.new (end_of result) }
 {
     let mut e = end;
-    let mut j: usize = 0;
-    while j < xs.n {
+    for j in 0..xs.n {
         let x = xs.types[j];
-        j += 1;
         if !is_mirrored(queue, x) {
-            e = meet_own(sheet, places, ws, links, queue, e, x);
-            if e == CLASH {
-                return e;
-            }
+            e = meet_own(sheet, places, ws, links, queue, e, x)?;
         }
     }
-    e
+    Ok(e)
 }
 
 // Meets the children of two types, whichever they are.
@@ -737,28 +673,29 @@ fn meet_rows(
     end: usize,
     x: u32,
     y: u32,
-) -> usize
+) -> Result<usize, Clash>
     requires { Packed ws.now }
-    ensures { Meets sheet.now places.now ws.now links.old queue.old end x y links.new queue.new result }
+    ensures { Meets sheet.now places.now ws.now links.old queue.old end x y links.new queue.new (end_of result) }
 {
     let xs = children(sheet, places, ws, x / 2);
     if xs.n == UNTOLD {
-        return end;
+        return Ok(end);
     }
-    let b = apart(sheet, places, ws, x, y);
+    let inverted = apart(sheet, places, ws, x, y);
     if x / 2 == y / 2 {
-        if b == 1 {
+        if inverted {
             return meet_mirrored(sheet, places, ws, links, queue, end, xs);
         }
-        return end;
+        return Ok(end);
     }
     let ys = children(sheet, places, ws, y / 2);
     if ys.n == UNTOLD {
-        return end;
+        return Ok(end);
     }
     if xs.n != ys.n {
-        return CLASH;
+        return Err(Clash);
     }
+    let b = u32::from(inverted);
     meet_all(sheet, places, ws, links, queue, end, xs, ys, b)
 }
 
@@ -772,16 +709,15 @@ fn meet_children(
     end: usize,
     x: u32,
     y: u32,
-) -> usize
+) -> Result<usize, Clash>
     requires { Packed ws.now }
-    ensures { Meets sheet.now places.now ws.now links.old queue.old end x y links.new queue.new result }
+    ensures { Meets sheet.now places.now ws.now links.old queue.old end x y links.new queue.new (end_of result) }
 {
-    if RECORDS <= x / 2 {
-        if y / 2 < NODES {
-            return meet_across(sheet, places, ws, links, queue, end, x, y);
-        }
+    if RECORDS <= x / 2 && y / 2 < NODES {
+        meet_across(sheet, places, ws, links, queue, end, x, y)
+    } else {
+        meet_rows(sheet, places, ws, links, queue, end, x, y)
     }
-    meet_rows(sheet, places, ws, links, queue, end, x, y)
 }
 
 // What the ref of a type is, whatever the candidate: a node of the question, or the place of a record.
@@ -791,7 +727,7 @@ fn place_or_node(places: &[u32], t: u32) -> u32
     if t / 2 < RECORDS {
         return 8192 + t % 512;
     }
-    let p = words::word(places, words::wide(t / 2 - RECORDS));
+    let p = words::word(places, (t / 2 - RECORDS) as usize);
     p % 4096 * 2 + t % 2
 }
 
@@ -806,7 +742,7 @@ fn key_of(places: &[u32], pair: u32) -> u32 {
 fn note_place(key: u32) -> usize
     ensures { result < 251 }
 {
-    words::wide(key % 251)
+    key as usize % 251
 }
 
 // Which children of the pair of a key are to be met: all where it is not noted, or notes may not be used. That one was used is kept.
@@ -838,16 +774,8 @@ fn note(places: &[u32], queue: &[u32; 517], notes: &mut [u32; 512], pair: u32) {
 
 // Notes which children of a pair of a record and a node were met, if all were to be, and any was.
 fn note_met(queue: &[u32; 517], notes: &mut [u32; 512], key: u32, pair: u32) {
-    if queue[ONLY] != ALL {
-        return;
-    }
-    if pair % 4096 / 2 < RECORDS {
-        return;
-    }
-    if pair / 4096 / 2 >= NODES {
-        return;
-    }
-    if queue[MET] != 0 {
+    let is_across = pair % 4096 / 2 >= RECORDS && pair / 4096 / 2 < NODES;
+    if is_across && queue[ONLY] == ALL && queue[MET] != 0 {
         note_mask(notes, key, queue[MET]);
     }
 }
@@ -861,28 +789,26 @@ fn visit(
     queue: &mut [u32; 517],
     notes: &mut [u32; 512],
     end: usize,
-) -> usize
+) -> Result<usize, Clash>
     requires packed { Packed ws.now }
     requires end_nonzero { end ≢ 0 }
     requires end_bound { end ≤ 256 }
-    ensures { Ran sheet.now places.now ws.now links.old queue.old end links.new queue.new result }
+    ensures { Ran sheet.now places.now ws.now links.old queue.old end links.new queue.new (end_of result) }
 {
     let pair = queue[end - 1] % VISITED;
     let key = key_of(places, pair);
     let mask = noted(notes, key);
     if mask == 0 {
-        return end - 1;
+        return Ok(end - 1);
     }
     queue[end - 1] = pair + VISITED * (queue[BOUND] % 128 + 1);
     queue[MET] = 0;
     queue[ONLY] = mask;
     let x = pair % 4096;
     let y = pair / 4096;
-    let e = meet_children(sheet, places, ws, links, queue, end, x, y);
-    if e != CLASH {
-        note_met(queue, notes, key, pair);
-    }
-    e
+    let e = meet_children(sheet, places, ws, links, queue, end, x, y)?;
+    note_met(queue, notes, key, pair);
+    Ok(e)
 }
 
 // Works off the queue, whose end is n, from its end, a marked pair being done: whether a clash is found.
@@ -899,24 +825,19 @@ fn run(
     ensures { Ends sheet.now places.now ws.now links.old queue.old n links.new result }
 {
     let mut end = n;
-    let mut left: usize = PAIRS;
-    while end != 0 {
-        if end > QUEUE {
+    for _ in 0..PAIRS {
+        if end == 0 || end > QUEUE {
             return false;
         }
-        if left == 0 {
-            return false;
-        }
-        left -= 1;
         let pair = queue[end - 1];
         if pair >= VISITED {
             end -= 1;
             note(places, queue, notes, pair);
         } else {
-            end = visit(sheet, places, ws, links, queue, notes, end);
-            if end == CLASH {
+            let Ok(e) = visit(sheet, places, ws, links, queue, notes, end) else {
                 return true;
-            }
+            };
+            end = e;
         }
     }
     false
@@ -931,22 +852,17 @@ fn meet_args(
     queue: &mut [u32; 517],
     p: Query,
     q: Query,
-) -> usize
+) -> Result<usize, Clash>
     requires { q.n ≤ 4 }
-    ensures { ArgsMet sheet.now places.now ws.now links.old queue.old p q links.new queue.new result }
+    ensures { ArgsMet sheet.now places.now ws.now links.old queue.old p q links.new queue.new (end_of result) }
 {
     let mut e: usize = 0;
-    let mut k: usize = 0;
-    while k < q.n {
+    for k in 0..q.n {
         let a = own_type(p.args[k]);
         let b = table::find(ws, q.args[k]);
-        e = meet(sheet, places, ws, links, queue, e, a, b);
-        if e == CLASH {
-            return e;
-        }
-        k += 1;
+        e = meet(sheet, places, ws, links, queue, e, a, b)?;
     }
-    e
+    Ok(e)
 }
 
 // Whether an unknown that met its own inverse, if one is noted in the queue, stays free.
@@ -964,10 +880,7 @@ fn noted_opposed(
     ensures { Opposed sheet.now places.now ws.now links.now p q result }
 {
     let r = queue[NOTED];
-    if r == 0 {
-        return false;
-    }
-    loose::opposed(sheet, places, ws, links, p, q, r - 1)
+    r != 0 && loose::opposed(sheet, places, ws, links, p, q, r - 1)
 }
 
 // Whether the arguments of a signature clash with those of the question; of a candidate, whose Params are given types, if it is `given`.
@@ -986,18 +899,15 @@ fn clash_args(
 {
     let mut links = [0u32; 2048];
     let mut queue = [0u32; 517];
-    let n = meet_args(sheet, places, ws, &mut links, &mut queue, p, q);
-    if n == CLASH {
+    let Ok(n) = meet_args(sheet, places, ws, &mut links, &mut queue, p, q) else {
         return true;
-    }
+    };
     notes[USED] = 0;
     if run(sheet, places, ws, &mut links, &mut queue, notes, n) {
         return true;
     }
-    if given {
-        if noted_opposed(sheet, places, ws, &links, &queue, p, q) {
-            return true;
-        }
+    if given && noted_opposed(sheet, places, ws, &links, &queue, p, q) {
+        return true;
     }
     cycles::cyclic(sheet, places, ws, &links, notes)
 }
@@ -1017,19 +927,14 @@ fn root_clash(sheet: &[u32], places: &[u32], ws: &[u32], a: u32, b: u32) -> bool
     if k != l {
         return true;
     }
-    if k == ERROR {
-        if a / 2 != b / 2 {
-            return true;
-        }
+    if k == ERROR && a / 2 != b / 2 {
+        return true;
     }
     let d = id(sheet, places, ws, a / 2);
     if d != id(sheet, places, ws, b / 2) {
         return true;
     }
-    if apart(sheet, places, ws, a, b) == 1 {
-        return sided_near(sheet, k, d, NEAR);
-    }
-    false
+    apart(sheet, places, ws, a, b) && sided_near(sheet, k, d, NEAR)
 }
 
 // Whether the arguments of a signature clash with those of the question by their roots alone.
@@ -1037,24 +942,19 @@ fn roots_clash(sheet: &[u32], places: &[u32], ws: &[u32], p: Query, q: Query) ->
     requires { q.n ≤ 4 }
     ensures { Clashing false sheet.now places.now ws.now p q result }
 {
-    let mut k: usize = 0;
-    while k < q.n {
+    for k in 0..q.n {
         let a = own_type(p.args[k]);
         let b = table::find(ws, q.args[k]);
         if root_clash(sheet, places, ws, a, b) {
             return true;
         }
-        k += 1;
     }
     false
 }
 
 // Whether sheet and table are so small that opening a candidate costs no more than the test.
 fn are_small(sheet: &[u32], ws: &[u32]) -> bool {
-    if sheet.len() > SMALL_SHEET {
-        return false;
-    }
-    table::count(ws) <= SMALL_TABLE
+    sheet.len() <= SMALL_SHEET && table::count(ws) <= SMALL_TABLE
 }
 
 // Whether the rule fails for a candidate (`given`) of a question for which one was missed before: followed in its own order, which is dearer than what is tested first.
@@ -1071,13 +971,7 @@ fn fails_late(
     requires n_bound { q.n ≤ 4 }
     ensures { Clashing given sheet.now places.now ws.now p q result }
 {
-    if notes[ORDER] == 0 {
-        return false;
-    }
-    if given {
-        return order::fails(sheet, places, ws, p, q);
-    }
-    false
+    notes[ORDER] != 0 && given && order::fails(sheet, places, ws, p, q)
 }
 
 // Whether the arguments of a signature are found to clash with those of the question: by their roots, and then, unless all is small, by all that is below them.
@@ -1100,10 +994,8 @@ fn args_clash(
     if are_small(sheet, ws) {
         return false;
     }
-    if clash_args(sheet, places, ws, notes, p, q, given) {
-        return true;
-    }
-    fails_late(sheet, places, ws, notes, p, q, given)
+    clash_args(sheet, places, ws, notes, p, q, given)
+        || fails_late(sheet, places, ws, notes, p, q, given)
 }
 
 // Whether the signature of the impl whose record is at p clashes with question q.
@@ -1122,21 +1014,15 @@ fn clash_at(
 {
     let tr = words::offset(sheet, p, layout::IMPL_TRAIT);
     let args = words::offset(sheet, p, layout::IMPL_ARGS);
-    let a = queries::read_query(sheet, tr, words::wide(args));
-    if a.n != q.n {
-        return false;
-    }
-    args_clash(sheet, places, ws, notes, a, q, true)
+    let a = queries::read_query(sheet, tr, args as usize);
+    a.n == q.n && args_clash(sheet, places, ws, notes, a, q, true)
 }
 
 // Whether a table has room for n nodes more.
 fn has_room(ws: &[u32], n: usize) -> bool
     ensures { Room (types_of ws.now) n result }
 {
-    if n > ROOM {
-        return false;
-    }
-    words::wide(table::count(ws)) <= ROOM - n
+    n <= ROOM && table::count(ws) as usize <= ROOM - n
 }
 
 // The place of the record of impl i.
@@ -1152,9 +1038,7 @@ pub fn missed(notes: &mut [u32; 512]) {
     notes[ORDER] = 1;
     if notes[OFF] != 0 {
         notes[OFF] = BLAMELESS;
-        return;
-    }
-    if notes[USED] != 0 {
+    } else if notes[USED] != 0 {
         notes[OFF] = 1;
     }
 }
@@ -1179,13 +1063,13 @@ pub fn clashes(
     requires n_bound { q.n ≤ 4 }
     ensures { Clashes sheet.now (types_of ws.now) (query_of q) i result }
 {
-    if has_room(ws, n) {
-        let p = impl_place(sheet, i);
-        let head = words::offset(sheet, p, layout::IMPL_TABLE);
-        let m = chart::index_chain(sheet, head, places, 0);
-        return clash_at(sheet, &places[..m], ws, notes, q, p);
+    if !has_room(ws, n) {
+        return false;
     }
-    false
+    let p = impl_place(sheet, i);
+    let head = words::offset(sheet, p, layout::IMPL_TABLE);
+    let m = chart::index_chain(sheet, head, places, 0);
+    clash_at(sheet, &places[..m], ws, notes, q, p)
 }
 
 // The head of the table of generics g.
@@ -1217,14 +1101,11 @@ pub fn param_clashes(
     requires all_in_2 { AllIn (length (impl_params sheet.now g).0) (query_of p).1 }
     ensures { ParamClashes sheet.now g (types_of ws.now) (query_of p) (query_of q) result }
 {
-    if p.n != q.n {
+    if p.n != q.n || !has_room(ws, n) {
         return false;
     }
-    if has_room(ws, n) {
-        let head = generics_head(sheet, g);
-        let m = chart::index_chain(sheet, head, places, 0);
-        let mut notes = [0u32; 512];
-        return args_clash(sheet, &places[..m], ws, &mut notes, p, q, false);
-    }
-    false
+    let head = generics_head(sheet, g);
+    let m = chart::index_chain(sheet, head, places, 0);
+    let mut notes = [0u32; 512];
+    args_clash(sheet, &places[..m], ws, &mut notes, p, q, false)
 }

@@ -1,7 +1,7 @@
 -- What the search of an impl call comes to: a refusal of its own, 20, 21, or what one result comes to.
 use Rattle.std.specs.Prelude.{ℕ, ◌+◌, ◌*◌, ◌≤◌, ◌<◌, ◌≡◌, ◌≢◌, drop}
 use Rattle.std.proofs.Math.Path.{refl, ap}
-use Rattle.std.proofs.Common.{sym, ◌∙◌, ap₂, subst}
+use Rattle.std.proofs.Common.{sym, ◌∙◌, ap₂, subst, get_or-drop, length-drop}
 use mathlib.Core.List.{List, [], ◌∷◌}
 use native.Mathlib.Omega.{arith}
 use Rattle.std.proofs.Math.ListN.{length}
@@ -37,6 +37,10 @@ front_then us vs ws p q = record { long = q.long; same = λ i l. q.same i l ∙ 
 
 front_slot : (vs found : Words) (r : Result) → Front vs found → Slot vs 1282 r → Slot found 1282 r
 front_slot vs found r f s = slot_move vs found 1282 1282 r (omega (arith, f.long)) (λ i l. f.same (1282 + i) (omega arith)) s
+
+-- A slot's words alone.
+slot_behind : (ws : Words) (a : ℕ) (r : Result) → Slot ws a r → Slot (drop a ws) 0 r
+slot_behind ws a r h = slot_move ws (drop a ws) a 0 r (omega (arith, length-drop a ws, h.room)) (λ i l. ap (at (drop a ws)) (let e : 0 + i ≡ i = omega arith in e) ∙ get_or-drop a ws i 0) h
 
 -- One result in slot 1, with what was asked over its types.
 pub record OneStands (asked : Query) (found : Words) : Type 0 where
@@ -98,20 +102,23 @@ module _ (s : Words) (ts : Types) (query sub : ImplType) (n : ℕ) (found buf : 
       one (r ∷ []) l = absurd (y (sym l))
       one (r ∷ (r' ∷ rs)) l = refused_closed (refused 21) buf 21 (λ x. omega arith) refl
 
-  pub results_one : (out : Words) (r : ℕ) → n ≡ 1 → ClosesImpl s ts query sub found 1282 buf out r → EndsResults s ts query sub n found buf out r
+  pub results_one : (out first : Words) (r : ℕ) → n ≡ 1 → first ≡ drop 1282 found → ClosesImpl s ts query sub first 0 buf out r → EndsResults s ts query sub n found buf out r
   unfolding impl_ending
-  results_one out r z c = record { ends = one }
+  results_one out first r z e c = record { ends = one }
     where
       one : (vs : Words) (rs : List Result) → Front vs found → length rs ≡ n → Slots vs 1282 rs → Closed (impl_ending s ts query sub (got rs)) buf out r
       one vs [] f l h = absurd (omega arith)
-      one vs (x ∷ []) f l h = c.closes x (front_slot vs found x f (subst (λ i. Slot vs i x) (let e : 1282 + 1282 * 0 ≡ 1282 = omega arith in e) (h.at 0 (omega arith))))
+      one vs (x ∷ []) f l h = c.closes x (subst (λ (us : Words). Slot us 0 x) (sym e) (slot_behind found 1282 x (front_slot vs found x f (subst (λ i. Slot vs i x) (let e : 1282 + 1282 * 0 ≡ 1282 = omega arith in e) (h.at 0 (omega arith))))))
       one vs (x ∷ (y ∷ rs)) f l h = absurd (omega arith)
 
-pub one-filled : (n : ℕ) (asked : Query) (found : Words) → IfOne n asked found → n ≡ 1 → Filled found 1282
-one-filled n asked found i e = (i.one e).filled
+pub one_room : (n : ℕ) (asked : Query) (found : Words) → IfOne n asked found → n ≡ 1 → 1282 ≤ length found
+one_room n asked found i e = omega (arith, (i.one e).filled.slot.room)
 
-pub one_asks : (n : ℕ) (asked : Query) (found : Words) → IfOne n asked found → n ≡ 1 → Asks (types_of (drop 1282 found)) asked
-one_asks n asked found i e = (i.one e).asks
+pub one-filled : (n : ℕ) (asked : Query) (found first : Words) → IfOne n asked found → n ≡ 1 → first ≡ drop 1282 found → Filled first 0
+one-filled n asked found first i e d = let f = (i.one e).filled in record { result = f.result; slot = subst (λ (us : Words). Slot us 0 f.result) (sym d) (slot_behind found 1282 f.result f.slot) }
+
+pub one_asks : (n : ℕ) (asked : Query) (found first : Words) → IfOne n asked found → n ≡ 1 → first ≡ drop 1282 found → Asks (types_of first) asked
+one_asks n asked found first i e d = subst (λ (us : Words). Asks (types_of us) asked) (sym d) (i.one e).asks
 
 module _ (s : Words) (ts : Types) (query sub : ImplType) (searched : Asked) (found buf : Words) where
   pub ends_refused : (m c : ℕ) → searched ≡ Refused m c → EndsImpl s ts query sub searched found buf buf m
@@ -138,14 +145,14 @@ searched_one o searched found ts asked a k h = record { one = λ c e. let g = a.
         }
 
 -- What stands in the front of one slice stands in that of the other.
-pub found_front : (searched : Asked) (asked : Query) (vs found : Words) → IfFound searched asked vs → Front vs found → IfFound searched asked found
-found_front searched asked vs found i f = record { one = λ c e. go (i.one c e) }
-  where
-    go : OneStands asked vs → OneStands asked found
-    go o =
-        let s = o.filled.slot in
-        let t = front_slot vs found o.filled.result f s in
-        record { filled = record { result = o.filled.result; slot = t }; asks = subst (λ (ts : Types). Asks ts asked) (s.table.is ∙ sym t.table.is) o.asks }
+stands_front : (asked : Query) (vs found : Words) → OneStands asked vs → Front vs found → OneStands asked found
+stands_front asked vs found o f =
+    let s = o.filled.slot in
+    let t = front_slot vs found o.filled.result f s in
+    record { filled = record { result = o.filled.result; slot = t }; asks = subst (λ (ts : Types). Asks ts asked) (s.table.is ∙ sym t.table.is) o.asks }
 
-pub ends_front : (s : Words) (ts : Types) (query sub : ImplType) (searched : Asked) (vs found buf out : Words) (r : ℕ) → Front vs found → EndsImpl s ts query sub searched found buf out r → EndsImpl s ts query sub searched vs buf out r
-ends_front s ts query sub searched vs found buf out r f e = record { ends = λ us o g a z. e.ends us o (front_then us vs found g f) a z }
+pub results_front : (s : Words) (ts : Types) (query sub : ImplType) (n : ℕ) (vs found buf out : Words) (r : ℕ) → Front vs found → EndsResults s ts query sub n found buf out r → EndsResults s ts query sub n vs buf out r
+results_front s ts query sub n vs found buf out r f e = record { ends = λ us rs g z h. e.ends us rs (front_then us vs found g f) z h }
+
+pub one_front : (n : ℕ) (asked : Query) (vs found : Words) → IfOne n asked vs → Front vs found → IfOne n asked found
+one_front n asked vs found i f = record { one = λ e. stands_front asked vs found (i.one e) f }

@@ -1,9 +1,8 @@
 -- The caller's types as the answer has them: the question's nodes exported, and the answer written.
-use Rattle.std.specs.Prelude.{ℕ, zero, suc, ◌+◌, ◌*◌, ◌≤◌, ◌<◌, ◌≡◌, refl, Bool, true, false, length, get_or, set, take}
+use Rattle.std.specs.Prelude.{ℕ, zero, suc, ◌+◌, ◌*◌, ◌≤◌, ◌<◌, ◌≡◌, refl, Bool, false, length, get_or, take}
 use Rattle.std.proofs.Math.Path.{sym, subst}
-use Rattle.std.proofs.Common.{◌∙◌, ap, add-zero, add-suc, suc-add, zero-add, not-suc-le-zero, arith, length-set, length-take, get_or-set_same, get_or-set_other, get_or-take, ext_get_or}
+use Rattle.std.proofs.Common.{◌∙◌, ap, add-zero, add-suc, suc-add, zero-add, not-suc-le-zero, arith, length-take, get_or-take, ext_get_or}
 use mathlib.Core.List.{List, [], ◌∷◌, map}
-use Rattle.std.proofs.Math.Decide.{ℕ_discrete}
 use Rattle.std.proofs.lemmas.List.{length-map}
 use Rattle.rules.specs.Lists.{Words, range}
 use Rattle.rules.specs.Sheet.{at}
@@ -18,7 +17,6 @@ use Rattle.rules.specs.Neat.{Neat, range_in}
 use Rattle.table.specs.Packing.{types_of}
 use Rattle.table.specs.Nodes.{word_type, types_few}
 use Rattle.table.specs.Writes.{even_type}
-use Rattle.transfer.specs.Source.{source}
 use Rattle.transfer.specs.Leaves.{type_at}
 use Rattle.transfer.specs.Imports.{types_in, Inside, Imports}
 use Rattle.transfer.specs.Callers.{inside_from, export_fits}
@@ -39,19 +37,6 @@ pub record Filling (row : Words) (n i : ℕ) : Type 0 where
   pub within : i ≤ n
   pub room : n ≤ length row
   pub each : (j : ℕ) → j < i → at row j ≡ 2 * j
-
-pub filling_start : (row : Words) (n : ℕ) → n ≤ length row → Filling row n 0
-filling_start row n h = record { within = omega arith; room = h; each = λ j l. absurd (not-suc-le-zero l) }
-
-pub filling_next : (row : Words) (n i w : ℕ) → Filling row n i → i < n → w ≡ 2 * i → Filling (set row i w) n (i + 1)
-filling_next row n i w f h e = record {
-  within = omega arith;
-  room = omega (arith, length-set row i w, f.room);
-  each = λ j l. elim (ℕ_discrete j i) [
-    | yes q ↦ ap (at (set row i w)) q ∙ get_or-set_same row i w 0 (omega (arith, f.room)) ∙ e ∙ ap (λ k. 2 * k) (sym q)
-    | no q ↦ get_or-set_other row i j w 0 q ∙ f.each j (omega arith)
-  ];
-}
 
 range_length : (i n : ℕ) → length (range i n) ≡ n
 unfolding range
@@ -78,9 +63,6 @@ filling_done row n i f h = record {
     one : (j : ℕ) → j < n → get_or (map type_of_word (take n row)) j (false, 0) ≡ get_or (upright n) j (false, 0)
     one j l = type_at (take n row) j ∙ ap type_of_word (get_or-take n row j 0 l ∙ f.each j (omega (arith, f.within))) ∙ even_type j ∙ sym (range_at 0 n j l ∙ ap {B = Ty} (λ k. (false, k)) (zero-add j))
 
-pub row_room : (row : Words) (n : ℕ) → Row row n → n ≤ length row
-row_room row n r = r.room
-
 pub nodes_few : (ws : Words) (n : ℕ) → n ≤ length (types_of ws) → n ≤ 256
 nodes_few ws n h = omega (arith, types_few ws)
 
@@ -90,29 +72,25 @@ pub record Exported (ts : Types) (n : ℕ) (out row : Words) : Type 0 where
   pub table : types_of out ≡ (exported ts n).1
   pub types : take n row ≡ map word_of_type (exported ts n).0
 
-packed_source : (ws places : Words) → source true ws places ≡ types_of ws
-unfolding source
-packed_source ws places = refl
-
 words_back : (xs : Words) → map word_of_type (map type_of_word xs) ≡ xs
 words_back [] = refl
 words_back (x ∷ xs) = λ t. word_type x t ∷ words_back xs t
 
-module _ (ws places : Words) where
-  pub caller_neat : Neat (types_of ws) → Neat (source true ws places)
-  caller_neat h = subst Neat (sym (packed_source ws places)) h
+module _ (ws : Words) where
+  pub caller_neat : Neat (types_of ws) → Neat (types_of ws)
+  caller_neat h = h
 
-  pub caller_room : (ms : Words) → 256 ≤ length ms → length (source true ws places) ≤ length ms
-  caller_room ms h = omega (arith, ap (λ (ts : Types). length ts) (packed_source ws places), types_few ws)
+  pub caller_room : (ms : Words) → 256 ≤ length ms → length (types_of ws) ≤ length ms
+  caller_room ms h = omega (arith, types_few ws)
 
   module _ (n : ℕ) (h : n ≤ length (types_of ws)) (row : Words) (r : Row row n) where
     row_in : Inside (types_of ws) (take n row)
     row_in = inside_from (types_of ws) n row (subst (AllIn (length (types_of ws))) (sym r.is) (range_in 0 n (length (types_of ws)) (omega arith)))
 
-    pub row_inside : Inside (source true ws places) (take n row)
-    row_inside = subst (λ (ts : Types). Inside ts (take n row)) (sym (packed_source ws places)) row_in
+    pub row_inside : Inside (types_of ws) (take n row)
+    row_inside = row_in
 
-    pub row-exported : (out vs : Words) (ok : Bool) → Neat (types_of ws) → Imports (export_types (source true ws places) (types_in n row)) out row vs n ok → Exported (types_of ws) n out vs
+    pub row-exported : (out vs : Words) (ok : Bool) → Neat (types_of ws) → Imports (export_types (types_of ws) (types_in n row)) out row vs n ok → Exported (types_of ws) n out vs
     unfolding types_in
     row-exported out vs ok g i = record {
       room = omega (arith, j.replaces.len, r.room);
@@ -121,7 +99,7 @@ module _ (ws places : Words) where
     }
       where
         j : Imports (export_types (types_of ws) (types_in n row)) out row vs n ok
-        j = subst (λ (ts : Types). Imports (export_types ts (types_in n row)) out row vs n ok) (packed_source ws places) i
+        j = i
 
         both : ◌≡◌ {A = List Ty × Types} (exported (types_of ws) n) (types_in n vs, types_of out)
         both = ap (export_types (types_of ws)) (sym r.is) ∙ j.comes.is (export_fits ws out row vs n ok g row_in j)
@@ -132,9 +110,6 @@ pub record Writes (fork : Words) (a : ℕ) (drop : Words) (b : ℕ) (inv self : 
 
 pub types_length : (ts : Types) (n : ℕ) (out row : Words) → Exported ts n out row → n ≡ length (take n row)
 types_length ts n out row e = omega (arith, length-take n row, e.room)
-
-pub types_most : (ws : Words) (n : ℕ) (out row : Words) → n ≤ length (types_of ws) → Exported (types_of ws) n out row → length (take n row) ≤ 256
-types_most ws n out row h e = omega (arith, length-take n row, e.room, types_few ws)
 
 pub writes : (fork : Words) (a : ℕ) (drop : Words) (b : ℕ) (inv self : Bool) (ts : Types) (n : ℕ) (out row before after : Words) (r : ℕ) → Exported ts n out row → Answers fork a drop b inv self out (take n row) before after r → Writes fork a drop b inv self ts n before after
 writes fork a drop b inv self ts n out row before after r e w = record { at = λ t u ht hu. w.after t u n ts ht hu e.table e.types }

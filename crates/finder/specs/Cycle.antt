@@ -3,11 +3,14 @@ use Rattle.std.specs.Prelude.{ℕ, zero, suc, ◌+◌, ◌-◌, ◌*◌, ◌≤�
 use Rattle.std.proofs.Math.Path.{refl, ap}
 use Rattle.std.proofs.Common.{sym, ◌∙◌, subst, inl, arith, get_or-drop}
 use Rattle.std.proofs.lemmas.List.{length-replicate}
+use Rattle.std.specs.Prelude.{Ok, Err}
+use Rattle.refusals.specs.declared.Refusal.{Refusal}
+use Rattle.refusals.specs.Numbers.{number_of}
 use Rattle.rules.specs.Lists.{Words}
 use Rattle.rules.specs.Layout.{header_impls}
 use Rattle.rules.specs.Sheet.{at, many}
 use Rattle.rules.specs.Types.{Types, ImplType}
-use Rattle.rules.specs.Run.{Run, ◌>>=◌, Out, within}
+use Rattle.rules.specs.Run.{Run, stop, ◌>>=◌, Out, within}
 use Rattle.rules.specs.Search.{end, Result, collect, find_impl_candidates, find_subimpls, try_candidate, before_candidates, question}
 use Rattle.rules.specs.Search as rules
 use Rattle.rules.specs.Solutions.{AllIn}
@@ -131,18 +134,20 @@ trying_less s ws x id next h g = go (384 - next) refl
     go zero e = omega arith
     go (suc k) e = omega (arith, (g.up (omega arith)).0)
 
-module _ (s sets : Words) (f : Finder) (basic : ℕ) (q : Query) (d : ℕ) (x : Sets) (n₀ c₀ : ℕ) (ws₀ : Words) (search : Searching s sets f) (sets-are : Finds s f.source (types_of ws₀) (query_of q) basic x) where
-  -- Where candidates cannot be looked for,
-  pub sets_refused : x.number ≢ 0 → Stepped f.limit (candidates_left d (finder_of s f) (eqb basic 1) (types_of ws₀) (query_of q)) n₀ c₀ ws₀ (Refused x.number c₀) ws₀
-  unfolding candidates_left within ◌>>=◌
-  sets_refused z = record {
-    at = λ fs e t. answers_refused _ x.number c₀ ws₀ (ap (λ (m : Run Words). within (ltb f.limit) (m >>= λ is. collect (try_candidate (ask_below d (finder_of s f)) s (types_of ws₀) (query_of q)) is fs) c₀) (found_stops s f.source (sets_of sets) (types_of ws₀) (query_of q) basic x search.stands sets-are z f.generics));
-  }
+-- Where candidates cannot be looked for.
+pub sets_refused : (s sets : Words) (f : Finder) (basic : ℕ) (q : Query) (d n₀ c₀ number : ℕ) (ws₀ : Words) → Searching s sets f → (refusal : Refusal) → Finds s f.source (types_of ws₀) (query_of q) basic (Err refusal) → number ≡ number_of refusal
+    → Stepped f.limit (candidates_left d (finder_of s f) (eqb basic 1) (types_of ws₀) (query_of q)) n₀ c₀ ws₀ (Refused number c₀) ws₀
+unfolding candidates_left within ◌>>=◌
+sets_refused s sets f basic q d n₀ c₀ number ws₀ search refusal h z = record {
+  at = λ fs u t. answers_refused _ number c₀ ws₀ (ap (λ (m : Run Words). within (ltb f.limit) (m >>= λ is. collect (try_candidate (ask_below d (finder_of s f)) s (types_of ws₀) (query_of q)) is fs) c₀)
+      (found_stops s f.source (sets_of sets) (types_of ws₀) (query_of q) basic search.stands (Err refusal) refusal h refl f.generics ∙ ap stop (sym z)));
+}
 
-  -- else it begins with the first,
-  pub trying_start : (id : ℕ) → x.number ≡ 0 → Asking ws₀ q → Row ws₀ 1282 n₀ → n₀ ≤ 4 → c₀ ≤ 4000000000 → NextId s (sets_of sets) x 0 id → Trying s sets f basic q d x n₀ c₀ ws₀ ws₀ id n₀ c₀
+module _ (s sets : Words) (f : Finder) (basic : ℕ) (q : Query) (d : ℕ) (x : Sets) (n₀ c₀ : ℕ) (ws₀ : Words) (search : Searching s sets f) (sets-are : Finds s f.source (types_of ws₀) (query_of q) basic (Ok x)) where
+  -- It begins with the first,
+  pub trying_start : (id : ℕ) → Asking ws₀ q → Row ws₀ 1282 n₀ → n₀ ≤ 4 → c₀ ≤ 4000000000 → NextId s (sets_of sets) x 0 id → Trying s sets f basic q d x n₀ c₀ ws₀ ws₀ id n₀ c₀
   unfolding candidates_left ◌>>=◌
-  trying_start id z a row few low g = record {
+  trying_start id a row few low g = record {
     front = record { len = refl; at = λ i l. refl };
     asking = a;
     up = λ h. (g.up h).1;
@@ -150,11 +155,11 @@ module _ (s sets : Words) (f : Finder) (basic : ℕ) (q : Query) (d : ℕ) (x : 
     next = λ h. g.found h f.source standing;
     none = λ h. g.none h f.source standing;
     going = stepping_same f.limit _ n₀ c₀ ws₀ _ n₀ c₀ ws₀ (stepping_start f.limit _ n₀ c₀ ws₀ ws₀ row few low (λ fs e t. t)) _
-        (λ fs. ap (λ (m : Run Words). m >>= λ is. collect (try_candidate (ask_below d (finder_of s f)) s (types_of ws₀) (query_of q)) is fs) (found_goes s f.source (sets_of sets) (types_of ws₀) (query_of q) basic x search.stands sets-are z f.generics));
+        (λ fs. ap (λ (m : Run Words). m >>= λ is. collect (try_candidate (ask_below d (finder_of s f)) s (types_of ws₀) (query_of q)) is fs) (found_goes s f.source (sets_of sets) (types_of ws₀) (query_of q) basic search.stands x sets-are f.generics));
   }
     where
       standing : Standing s f.source (sets_of sets) (nodes_of x)
-      standing = found-standing s f.source (sets_of sets) (types_of ws₀) (query_of q) basic x search.stands sets-are
+      standing = found-standing s f.source (sets_of sets) (types_of ws₀) (query_of q) basic search.stands x sets-are
 
   module _ (ws : Words) (id n c : ℕ) (t : Trying s sets f basic q d x n₀ c₀ ws₀ ws id n c) (packed : Packed ws₀) where
     table : Table ws 0 (types_of ws₀)
@@ -173,7 +178,7 @@ module _ (s sets : Words) (f : Finder) (basic : ℕ) (q : Query) (d : ℕ) (x : 
 
       pub trying_on : (e m id' : ℕ) → r ≡ Found e m → NextId s (sets_of sets) x (id + 1) id' → Trying s sets f basic q d x n₀ c₀ ws₀ out id' m e
       trying_on e m id' p g =
-          let st = found-standing s f.source (sets_of sets) (types_of ws₀) (query_of q) basic x search.stands sets-are in
+          let st = found-standing s f.source (sets_of sets) (types_of ws₀) (query_of q) basic search.stands x sets-are in
           record {
             front = record { len = o.front.len ∙ t.front.len; at = λ i l. o.front.at i l ∙ t.front.at i l };
             asking = asking_table ws out q t.asking (front_table ws out o.front.len o.front.at t.asking.packed);

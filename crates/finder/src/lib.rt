@@ -59,8 +59,8 @@ struct QueryRow {
     words: [u32; 25],
 }
 
-// Built-in fork and drop, then the generics' impl parameters, in slices for a sheet of middle size.
-fn begin_middle(
+// Built-in fork and drop, then the generics' impl parameters, in slices of so many words.
+fn begin_in<const PLACES: usize, const MAP: usize>(
     sheet: &[u32],
     sets: &[u32],
     ws: &mut [u32],
@@ -75,34 +75,12 @@ fn begin_middle(
     requires basic_bound { basic < 2 }
     requires count_bound { count ≤ 4000000000 }
     requires taken { Taken sheet.now f.generics (takes_of sets.now) }
-    requires sheet_len_bound { length sheet.now ≤ 1280 }
+    requires places { (length sheet.now ≤ 5 * PLACES) × (PLACES ≤ 1024) }
+    requires map { (length sheet.now ≤ 5 * MAP) × (256 ≤ MAP) × (MAP ≤ 1024) }
     ensures { Begins (finder_of sheet.now f) (eqb basic 1) ws.old (query_of q) count result ws.new }
 {
-    let mut places = [0u32; MIDDLE];
-    let mut map = [0u32; MARKS];
-    steps::before_candidates(sheet, sets, ws, &mut places, &mut map, f, basic, q, count)
-}
-
-// The same in slices for any sheet.
-fn begin_wide(
-    sheet: &[u32],
-    sets: &[u32],
-    ws: &mut [u32],
-    f: Finder,
-    basic: u32,
-    q: Query,
-    count: u32,
-) -> Asked
-    requires sound { Sound (finder_of sheet.now f) }
-    requires asking { Asking ws.old q }
-    requires in_bounds { 7692 ≤ length ws.old }
-    requires basic_bound { basic < 2 }
-    requires count_bound { count ≤ 4000000000 }
-    requires taken { Taken sheet.now f.generics (takes_of sets.now) }
-    ensures { Begins (finder_of sheet.now f) (eqb basic 1) ws.old (query_of q) count result ws.new }
-{
-    let mut places = [0u32; WIDE];
-    let mut map = [0u32; WIDE];
+    let mut places = [0u32; PLACES];
+    let mut map = [0u32; MAP];
     steps::before_candidates(sheet, sets, ws, &mut places, &mut map, f, basic, q, count)
 }
 
@@ -128,13 +106,13 @@ fn begin(
         return steps::built_ins(sheet, ws, f, basic, q, count);
     }
     if sheet.len() <= MIDDLE_SHEET {
-        return begin_middle(sheet, sets, ws, f, basic, q, count);
+        return begin_in::<MIDDLE, MARKS>(sheet, sets, ws, f, basic, q, count);
     }
-    begin_wide(sheet, sets, ws, f, basic, q, count)
+    begin_in::<WIDE, WIDE>(sheet, sets, ws, f, basic, q, count)
 }
 
-// Opens a candidate behind slot 4, in slices for a small sheet.
-fn open_small(
+// Opens a candidate behind slot 4, in slices of so many words.
+fn open_in<const PLACES: usize, const MAP: usize>(
     sheet: &[u32],
     sets: &[u32],
     ws: &mut [u32],
@@ -148,56 +126,12 @@ fn open_small(
     requires in_bounds { 7692 ≤ length ws.old }
     requires i_bound { i < many sheet.now header_impls }
     requires signature_takes { SignatureTakes sheet.now i (at sets.now (34948 + i)) }
-    requires sheet_len_bound { length sheet.now ≤ 320 }
+    requires places { (length sheet.now ≤ 5 * PLACES) × (PLACES ≤ 1024) }
+    requires map { (length sheet.now ≤ 5 * MAP) × (256 ≤ MAP) × (MAP ≤ 1024) }
     ensures { Opens sheet.now ws.old (query_of q) i result ws.new }
 {
-    let mut places = [0u32; SMALL];
-    let mut map = [0u32; MIDDLE];
-    steps::open_candidate(sheet, sets, ws, &mut places, &mut map, notes, f, q, i)
-}
-
-// The same in slices for a sheet of middle size.
-fn open_middle(
-    sheet: &[u32],
-    sets: &[u32],
-    ws: &mut [u32],
-    notes: &mut [u32; 512],
-    f: Finder,
-    q: Query,
-    i: usize,
-) -> Queries
-    requires sound { Sound (finder_of sheet.now f) }
-    requires asking { Asking ws.old q }
-    requires in_bounds { 7692 ≤ length ws.old }
-    requires i_bound { i < many sheet.now header_impls }
-    requires signature_takes { SignatureTakes sheet.now i (at sets.now (34948 + i)) }
-    requires sheet_len_bound { length sheet.now ≤ 1280 }
-    ensures { Opens sheet.now ws.old (query_of q) i result ws.new }
-{
-    let mut places = [0u32; MIDDLE];
-    let mut map = [0u32; MARKS];
-    steps::open_candidate(sheet, sets, ws, &mut places, &mut map, notes, f, q, i)
-}
-
-// The same in slices for any sheet.
-fn open_wide(
-    sheet: &[u32],
-    sets: &[u32],
-    ws: &mut [u32],
-    notes: &mut [u32; 512],
-    f: Finder,
-    q: Query,
-    i: usize,
-) -> Queries
-    requires sound { Sound (finder_of sheet.now f) }
-    requires asking { Asking ws.old q }
-    requires in_bounds { 7692 ≤ length ws.old }
-    requires i_bound { i < many sheet.now header_impls }
-    requires signature_takes { SignatureTakes sheet.now i (at sets.now (34948 + i)) }
-    ensures { Opens sheet.now ws.old (query_of q) i result ws.new }
-{
-    let mut places = [0u32; WIDE];
-    let mut map = [0u32; WIDE];
+    let mut places = [0u32; PLACES];
+    let mut map = [0u32; MAP];
     steps::open_candidate(sheet, sets, ws, &mut places, &mut map, notes, f, q, i)
 }
 
@@ -219,12 +153,12 @@ fn open_one(
     ensures { Opens sheet.now ws.old (query_of q) i result ws.new }
 {
     if sheet.len() <= SMALL_SHEET {
-        return open_small(sheet, sets, ws, notes, f, q, i);
+        return open_in::<SMALL, MIDDLE>(sheet, sets, ws, notes, f, q, i);
     }
     if sheet.len() <= MIDDLE_SHEET {
-        return open_middle(sheet, sets, ws, notes, f, q, i);
+        return open_in::<MIDDLE, MARKS>(sheet, sets, ws, notes, f, q, i);
     }
-    open_wide(sheet, sets, ws, notes, f, q, i)
+    open_in::<WIDE, WIDE>(sheet, sets, ws, notes, f, q, i)
 }
 
 // Whether the first n words of two slices are the same.
@@ -433,13 +367,13 @@ fn candidates(
     requires n_bound { n ≤ 4 }
     ensures { Stepped f.limit (candidates_left depth (finder_of sheet.now f) (eqb basic 1) (types_of ws.old) (query_of q)) n count ws.old result ws.new }
 {
-    let found = steps::find_candidates(sheet, sets, ws, f, basic, q);
-    if found.number != 0 {
-        return Asked::Refused {
-            number: found.number,
-            count,
-        };
-    }
+    let found = match steps::find_candidates(sheet, sets, ws, f, basic, q) {
+        Ok(found) => found,
+        Err(refusal) => {
+            let number = refusal.number();
+            return Asked::Refused { number, count };
+        }
+    };
     let mut notes = [0u32; 512];
     let mut last = [0u32; 1025];
     let mut noted = [0u32; 26];
@@ -594,8 +528,7 @@ fn results(
 {
     let mut stand = 0;
     let mut cur = count;
-    let mut k = 0;
-    while k < m {
+    for k in 0..m {
         let one = result(sheet, sets, ws, f, qs, from, depth, k, stand, cur);
         match one {
             Asked::Refused { number, count } => {
@@ -606,7 +539,6 @@ fn results(
                 cur = count;
             }
         }
-        k += 1;
     }
     Asked::Found {
         count: cur,

@@ -58,9 +58,6 @@ module _ (s sets q : Words) (f : Finder) (k : Flexing s sets q f) where
   pub flexing_inside : at q question_type / 2 < length (question_types q)
   flexing_inside = flex_inside (finder_of s f) q k.passed k.sheet_short k.short
 
-  pub flexing_searching : Searching s sets f
-  flexing_searching = k.searching
-
 -- The question's table is loaded: what its export asks for, and gives.
 module _ (q us : Words) (b : Becomes us (question_types q)) where
   pub loaded_neat : Fitting (question_types q) → Neat (types_of us)
@@ -68,9 +65,6 @@ module _ (q us : Words) (b : Becomes us (question_types q)) where
 
   pub loaded_inside : (t : ℕ) → t ≡ at q 1 → at q question_type / 2 < length (question_types q) → t / 2 < length (types_of us)
   loaded_inside t e h = omega (arith, ap (λ (ts : Types). length ts) b.is, h)
-
-  pub loaded_exports : (t : ℕ) (ws : Words) (r : ℕ) → t ≡ at q 1 → ExportsType (types_of us) t ws r → ExportsType (question_types q) (at q question_type) ws r
-  loaded_exports t ws r e x = subst (λ (ts : Types). ExportsType ts (at q question_type) ws r) b.is (subst (λ i. ExportsType (types_of us) i ws r) e x)
 
 -- It is exported, and asked.
 module _ (q ws : Words) (e : ℕ) (x : ExportsType (question_types q) (at q question_type) ws e) where

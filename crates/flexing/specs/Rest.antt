@@ -1,8 +1,9 @@
 -- The four searches in turn: what the call comes to from the results that are there, and the searches that are left.
 -- Results and what is kept of them stand last first.
-use Rattle.std.specs.Prelude.{ℕ, ◌≤◌, ◌<◌, ◌≡◌, Bool, true, ◌≢◌, ltb}
-use Rattle.std.proofs.Math.Path.{refl, sym, ap, subst}
-use Rattle.std.proofs.Common.{◌∙◌, arith}
+use Rattle.std.specs.Prelude.{ℕ, zero, suc, ◌+◌, ◌≤◌, ◌<◌, max, ◌≡◌, Bool, true, ◌≢◌, ltb, Ok, Err, length, get_or, set, drop}
+use Rattle.std.specs.Prelude.{Result as Tried}
+use Rattle.std.proofs.Math.Path.{refl, sym, ap, ap₂, subst}
+use Rattle.std.proofs.Common.{◌∙◌, add-one, arith, get_or-set_same, get_or-set_other}
 use Rattle.std.proofs.Math.Bool.{false}
 use mathlib.Core.List.{List, [], ◌∷◌}
 use borrow.Author.Tests.{lt-ltb, le-ltb, eq-eqb, ne_eqb}
@@ -13,15 +14,16 @@ use Rattle.rules.specs.Sheet.{at}
 use Rattle.rules.specs.Run.{Run, Out, got, refused, within}
 use Rattle.rules.specs.Search.{Result}
 use Rattle.rules.specs.Search as rules
-use Rattle.rules.specs.Calls.{or_nothing, with_first, onward, in_turn, flex_results, flex_outcome, unset, flex_within}
-use Rattle.steps.specs.declared.Finder.{Finder}
-use Rattle.closing.specs.declared.Ended.{Ended}
+use Rattle.rules.specs.Calls.{or_nothing, with_first, onward, in_turn, flex_searches, flex_results, flex_outcome, unset, flex_within}
+use Rattle.refusals.specs.declared.Refusal.TheVariants.{ForkUnset, DropUnset, FlexSearchLimit}
+use Rattle.refusals.specs.declared.Stopped.{Stopped}
+use Rattle.refusals.specs.Numbers.{number_of, number_some, end_number, end_count}
 use Rattle.closing.specs.Impl.{Closed}
 use Rattle.closing.specs.FlexEnd.{closed_refused}
 use Rattle.closing.specs.Ended.{Ends}
 use Rattle.flexing.specs.declared.Turn.{Turn}
-use Rattle.flexing.specs.Asked.{Flexing, flex_question, the_searches}
-use Rattle.flexing.specs.Kept.{Holding, Turned}
+use Rattle.flexing.specs.Asked.{flex_question, the_searches}
+use Rattle.flexing.specs.Kept.{count_of, Holding, Turned}
 
 -- Results in front of those of later questions.
 unfoldable pub before : List (List Result) → Out (List (List Result)) → Out (List (List Result))
@@ -33,16 +35,6 @@ unfoldable pub flex_rest : (ℕ → Bool) → rules.Finder → Words → List (L
 flex_rest over a q back ss c =
     let r = in_turn (within over) ss c in
     (flex_outcome a.sheet q (over r.1) (before back r.0), r.1)
-
--- The searches that are left behind the first, the second and the third.
-abbrev pub after_fork : rules.Finder → Words → List (Run (List Result))
-after_fork a q = flex_question a q header_drop false ∷ flex_question a q header_fork true ∷ flex_question a q header_drop true ∷ []
-
-abbrev pub after_drop : rules.Finder → Words → List (Run (List Result))
-after_drop a q = flex_question a q header_fork true ∷ flex_question a q header_drop true ∷ []
-
-abbrev pub after_inverse : rules.Finder → Words → List (Run (List Result))
-after_inverse a q = flex_question a q header_drop true ∷ []
 
 before_refused : (back : List (List Result)) (n : ℕ) → before back (refused n) ≡ refused n
 unfolding before
@@ -72,78 +64,79 @@ pub record Behind (q : Words) (ks : List (ℕ × Words)) : Type 0 where
   pub back : List (List Result)
   pub holds : AllHold q ks back
 
--- The call ends with the searches that are left, from a count.
-pub record Rests (L : ℕ) (a : rules.Finder) (q : Words) (ks : List (ℕ × Words)) (ss : List (Run (List Result))) (c : ℕ) (buf out : Words) (r : Ended) : Type 0 where
-  pub at : (back : List (List Result)) → AllHold q ks back → Ends (flex_rest (ltb L) a q back ss c) buf out r
+-- What is kept of the first i questions, the last first: of each how many results there are and the slot of the first.
+abbrev pub kept_of : List ℕ → List Words → ℕ → List (ℕ × Words)
+kept_of ns ks zero = []
+kept_of ns ks (suc i) = (get_or ns i 0, get_or ks i []) ∷ kept_of ns ks i
 
-pub behind-none : (q : Words) → Behind q []
-behind-none q = record { back = []; holds = tt }
+kept_on : (ns : List ℕ) (ks : List Words) (i j n : ℕ) (k : Words) → i ≤ j → kept_of (set ns j n) (set ks j k) i ≡ kept_of ns ks i
+kept_on ns ks zero j n k h = refl
+kept_on ns ks (suc i) j n k h = ap₂ (λ (p : ℕ × Words) (l : List (ℕ × Words)). p ∷ l) (ap₂ (λ (x : ℕ) (y : Words). (x, y)) (get_or-set_other ns j i n 0 (omega arith)) (get_or-set_other ks j i k [] (omega arith))) (kept_on ns ks i j n k (omega arith))
 
--- A search more.
-module _ (L : ℕ) (a : rules.Finder) (q : Words) (h : ℕ) (inv : Bool) (c : ℕ) (kept : Words) (t : Turn) (d : Turned L a q h inv c kept t) where
-  pub turn_stops : (ks : List (ℕ × Words)) (ss : List (Run (List Result))) (buf : Words) → t.stop ≢ 0 → Rests L a q ks (flex_question a q h inv ∷ ss) c buf buf (record { number = t.stop; count = t.count })
-  turn_stops ks ss buf z = record {
-    at = λ back k. let e = rest_stop (ltb L) a q back (flex_question a q h inv) ss c t.stop (d.stops z) in record {
-      closed = closed_refused _ buf t.stop z (ap (λ (o : Out Words × ℕ). o.0) e);
-      count = d.count ∙ sym (ap (λ (o : Out Words × ℕ). o.1) e);
-    };
-  }
+kept_next : (ns : List ℕ) (ks : List Words) (i n : ℕ) (k : Words) → i < length ns → i < length ks → kept_of (set ns i n) (set ks i k) (i + 1) ≡ (n, k) ∷ kept_of ns ks i
+kept_next ns ks i n k h l = ap (kept_of (set ns i n) (set ks i k)) (add-one i) ∙ ap₂ (λ (p : ℕ × Words) (l : List (ℕ × Words)). p ∷ l) (ap₂ (λ (x : ℕ) (y : Words). (x, y)) (get_or-set_same ns i n 0 h) (get_or-set_same ks i k [] l)) (kept_on ns ks i i n k (omega arith))
 
-  pub turn-behind : (ks : List (ℕ × Words)) → Behind q ks → t.stop ≡ 0 → Behind q ((t.n, kept) ∷ ks)
-  turn-behind ks b z = record { back = (d.goes z).results ∷ b.back; holds = ((d.goes z).holds, b.holds) }
+-- The first i questions are asked, and the call is what is left of it from their results.
+pub record Going (L : ℕ) (a : rules.Finder) (q : Words) (start : ℕ) (ns : List ℕ) (ks : List Words) (i c : ℕ) : Type 0 where
+  pub back : List (List Result)
+  pub holds : AllHold q (kept_of ns ks i) back
+  pub same : flex_rest (ltb L) a q [] (flex_searches a q) start ≡ flex_rest (ltb L) a q back (drop i (flex_searches a q)) c
+  pub low : c ≤ limit_count + i
 
-  pub turn_goes : (ks : List (ℕ × Words)) (ss : List (Run (List Result))) (buf out : Words) (r : Ended) → t.stop ≡ 0 → Rests L a q ((t.n, kept) ∷ ks) ss t.count buf out r → Rests L a q ks (flex_question a q h inv ∷ ss) c buf out r
-  turn_goes ks ss buf out r z w = record {
-    at = λ back k.
-        let g = d.goes z in
-        subst (λ (o : Out Words × ℕ). Ends o buf out r) (sym (rest_next (ltb L) a q back (flex_question a q h inv) ss c g.results g.is ∙ ap (λ m. flex_rest (ltb L) a q (g.results ∷ back) ss m) (sym d.count))) (w.at (g.results ∷ back) (g.holds, k));
-  }
+-- The questions in their order.
+abbrev pub question_of : ℕ → ℕ × Bool
+question_of i = get_or ((header_fork, false) ∷ (header_drop, false) ∷ (header_fork, true) ∷ (header_drop, true) ∷ []) i (0, false)
 
--- A count rises by at most 1 above where it may start.
-module _ (s sets q : Words) (f : Finder) (k : Flexing s sets q f) (a : rules.Finder) (h : ℕ) (inv : Bool) (c : ℕ) (kept : Words) (t : Turn) (d : Turned f.limit a q h inv c kept t) where
-  pub low_fork : c ≤ limit_count → t.count ≤ 1000001
-  low_fork l = omega (arith, d.low, k.low)
+left_from : (a : rules.Finder) (q : Words) (i : ℕ) → i < 4 → drop i (flex_searches a q) ≡ flex_question a q (question_of i).0 (question_of i).1 ∷ drop (i + 1) (flex_searches a q)
+left_from a q i h = rw (the_searches a q) (go i h)
+  where
+    go : (i : ℕ) → i < 4 → drop i (flex_question a q header_fork false ∷ flex_question a q header_drop false ∷ flex_question a q header_fork true ∷ flex_question a q header_drop true ∷ []) ≡ flex_question a q (question_of i).0 (question_of i).1 ∷ drop (i + 1) (flex_question a q header_fork false ∷ flex_question a q header_drop false ∷ flex_question a q header_fork true ∷ flex_question a q header_drop true ∷ [])
+    go zero h = refl
+    go (suc zero) h = refl
+    go (suc (suc zero)) h = refl
+    go (suc (suc (suc zero))) h = refl
+    go (suc (suc (suc (suc i)))) h = absurd (omega arith)
 
-  pub low_drop : c ≤ 1000001 → t.count ≤ 1000002
-  low_drop l = omega (arith, d.low, k.low)
+-- One question more.
+module _ (L : ℕ) (a : rules.Finder) (q : Words) (start : ℕ) (ns : List ℕ) (ks : List Words) (i c : ℕ) (g : Going L a q start ns ks i c) (l : i < 4) (h : ℕ) (inv : Bool) (eh : h ≡ (question_of i).0) (ei : inv ≡ (question_of i).1) (k : Words) (r : Tried Turn Stopped) (d : Turned L a q h inv c k r) where
+  abbrev rest : List (Run (List Result))
+  rest = drop (i + 1) (flex_searches a q)
 
-  pub low_inverse : c ≤ 1000002 → t.count ≤ 1000003
-  low_inverse l = omega (arith, d.low, k.low)
+  left : drop i (flex_searches a q) ≡ flex_question a q h inv ∷ rest
+  left = left_from a q i l ∙ ap₂ (λ (x : ℕ) (y : Bool). flex_question a q x y ∷ rest) (sym eh) (sym ei)
 
--- The whole call: 22, 23, or the four searches.
-module _ (L : ℕ) (a : rules.Finder) (q : Words) (c : ℕ) (buf : Words) where
-  pub fork_unset : (w : ℕ) → w ≡ at a.sheet header_fork → w ≡ 0 → Ends (flex_within (ltb L) a q c) buf buf (record { number = 22; count = c })
-  unfolding flex_within unset
-  fork_unset w e z = record { closed = closed_refused _ buf 22 (λ x. omega arith) (ap (λ (o : Out Words × ℕ). o.0) one); count = sym (ap (λ (o : Out Words × ℕ). o.1) one) }
-    where
-      one : flex_within (ltb L) a q c ≡ (refused 22, c)
-      one = rw (eq-eqb (at a.sheet header_fork) 0 (sym e ∙ z), flex_within)
+  whole : flex_rest (ltb L) a q [] (flex_searches a q) start ≡ flex_rest (ltb L) a q g.back (flex_question a q h inv ∷ rest) c
+  whole = g.same ∙ ap (λ (ss : List (Run (List Result))). flex_rest (ltb L) a q g.back ss c) left
 
-  module _ (w : ℕ) (e : w ≡ at a.sheet header_fork) (z : w ≢ 0) (v : ℕ) (d : v ≡ at a.sheet header_drop) where
-    pub drop-unset : v ≡ 0 → Ends (flex_within (ltb L) a q c) buf buf (record { number = 23; count = c })
-    unfolding flex_within unset
-    drop-unset y = record { closed = closed_refused _ buf 23 (λ x. omega arith) (ap (λ (o : Out Words × ℕ). o.0) one); count = sym (ap (λ (o : Out Words × ℕ). o.1) one) }
-      where
-        one : flex_within (ltb L) a q c ≡ (refused 23, c)
-        one = rw (ne_eqb (at a.sheet header_fork) 0 (λ x. z (e ∙ x)), eq-eqb (at a.sheet header_drop) 0 (sym d ∙ y), flex_within)
+  pub going_next : (t : Turn) → r ≡ Ok t → L ≤ limit_count → i < length ns → i < length ks → Going L a q start (set ns i t.n) (set ks i k) (i + 1) t.count
+  going_next t e low hn hk =
+      let o = d.goes t e in
+      let ec : t.count ≡ (within (ltb L) (flex_question a q h inv) c).1 = sym (ap count_of e) ∙ d.count in
+      record {
+        back = o.results ∷ g.back;
+        holds = subst (λ (l : List (ℕ × Words)). AllHold q l (o.results ∷ g.back)) (sym (kept_next ns ks i t.n k hn hk)) (o.holds, g.holds);
+        same = whole ∙ rest_next (ltb L) a q g.back (flex_question a q h inv) rest c o.results o.is ∙ ap (λ m. flex_rest (ltb L) a q (o.results ∷ g.back) rest m) (sym ec);
+        low = let f : t.count ≤ max L c + 1 = subst (λ m. m ≤ max L c + 1) (ap count_of e) d.low in omega (arith, f, g.low);
+      }
 
-    pub both-set : (out : Words) (r : Ended) → v ≢ 0 → Rests L a q [] (flex_question a q header_fork false ∷ after_fork a q) c buf out r → Ends (flex_within (ltb L) a q c) buf out r
-    unfolding flex_within unset flex_rest before
-    both-set out r y k = subst (λ (o : Out Words × ℕ). Ends o buf out r) (sym one) (k.at [] tt)
-      where
-        one : flex_within (ltb L) a q c ≡ flex_rest (ltb L) a q [] (flex_question a q header_fork false ∷ after_fork a q) c
-        one = rw (ne_eqb (at a.sheet header_fork) 0 (λ x. z (e ∙ x)), ne_eqb (at a.sheet header_drop) 0 (λ x. y (d ∙ x)), flex_within) (ap (λ (l : List (Run (List Result))). flex_rest (ltb L) a q [] l c) (the_searches a q))
+  pub going_stops : (buf : Words) (s : Stopped) (v : Tried ℕ Stopped) → r ≡ Err s → v ≡ Err s → Ends (flex_rest (ltb L) a q [] (flex_searches a q) start) buf buf v
+  going_stops buf s v e ev =
+      let p = whole ∙ rest_stop (ltb L) a q g.back (flex_question a q h inv) rest c (number_of s.refusal) (d.stops s e) in
+      rw ev (record {
+        closed = closed_refused _ buf (number_of s.refusal) (number_some s.refusal) (ap (λ (o : Out Words × ℕ). o.0) p);
+        count = ap count_of (sym e) ∙ d.count ∙ sym (ap (λ (o : Out Words × ℕ). o.1) p);
+      })
 
 -- No search is left: 24, or what the results come to.
 pub record ClosesAll (s q : Words) (n0 : ℕ) (k0 : Words) (n1 : ℕ) (k1 : Words) (n2 : ℕ) (k2 : Words) (n3 : ℕ) (k3 : Words) (buf out : Words) (r : ℕ) : Type 0 where
   pub at : (r0 r1 r2 r3 : List Result) → Holding q n0 k0 r0 → Holding q n1 k1 r1 → Holding q n2 k2 r2 → Holding q n3 k3 r3 → Closed (flex_results s q (r0 ∷ r1 ∷ r2 ∷ r3 ∷ [])) buf out r
 
-module _ (L : ℕ) (a : rules.Finder) (q : Words) (n0 : ℕ) (k0 : Words) (n1 : ℕ) (k1 : Words) (n2 : ℕ) (k2 : Words) (n3 : ℕ) (k3 : Words) (c : ℕ) (buf : Words) where
-  abbrev all : List (ℕ × Words)
-  all = (n3, k3) ∷ (n2, k2) ∷ (n1, k1) ∷ (n0, k0) ∷ []
+module _ (L : ℕ) (a : rules.Finder) (q : Words) (start : ℕ) (ns : List ℕ) (ks : List Words) (i c : ℕ) (at_end : Going L a q start ns ks i c) (all : i ≡ 4) where
+  g : Going L a q start ns ks 4 c
+  g = subst (λ j. Going L a q start ns ks j c) all at_end
 
   -- Four lists of results.
-  four : (P : List (List Result) → Type 0) → ((r0 r1 r2 r3 : List Result) → Holding q n0 k0 r0 → Holding q n1 k1 r1 → Holding q n2 k2 r2 → Holding q n3 k3 r3 → P (r3 ∷ r2 ∷ r1 ∷ r0 ∷ [])) → (back : List (List Result)) → AllHold q all back → P back
+  four : (P : List (List Result) → Type 0) → ((r0 r1 r2 r3 : List Result) → Holding q (get_or ns 0 0) (get_or ks 0 []) r0 → Holding q (get_or ns 1 0) (get_or ks 1 []) r1 → Holding q (get_or ns 2 0) (get_or ks 2 []) r2 → Holding q (get_or ns 3 0) (get_or ks 3 []) r3 → P (r3 ∷ r2 ∷ r1 ∷ r0 ∷ [])) → (back : List (List Result)) → AllHold q (kept_of ns ks 4) back → P back
   four P f [] h = absurd h
   four P f (r3 ∷ []) h = absurd h.1
   four P f (r3 ∷ (r2 ∷ [])) h = absurd h.1.1
@@ -151,13 +144,43 @@ module _ (L : ℕ) (a : rules.Finder) (q : Words) (n0 : ℕ) (k0 : Words) (n1 : 
   four P f (r3 ∷ (r2 ∷ (r1 ∷ (r0 ∷ [])))) h = f r0 r1 r2 r3 h.1.1.1.0 h.1.1.0 h.1.0 h.0
   four P f (r3 ∷ (r2 ∷ (r1 ∷ (r0 ∷ (r ∷ rs))))) h = absurd h.1.1.1.1
 
-  pub rests_over : L < c → Rests L a q all [] c buf buf (record { number = 24; count = c })
-  unfolding flex_rest in_turn before flex_outcome
-  rests_over l = record { at = four (λ back. Ends (flex_rest (ltb L) a q back [] c) buf buf (record { number = 24; count = c })) (λ r0 r1 r2 r3 h0 h1 h2 h3. record { closed = closed_refused _ buf 24 (λ x. omega arith) (rw (lt-ltb L c l, flex_outcome)); count = refl }) }
+  none_left : drop 4 (flex_searches a q) ≡ []
+  none_left = ap (λ (ss : List (Run (List Result))). drop 4 ss) (the_searches a q)
 
-  pub rests_closed : (out : Words) (r : ℕ) → c ≤ L → ClosesAll a.sheet q n0 k0 n1 k1 n2 k2 n3 k3 buf out r → Rests L a q all [] c buf out (record { number = r; count = c })
+  ended : flex_rest (ltb L) a q [] (flex_searches a q) start ≡ flex_rest (ltb L) a q g.back [] c
+  ended = g.same ∙ ap (λ (ss : List (Run (List Result))). flex_rest (ltb L) a q g.back ss c) none_left
+
+  pub going_over : (buf : Words) → L < c → Ends (flex_rest (ltb L) a q [] (flex_searches a q) start) buf buf (Err (record { refusal = FlexSearchLimit; count = c }))
   unfolding flex_rest in_turn before flex_outcome
-  rests_closed out r l k = record { at = four (λ back. Ends (flex_rest (ltb L) a q back [] c) buf out (record { number = r; count = c })) (λ r0 r1 r2 r3 h0 h1 h2 h3. record { closed = subst (λ (o : Out Words). Closed o buf out r) (sym (one r0 r1 r2 r3)) (k.at r0 r1 r2 r3 h0 h1 h2 h3); count = refl }) }
+  going_over buf l = subst (λ (o : Out Words × ℕ). Ends o buf buf (Err (record { refusal = FlexSearchLimit; count = c }))) (sym ended) (four (λ back. Ends (flex_rest (ltb L) a q back [] c) buf buf (Err (record { refusal = FlexSearchLimit; count = c }))) (λ r0 r1 r2 r3 h0 h1 h2 h3. record { closed = closed_refused _ buf 24 (λ x. omega arith) (rw (lt-ltb L c l, flex_outcome)); count = refl }) g.back g.holds)
+
+  pub going_closes : (buf out : Words) (v : ℕ) (r : Tried ℕ Stopped) → c ≤ L → ClosesAll a.sheet q (get_or ns 0 0) (get_or ks 0 []) (get_or ns 1 0) (get_or ks 1 []) (get_or ns 2 0) (get_or ks 2 []) (get_or ns 3 0) (get_or ks 3 []) buf out v → end_number r ≡ v → end_count r ≡ c → Ends (flex_rest (ltb L) a q [] (flex_searches a q) start) buf out r
+  unfolding flex_rest in_turn before flex_outcome
+  going_closes buf out v r l k en ec = subst (λ (o : Out Words × ℕ). Ends o buf out r) (sym ended) (four (λ back. Ends (flex_rest (ltb L) a q back [] c) buf out r) (λ r0 r1 r2 r3 h0 h1 h2 h3. record { closed = subst (λ (o : Out Words). Closed o buf out (end_number r)) (sym (one r0 r1 r2 r3)) (subst (λ i. Closed (flex_results a.sheet q (r0 ∷ r1 ∷ r2 ∷ r3 ∷ [])) buf out i) (sym en) (k.at r0 r1 r2 r3 h0 h1 h2 h3)); count = ec }) g.back g.holds)
     where
       one : (r0 r1 r2 r3 : List Result) → flex_outcome a.sheet q (ltb L c) (got (r0 ∷ r1 ∷ r2 ∷ r3 ∷ [])) ≡ flex_results a.sheet q (r0 ∷ r1 ∷ r2 ∷ r3 ∷ [])
       one r0 r1 r2 r3 = rw (le-ltb L c l, flex_outcome)
+
+-- The whole call: 22, 23, or the four searches.
+module _ (L : ℕ) (a : rules.Finder) (q : Words) (c : ℕ) (buf : Words) where
+  pub fork_unset : (w : ℕ) → w ≡ at a.sheet header_fork → w ≡ 0 → Ends (flex_within (ltb L) a q c) buf buf (Err (record { refusal = ForkUnset; count = c }))
+  unfolding flex_within unset
+  fork_unset w e z = record { closed = closed_refused _ buf 22 (λ x. omega arith) (ap (λ (o : Out Words × ℕ). o.0) one); count = sym (ap (λ (o : Out Words × ℕ). o.1) one) }
+    where
+      one : flex_within (ltb L) a q c ≡ (refused 22, c)
+      one = rw (eq-eqb (at a.sheet header_fork) 0 (sym e ∙ z), flex_within)
+
+  module _ (w : ℕ) (e : w ≡ at a.sheet header_fork) (z : w ≢ 0) (v : ℕ) (d : v ≡ at a.sheet header_drop) where
+    pub drop-unset : v ≡ 0 → Ends (flex_within (ltb L) a q c) buf buf (Err (record { refusal = DropUnset; count = c }))
+    unfolding flex_within unset
+    drop-unset y = record { closed = closed_refused _ buf 23 (λ x. omega arith) (ap (λ (o : Out Words × ℕ). o.0) one); count = sym (ap (λ (o : Out Words × ℕ). o.1) one) }
+      where
+        one : flex_within (ltb L) a q c ≡ (refused 23, c)
+        one = rw (ne_eqb (at a.sheet header_fork) 0 (λ x. z (e ∙ x)), eq-eqb (at a.sheet header_drop) 0 (sym d ∙ y), flex_within)
+
+    pub both-set : (out : Words) (r : Tried ℕ Stopped) → v ≢ 0 → Ends (flex_rest (ltb L) a q [] (flex_searches a q) c) buf out r → Ends (flex_within (ltb L) a q c) buf out r
+    unfolding flex_within unset flex_rest before
+    both-set out r y k = subst (λ (o : Out Words × ℕ). Ends o buf out r) (sym one) k
+      where
+        one : flex_within (ltb L) a q c ≡ flex_rest (ltb L) a q [] (flex_searches a q) c
+        one = rw (ne_eqb (at a.sheet header_fork) 0 (λ x. z (e ∙ x)), ne_eqb (at a.sheet header_drop) 0 (λ x. y (d ∙ x)), flex_within) refl

@@ -1,26 +1,24 @@
 -- The end of a flex call: the side that counts of the four lists of results, upright or inverted, and what the call's end asks of it.
 use Rattle.std.specs.Prelude.{ℕ, zero, suc, ◌/◌, ◌<◌, ◌≡◌, refl, Bool, true, false, ◌&&◌, ◌||◌, ◌≢◌, length}
+use Rattle.std.specs.Bool.{then_some}
 use Rattle.std.proofs.Common.{sym, ◌∙◌, subst, true≢false, arith, lt-ltb, le-ltb}
 use Rattle.std.proofs.Math.Path.{ap, ap₂}
 use Rattle.std.proofs.Math.Bool.{not}
 use mathlib.Core.List.{List, [], ◌∷◌}
 use Rattle.std.proofs.Math.Dec.{ltb}
 use Rattle.rules.specs.Lists.{Words}
-use Rattle.rules.specs.Layout.{question_type}
 use Rattle.rules.specs.Sheet.{at}
 use Rattle.rules.specs.Types.{Ty, Types}
 use Rattle.rules.specs.Transfer.{type_of_word, export_types}
 use Rattle.rules.specs.Search.{Result}
 use Rattle.rules.specs.Calls.{question_types, flex_results}
 use Rattle.table.specs.Packing.{types_of, Becomes}
-use Rattle.loading.specs.Nodes.{Fitting}
 use Rattle.loading.specs.Exports.{ExportsType}
 use Rattle.closing.specs.Impl.{Closed}
 use Rattle.closing.specs.Flex.{Offered, Offers}
-use Rattle.closing.specs.FlexEnd.{Caller}
 use Rattle.closing.specs.FlexResults.{inverted_of, chosen, side, Four, ClosesFlex, closes_flex_call}
 use Rattle.closing.specs.Searched.{result_offered}
-use Rattle.flexing.specs.Asked.{exported, loaded_neat, loaded_inside}
+use Rattle.flexing.specs.Asked.{exported}
 use Rattle.flexing.specs.Kept.{Holding}
 use Rattle.flexing.specs.Rest.{Behind, AllHold, ClosesAll}
 
@@ -30,24 +28,22 @@ pub record Lends (q : Words) (has : Bool) (kept : Words) : Type 0 where
 
 -- The results that count are kept here.
 pub record SideEnds (s q : Words) (n0 n1 n2 n3 : ℕ) (fork drop buf out : Words) (r : ℕ) : Type 0 where
-  pub at : (r0 r1 r2 r3 : List Result) → Four n0 n1 n2 n3 fork 0 drop 0 r0 r1 r2 r3 → Closed (flex_results s q (r0 ∷ r1 ∷ r2 ∷ r3 ∷ [])) buf out r
+  pub at : (r0 r1 r2 r3 : List Result) → Four n0 n1 n2 n3 fork drop r0 r1 r2 r3 → Closed (flex_results s q (r0 ∷ r1 ∷ r2 ∷ r3 ∷ [])) buf out r
 
 -- The question's table is loaded, and its type exported.
 module _ (q us : Words) (b : Becomes us (question_types q)) (t : ℕ) (et : t ≡ at q 1) where
-  pub side_caller : Fitting (question_types q) → at q question_type / 2 < length (question_types q) → Caller us t
-  side_caller f h = record { packed = b.packed; neat = loaded_neat q us b f; asked = loaded_inside q us b t et h }
-
   module _ (ws : Words) (e : ℕ) (x : ExportsType (types_of us) t ws e) where
     export_is : (exported q) ≡ (type_of_word e ∷ [], types_of ws)
     unfolding exported
     export_is = ap₂ (λ (ts : Types) (i : ℕ). export_types ts (type_of_word i ∷ [])) (sym b.is) (sym et) ∙ x.is
 
-    pub side_offers : (has : Bool) (kept : Words) → Lends q has kept → Offers has kept 0 e
-    side_offers has kept l = record { offered = λ h. l.at h e (subst (λ (o : List Ty × Types). e / 2 < length o.1) (sym export_is) x.inside) }
+    pub side_offers : (has : Bool) (kept : Words) → Lends q has kept → Offers (then_some has kept) e
+    side_offers true kept l = record { offered = λ slot h. subst (λ (ws : Words). Offered ws 0 e) (let k : kept ≡ slot = cc in k) (l.at refl e (subst (λ (o : List Ty × Types). e / 2 < length o.1) (sym export_is) x.inside)) }
+    side_offers false kept l = record { offered = λ slot h. cc }
 
-    pub side_closes : (s : Words) (n0 n1 n2 n3 : ℕ) (fork drop buf out : Words) (r : ℕ) → ClosesFlex s (types_of us) t e n0 n1 n2 n3 fork 0 drop 0 buf out r → SideEnds s q n0 n1 n2 n3 fork drop buf out r
+    pub side_closes : (s : Words) (n0 n1 n2 n3 : ℕ) (fork drop buf out : Words) (r : ℕ) → ClosesFlex s (types_of us) t e n0 n1 n2 n3 fork drop buf out r → SideEnds s q n0 n1 n2 n3 fork drop buf out r
     unfolding exported
-    side_closes s n0 n1 n2 n3 fork drop buf out r k = record { at = λ r0 r1 r2 r3 h. closes_flex_call s q (types_of us) t e n0 n1 n2 n3 fork 0 drop 0 buf out r k b.is et (sym (ap (λ (o : List Ty × Types). o.0) export_is)) r0 r1 r2 r3 h }
+    side_closes s n0 n1 n2 n3 fork drop buf out r k = record { at = λ r0 r1 r2 r3 h. closes_flex_call s q (types_of us) t e n0 n1 n2 n3 fork drop buf out r k b.is et (sym (ap (λ (o : List Ty × Types). o.0) export_is)) r0 r1 r2 r3 h }
 
 -- What is kept of one list of results.
 held_lends : (q : Words) (n : ℕ) (kept : Words) (fs : List Result) (has : Bool) → (has ≡ true → n ≢ 0) → Holding q n kept fs → Lends q has kept

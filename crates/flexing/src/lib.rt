@@ -2,12 +2,13 @@
 // A search lends its part of the slice; the first result of each is kept aside, in a slot of its own.
 #![tactic(auto)]
 
-ghost use Rattle.std.specs.Prelude.{◌≡◌, false, ◌||◌, [], ◌∷◌, ◌/◌, ◌<◌, ◌≤◌, ltb, length, drop};
+ghost use Rattle.std.specs.Prelude.{◌≡◌, ◌/◌, ◌<◌, ◌≤◌, ltb, length, slice_index_or, [], ◌∷◌};
 ghost use Rattle.rules.specs.Limits.{limit_answer, limit_count};
-ghost use Rattle.rules.specs.Layout.{header_fork, question_type};
+ghost use Rattle.rules.specs.Layout.{question_type};
 ghost use Rattle.rules.specs.Sheet.{at};
 ghost use Rattle.rules.specs.Run.{within};
-ghost use Rattle.rules.specs.Calls.{question_types, flex_within};
+ghost use Rattle.rules.specs.Calls.{question_types, flex_within, flex_searches};
+ghost use Rattle.refusals.specs.Numbers.{verdict_number};
 ghost use Rattle.slots.specs.Turns.{Answers};
 ghost use Rattle.closing.specs.Ended.{Ends};
 ghost use Rattle.closing.specs.FlexResults.{inverted_of, chosen};
@@ -15,22 +16,30 @@ ghost use Rattle.steps.specs.Asking.{finder_of};
 ghost use Rattle.loading.specs.Nodes.{Fitting};
 ghost use Rattle.loading.specs.Exports.{ExportsType};
 ghost use Rattle.flexing.specs.Asked.{Flexing, flex_question};
-ghost use Rattle.flexing.specs.Kept.{Copied, Settles, Turned};
-ghost use Rattle.flexing.specs.Rest.{after_fork, after_drop, after_inverse, Behind, Rests, ClosesAll};
+ghost use Rattle.flexing.specs.Kept.{Copied, Known, Settles, Turned};
+ghost use Rattle.flexing.specs.Rest.{flex_rest, Behind, kept_of, ClosesAll};
 ghost use Rattle.flexing.specs.Sides.{Lends, SideEnds};
 
 use chart::layout;
-use closing::Ended;
+use closing::Counts;
+use refusals::{Refusal, Stopped};
 use slots::Asked;
 use steps::Finder;
 
 // The levels of a search.
 const DEPTH: usize = 16;
 
-// One of the four searches: the number that ends the call, or 0 and how many results there are; and the count after it.
+// The four questions in turn: the header word of the trait, and whether the inverse of the type is asked.
+const QUESTIONS: [(usize, bool); 4] = [
+    (layout::FORK, false),
+    (layout::DROP, false),
+    (layout::FORK, true),
+    (layout::DROP, true),
+];
+
+// What one of the four searches comes to where the call goes on: how many results there are, and the count after it.
 #[derive(Clone, Copy)]
 struct Turn {
-    stop: u32,
     n: usize,
     count: u32,
 }
@@ -71,51 +80,26 @@ fn ask_one(
     finder::question(sheet, sets, ws, f, 0, q, DEPTH, count)
 }
 
-// The words of a slice behind slot 0.
-fn results(ws: &[u32]) -> &[u32]
-    requires { 1282 ≤ length ws.now }
-    ensures { result.now ≡ drop 1282 ws.now }
-{
-    &ws[slots::SLOT..]
-}
-
 // Keeps the first result of a search aside: the words of slot 1, as those of a slot alone.
 fn keep(ws: &[u32], kept: &mut [u32])
     requires in_bounds { 2564 ≤ length ws.now }
-    requires in_bounds_2 { 1282 ≤ length kept.old }
+    requires kept_length { length kept.old ≡ 1282 }
     ensures { Copied ws.now kept.new }
 {
-    let from = results(ws);
-    words::copy(from, kept, slots::SLOT)
+    kept.copy_from_slice(&ws[slots::SLOT..2 * slots::SLOT])
 }
 
 // What a search answered, as the flex call takes it: 18 and 19 count as nothing found.
-fn settle(asked: Asked) -> Turn
+fn settle(asked: Asked) -> Result<Turn, Stopped>
+    requires { Known asked }
     ensures { Settles asked result }
 {
     match asked {
-        Asked::Found { count, n } => Turn { stop: 0, n, count },
-        Asked::Refused { number, count } => {
-            if number == 18 {
-                return Turn {
-                    stop: 0,
-                    n: 0,
-                    count,
-                };
-            }
-            if number == 19 {
-                return Turn {
-                    stop: 0,
-                    n: 0,
-                    count,
-                };
-            }
-            Turn {
-                stop: number,
-                n: 0,
-                count,
-            }
-        }
+        Asked::Found { count, n } => Ok(Turn { n, count }),
+        Asked::Refused { number, count } => match Refusal::from_number(number).unwrap() {
+            Refusal::SearchLimit | Refusal::ErrorType => Ok(Turn { n: 0, count }),
+            refusal => Err(Stopped { refusal, count }),
+        },
     }
 }
 
@@ -130,10 +114,10 @@ fn ask_turn(
     h: usize,
     inverted: bool,
     count: u32,
-) -> Turn
+) -> Result<Turn, Stopped>
     requires flexing { Flexing sheet.now sets.now question.now f }
     requires in_bounds { 662794 ≤ length ws.old }
-    requires in_bounds_2 { 1282 ≤ length kept.old }
+    requires kept_length { length kept.old ≡ 1282 }
     requires count_bound { count ≤ 4000000000 }
     ensures { Turned f.limit (finder_of sheet.now f) question.now h inverted count kept.new result }
 {
@@ -142,26 +126,23 @@ fn ask_turn(
     settle(asked)
 }
 
-// What the four lists of results come to, n0 to n3 of them, with the first results of the fork and the drop question that count. The searches are over: their slice serves the joins' memo.
+// What the four lists of results come to, with the first results of the fork and the drop question that count. The searches are over: their slice serves the joins' memo.
 fn close_side(
     sheet: &[u32],
     question: &[u32],
-    n0: usize,
-    n1: usize,
-    n2: usize,
-    n3: usize,
+    counts: Counts,
     fork: &[u32],
     drop: &[u32],
     ws: &mut [u32],
     answer: &mut [u32],
-) -> u32
+) -> Result<(), Refusal>
     requires fitting { Fitting (question_types question.now) }
     requires question_type_in_bounds { at question.now question_type / 2 < length (question_types question.now) }
-    requires lends { Lends question.now (chosen (inverted_of n0 n1 n2 n3) n0 n2) fork.now }
-    requires lends_2 { Lends question.now (chosen (inverted_of n0 n1 n2 n3) n1 n3) drop.now }
+    requires lends { Lends question.now (chosen (inverted_of counts.forks counts.drops counts.inverse_forks counts.inverse_drops) counts.forks counts.inverse_forks) fork.now }
+    requires lends_2 { Lends question.now (chosen (inverted_of counts.forks counts.drops counts.inverse_forks counts.inverse_drops) counts.drops counts.inverse_drops) drop.now }
     requires in_bounds { 256 ≤ length ws.old }
     requires limit_answer_in_bounds { limit_answer ≤ length answer.old }
-    ensures { SideEnds sheet.now question.now n0 n1 n2 n3 fork.now drop.now answer.old answer.new result }
+    ensures { SideEnds sheet.now question.now counts.forks counts.drops counts.inverse_forks counts.inverse_drops fork.now drop.now answer.old answer.new (verdict_number result) }
 {
     let mut table = [0u32; 1025];
     loading::load_table(question, &mut table);
@@ -169,210 +150,35 @@ fn close_side(
     let t = words::word(question, layout::QUESTION_TYPE);
     let e = loading::export_type(&table, t, &mut out, ws);
     closing::close_flex(
-        sheet, t, e, n0, n1, n2, n3, fork, 0, drop, 0, &mut table, &mut out, ws, answer,
+        sheet, t, e, counts, fork, drop, &mut table, &mut out, ws, answer,
     )
-}
-
-fn either(f: bool, d: bool) -> bool
-    ensures { result ≡ (f || d) }
-{
-    if f { true } else { d }
 }
 
 // The side that counts: upright where something is found so, else inverted.
 fn close_all(
     sheet: &[u32],
     question: &[u32],
-    n0: usize,
-    k0: &[u32],
-    n1: usize,
-    k1: &[u32],
-    n2: usize,
-    k2: &[u32],
-    n3: usize,
-    k3: &[u32],
+    counts: Counts,
+    kept: &[[u32; slots::SLOT]; 4],
     ws: &mut [u32],
     answer: &mut [u32],
-) -> u32
+) -> Result<(), Refusal>
     requires fitting { Fitting (question_types question.now) }
     requires question_type_in_bounds { at question.now question_type / 2 < length (question_types question.now) }
-    requires behind { Behind question.now ((n3, k3.now) ∷ (n2, k2.now) ∷ (n1, k1.now) ∷ (n0, k0.now) ∷ []) }
+    requires behind { Behind question.now (kept_of (counts.forks ∷ counts.drops ∷ counts.inverse_forks ∷ counts.inverse_drops ∷ []) kept.now 4) }
     requires in_bounds { 256 ≤ length ws.old }
     requires limit_answer_in_bounds { limit_answer ≤ length answer.old }
-    ensures { ClosesAll sheet.now question.now n0 k0.now n1 k1.now n2 k2.now n3 k3.now answer.old answer.new result }
+    ensures { ClosesAll sheet.now question.now counts.forks (slice_index_or kept.now 0 []) counts.drops (slice_index_or kept.now 1 []) counts.inverse_forks (slice_index_or kept.now 2 []) counts.inverse_drops (slice_index_or kept.now 3 []) answer.old answer.new (verdict_number result) }
 {
-    let up = either(0 < n0, 0 < n1);
-    if up {
-        return close_side(sheet, question, n0, n1, n2, n3, k0, k1, ws, answer);
+    if counts.is_upright() {
+        close_side(sheet, question, counts, &kept[0], &kept[1], ws, answer)
+    } else {
+        close_side(sheet, question, counts, &kept[2], &kept[3], ws, answer)
     }
-    close_side(sheet, question, n0, n1, n2, n3, k2, k3, ws, answer)
 }
 
-// No search is left: 24 where the count is above the limit, or what the results come to.
-fn end_turns(
-    sheet: &[u32],
-    sets: &[u32],
-    question: &[u32],
-    f: Finder,
-    ws: &mut [u32],
-    n0: usize,
-    k0: &[u32],
-    n1: usize,
-    k1: &[u32],
-    n2: usize,
-    k2: &[u32],
-    n3: usize,
-    k3: &[u32],
-    answer: &mut [u32],
-    count: u32,
-) -> Ended
-    requires flexing { Flexing sheet.now sets.now question.now f }
-    requires in_bounds { 256 ≤ length ws.old }
-    requires limit_answer_in_bounds { limit_answer ≤ length answer.old }
-    requires behind { Behind question.now ((n3, k3.now) ∷ (n2, k2.now) ∷ (n1, k1.now) ∷ (n0, k0.now) ∷ []) }
-    ensures { Rests f.limit (finder_of sheet.now f) question.now ((n3, k3.now) ∷ (n2, k2.now) ∷ (n1, k1.now) ∷ (n0, k0.now) ∷ []) [] count answer.old answer.new result }
-{
-    if f.limit < count {
-        return Ended { number: 24, count };
-    }
-    let number = close_all(sheet, question, n0, k0, n1, k1, n2, k2, n3, k3, ws, answer);
-    Ended { number, count }
-}
-
-// Drop of the inverse, and the end.
-fn inverse_drop_turn(
-    sheet: &[u32],
-    sets: &[u32],
-    question: &[u32],
-    f: Finder,
-    ws: &mut [u32],
-    n0: usize,
-    k0: &[u32],
-    n1: usize,
-    k1: &[u32],
-    n2: usize,
-    k2: &[u32],
-    answer: &mut [u32],
-    count: u32,
-) -> Ended
-    requires flexing { Flexing sheet.now sets.now question.now f }
-    requires in_bounds { 662794 ≤ length ws.old }
-    requires limit_answer_in_bounds { limit_answer ≤ length answer.old }
-    requires count_bound { count ≤ 1000003 }
-    requires behind { Behind question.now ((n2, k2.now) ∷ (n1, k1.now) ∷ (n0, k0.now) ∷ []) }
-    ensures { Rests f.limit (finder_of sheet.now f) question.now ((n2, k2.now) ∷ (n1, k1.now) ∷ (n0, k0.now) ∷ []) (after_inverse (finder_of sheet.now f) question.now) count answer.old answer.new result }
-{
-    let mut kept = [0u32; 1282];
-    let t = ask_turn(
-        sheet,
-        sets,
-        question,
-        f,
-        ws,
-        &mut kept,
-        layout::DROP,
-        true,
-        count,
-    );
-    if t.stop != 0 {
-        return Ended {
-            number: t.stop,
-            count: t.count,
-        };
-    }
-    end_turns(
-        sheet, sets, question, f, ws, n0, k0, n1, k1, n2, k2, t.n, &kept, answer, t.count,
-    )
-}
-
-// Fork of the inverse, and what is left.
-fn inverse_fork_turn(
-    sheet: &[u32],
-    sets: &[u32],
-    question: &[u32],
-    f: Finder,
-    ws: &mut [u32],
-    n0: usize,
-    k0: &[u32],
-    n1: usize,
-    k1: &[u32],
-    answer: &mut [u32],
-    count: u32,
-) -> Ended
-    requires flexing { Flexing sheet.now sets.now question.now f }
-    requires in_bounds { 662794 ≤ length ws.old }
-    requires limit_answer_in_bounds { limit_answer ≤ length answer.old }
-    requires count_bound { count ≤ 1000002 }
-    requires behind { Behind question.now ((n1, k1.now) ∷ (n0, k0.now) ∷ []) }
-    ensures { Rests f.limit (finder_of sheet.now f) question.now ((n1, k1.now) ∷ (n0, k0.now) ∷ []) (after_drop (finder_of sheet.now f) question.now) count answer.old answer.new result }
-{
-    let mut kept = [0u32; 1282];
-    let t = ask_turn(
-        sheet,
-        sets,
-        question,
-        f,
-        ws,
-        &mut kept,
-        layout::FORK,
-        true,
-        count,
-    );
-    if t.stop != 0 {
-        return Ended {
-            number: t.stop,
-            count: t.count,
-        };
-    }
-    inverse_drop_turn(
-        sheet, sets, question, f, ws, n0, k0, n1, k1, t.n, &kept, answer, t.count,
-    )
-}
-
-// Drop, and what is left.
-fn drop_turn(
-    sheet: &[u32],
-    sets: &[u32],
-    question: &[u32],
-    f: Finder,
-    ws: &mut [u32],
-    n0: usize,
-    k0: &[u32],
-    answer: &mut [u32],
-    count: u32,
-) -> Ended
-    requires flexing { Flexing sheet.now sets.now question.now f }
-    requires in_bounds { 662794 ≤ length ws.old }
-    requires limit_answer_in_bounds { limit_answer ≤ length answer.old }
-    requires count_bound { count ≤ 1000001 }
-    requires behind { Behind question.now ((n0, k0.now) ∷ []) }
-    ensures { Rests f.limit (finder_of sheet.now f) question.now ((n0, k0.now) ∷ []) (after_fork (finder_of sheet.now f) question.now) count answer.old answer.new result }
-{
-    let mut kept = [0u32; 1282];
-    let t = ask_turn(
-        sheet,
-        sets,
-        question,
-        f,
-        ws,
-        &mut kept,
-        layout::DROP,
-        false,
-        count,
-    );
-    if t.stop != 0 {
-        return Ended {
-            number: t.stop,
-            count: t.count,
-        };
-    }
-    inverse_fork_turn(
-        sheet, sets, question, f, ws, n0, k0, t.n, &kept, answer, t.count,
-    )
-}
-
-// Fork, and what is left.
-fn fork_turn(
+// The four searches in turn, each with its first result kept aside; then 24 where the count is above the limit, or what the results come to.
+fn ask_all(
     sheet: &[u32],
     sets: &[u32],
     question: &[u32],
@@ -380,32 +186,46 @@ fn fork_turn(
     ws: &mut [u32],
     answer: &mut [u32],
     count: u32,
-) -> Ended
+) -> Result<u32, Stopped>
     requires flexing { Flexing sheet.now sets.now question.now f }
     requires in_bounds { 662794 ≤ length ws.old }
     requires limit_answer_in_bounds { limit_answer ≤ length answer.old }
     requires count_le_limit_count { count ≤ limit_count }
-    ensures { Rests f.limit (finder_of sheet.now f) question.now [] (flex_question (finder_of sheet.now f) question.now header_fork false ∷ after_fork (finder_of sheet.now f) question.now) count answer.old answer.new result }
+    ensures { Ends (flex_rest (ltb f.limit) (finder_of sheet.now f) question.now [] (flex_searches (finder_of sheet.now f) question.now) count) answer.old answer.new result }
 {
-    let mut kept = [0u32; 1282];
-    let t = ask_turn(
-        sheet,
-        sets,
-        question,
-        f,
-        ws,
-        &mut kept,
-        layout::FORK,
-        false,
-        count,
-    );
-    if t.stop != 0 {
-        return Ended {
-            number: t.stop,
-            count: t.count,
-        };
+    let mut kept = [[0u32; slots::SLOT]; 4];
+    let mut found = [0usize; 4];
+    let mut count = count;
+    for (i, &(h, inverted)) in QUESTIONS.iter().enumerate() {
+        let turn = ask_turn(
+            sheet,
+            sets,
+            question,
+            f,
+            ws,
+            &mut kept[i],
+            h,
+            inverted,
+            count,
+        )?;
+        found[i] = turn.n;
+        count = turn.count;
     }
-    drop_turn(sheet, sets, question, f, ws, t.n, &kept, answer, t.count)
+    if f.limit < count {
+        let refusal = Refusal::FlexSearchLimit;
+        return Err(Stopped { refusal, count });
+    }
+    let [forks, drops, inverse_forks, inverse_drops] = found;
+    let counts = Counts {
+        forks,
+        drops,
+        inverse_forks,
+        inverse_drops,
+    };
+    match close_all(sheet, question, counts, &kept, ws, answer) {
+        Ok(()) => Ok(count),
+        Err(refusal) => Err(Stopped { refusal, count }),
+    }
 }
 
 // The flex call behind its checks, with the sets of its source: 22 and 23, the four searches in turn, and what they come to.
@@ -417,20 +237,20 @@ pub fn ask_flex(
     ws: &mut [u32],
     answer: &mut [u32],
     count: u32,
-) -> Ended
+) -> Result<u32, Stopped>
     requires flexing { Flexing sheet.now sets.now question.now f }
     requires in_bounds { 662794 ≤ length ws.old }
     requires limit_answer_in_bounds { limit_answer ≤ length answer.old }
     requires count_le_limit_count { count ≤ limit_count }
     ensures { Ends (flex_within (ltb f.limit) (finder_of sheet.now f) question.now count) answer.old answer.new result }
 {
-    let fork = words::word(sheet, layout::FORK);
-    if fork == 0 {
-        return Ended { number: 22, count };
+    if words::word(sheet, layout::FORK) == 0 {
+        let refusal = Refusal::ForkUnset;
+        return Err(Stopped { refusal, count });
     }
-    let drop = words::word(sheet, layout::DROP);
-    if drop == 0 {
-        return Ended { number: 23, count };
+    if words::word(sheet, layout::DROP) == 0 {
+        let refusal = Refusal::DropUnset;
+        return Err(Stopped { refusal, count });
     }
-    fork_turn(sheet, sets, question, f, ws, answer, count)
+    ask_all(sheet, sets, question, f, ws, answer, count)
 }

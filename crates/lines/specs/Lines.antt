@@ -1,5 +1,5 @@
 -- A line of the listing: what is put for the impls that a set admits, one after the other, and the line as a whole.
-use Rattle.std.specs.Prelude.{ℕ, ◌+◌, ◌*◌, ◌≤◌, ◌<◌, ◌≡◌, refl, [], ◌∷◌, ◌++◌, take}
+use Rattle.std.specs.Prelude.{ℕ, ◌+◌, ◌*◌, ◌≤◌, ◌<◌, ◌≡◌, refl, [], ◌∷◌, ◌++◌, take, max, Option, Some, None}
 use Rattle.std.proofs.Common.{sym, ap, subst, ⊎_elim, arith}
 use Rattle.std.proofs.Math.Dec.{leb-zero}
 use Rattle.rules.specs.Lists.{Words, select, concat_map}
@@ -12,7 +12,7 @@ use Rattle.rules.specs.CheckedSheet.{valid}
 use Rattle.rules.specs.Candidates.{node_count, admitted, general_candidates}
 use Rattle.rules.specs.Listing.{decimal, line_text}
 use Rattle.candidates.specs.Build.{Candidates}
-use Rattle.candidates.specs.Find.{from_on, Standing, NextAdmitted}
+use Rattle.candidates.specs.Find.{from_on, Standing, NextAdmitted, AdmittedFrom}
 use Rattle.lines.specs.Text.{Puts, puts_none, puts_on, number_short}
 
 -- A space and a number.
@@ -56,6 +56,22 @@ unfolding entries concat_map
 lining_done s ws node start n us vs from p i e h a l = record {
   impls = λ src d. l.to_come src d vs p (subst (λ is. Puts (entries is) p vs vs p) (sym (a.none src d (omega (arith, e)))) (puts_none p vs));
 }
+
+-- The same where the next is found, or none is.
+pub lining_next : (s ws : Words) (node start : ℕ) (us vs ys : Words) (from p i q : ℕ) (o : Option ℕ) → o ≡ Some i → AdmittedFrom s ws node from o → Puts (32 ∷ decimal i) p vs ys q → Lining s ws node start us vs from p → Lining s ws node start us ys (i + 1) q
+lining_next s ws node start us vs ys from p i q o e a b l =
+    let c : AdmittedFrom s ws node from (Some i) = subst (AdmittedFrom s ws node from) e a in
+    lining_more s ws node start (many s header_impls) us vs ys from p i q refl c.impl c.next b l
+
+pub lining_over : (s ws : Words) (node start : ℕ) (us vs : Words) (from p : ℕ) (o : Option ℕ) → o ≡ None → AdmittedFrom s ws node from o → Lining s ws node start us vs from p → PutsImpls s ws node start us vs p
+lining_over s ws node start us vs from p o e a l =
+    let c : AdmittedFrom s ws node from None = subst (AdmittedFrom s ws node from) e a in
+    lining_done s ws node start (many s header_impls) us vs from p (max from (many s header_impls)) refl (omega arith) c.next l
+
+pub impl_there : (s ws : Words) (node from i : ℕ) (o : Option ℕ) → o ≡ Some i → AdmittedFrom s ws node from o → (from ≤ i) × (i < many s header_impls)
+impl_there s ws node from i o e a =
+    let c : AdmittedFrom s ws node from (Some i) = subst (AdmittedFrom s ws node from) e a in
+    (c.next.up, c.impl)
 
 pub impl_low : (s : Words) (n i : ℕ) → n ≡ many s header_impls → many s header_impls ≤ 128 → i < n → i < 128
 impl_low s n i e l h = omega (arith, e)

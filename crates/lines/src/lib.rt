@@ -1,4 +1,5 @@
 // The lines of the listing program, as bytes: numbers in decimal, and for a source the impls that its general set admits.
+// They are put by hand: `write!` into a buffer answers a Result, and the functions here cannot fail.
 #![tactic(auto)]
 
 ghost use Rattle.std.specs.Prelude.{◌≡◌, [], ◌∷◌, ◌+◌, ◌≤◌, ◌<◌, length};
@@ -10,6 +11,8 @@ ghost use Rattle.candidates.specs.Layout.{candidates_length};
 ghost use Rattle.candidates.specs.Index.{Indexes};
 ghost use Rattle.lines.specs.Text.{Puts};
 ghost use Rattle.lines.specs.Lines.{PutsImpls, Line};
+
+use candidates::find::next_admitted;
 
 pub mod bytes;
 
@@ -61,17 +64,13 @@ fn put_impls(s: &[u32], ws: &[u32], node: usize, out: &mut [u8], at: usize) -> u
     requires { Indexes s.now ws.now × (node < 384) × (many s.now header_impls ≤ 128) × (at + 512 ≤ length out.old) }
     ensures { PutsImpls s.now ws.now node at out.old out.new result × (result ≤ at + 512) }
 {
-    let n = candidates::index::impls(s, ws);
+    let mut end = at;
     let mut from = 0;
-    let mut next = at;
-    loop {
-        let i = candidates::find::next_admitted(s, ws, node, from);
-        if n <= i {
-            return next;
-        }
-        next = put_entry(out, next, i);
+    while let Some(i) = next_admitted(s, ws, node, from) {
+        end = put_entry(out, end, i);
         from = i + 1;
     }
+    end
 }
 
 // The line of a definition: its id, a colon, and the impls that its general set admits. So many bytes of the buffer hold it.

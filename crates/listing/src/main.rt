@@ -3,6 +3,8 @@
 #![tactic(auto)]
 
 ghost use Rattle.std.specs.Prelude.{◌≡◌, ◌≤◌, ◌<◌, IfOk, length};
+ghost use Rattle.rules.specs.Layout.{header_definitions};
+ghost use Rattle.rules.specs.Sheet.{many};
 ghost use Rattle.rules.specs.CheckLaws.{Checked};
 ghost use Rattle.candidates.specs.Layout.{candidates_length};
 
@@ -30,12 +32,12 @@ fn workspace() -> [u32; 90112]
     [0; 90112]
 }
 
-// Reads until the buffer is full or the input ends, and answers how many bytes it put at the front.
+// Reads until the buffer is full or the input ends, and answers how many bytes it put at the front. (No method of the library does: `read_exact` refuses a short input.)
 fn read_full<R: Read>(source: &mut R, buf: &mut [u8]) -> io::Result<usize>
     ensures { IfOk result (λ n. n ≤ length buf.new) }
 {
     let mut done = 0;
-    while done < buf.len() {
+    for _ in 0..buf.len() {
         let n = source.read(&mut buf[done..])?;
         if n == 0 {
             break;
@@ -45,37 +47,21 @@ fn read_full<R: Read>(source: &mut R, buf: &mut [u8]) -> io::Result<usize>
     Ok(done)
 }
 
-// Prints a number below 1,000 alone.
-fn refuse(rt: &impl Print, n: usize) -> io::Result<()>
-    requires { n < 1000 }
+// Prints the line of a definition.
+fn print_line(rt: &impl Print, s: &[u32], ws: &mut [u32], d: usize) -> io::Result<()>
+    requires { Checked s.now × (length s.now ≤ 4096) × (d < many s.now header_definitions) × (candidates_length ≤ length ws.old) }
 {
-    let mut out = [0u8; 8];
-    let k = lines::put_number(&mut out, 0, n);
-    rt.write_all(&out[..k])?;
-    rt.write_all(b"\n")
-}
-
-// Prints the line of a definition; false where there is no such definition.
-fn print_line(rt: &impl Print, s: &[u32], ws: &mut [u32], d: usize) -> io::Result<bool>
-    requires { Checked s.now × (length s.now ≤ 4096) × (candidates_length ≤ length ws.old) }
-{
-    if words::chain_length(s, words::next(s, 1)) <= d {
-        return Ok(false);
-    }
     let mut out = [0u8; 4096];
     let k = lines::list_line(s, ws, d, &mut out);
-    rt.write_all(&out[..k])?;
-    Ok(true)
+    rt.write_all(&out[..k])
 }
 
 // Prints the lines of all definitions.
 fn print_lines(rt: &impl Print, s: &[u32], ws: &mut [u32]) -> io::Result<()>
     requires { Checked s.now × (length s.now ≤ 4096) × (candidates_length ≤ length ws.old) }
 {
-    let mut d = 0;
-    while d < 128 {
+    for d in 0..chart::count_of(s, chart::layout::DEFINITIONS) {
         print_line(rt, s, ws, d)?;
-        d += 1;
     }
     Ok(())
 }
@@ -84,9 +70,9 @@ fn print_lines(rt: &impl Print, s: &[u32], ws: &mut [u32]) -> io::Result<()>
 fn list(rt: &impl Print, s: &[u32], ws: &mut [u32]) -> io::Result<()>
     requires { 90112 ≤ length ws.old }
 {
-    let n = checks::check_listing(s, ws);
-    if n != 0 {
-        return refuse(rt, n as usize);
+    if let Err(refusal) = checks::check_listing(s, ws) {
+        let n = refusal.number();
+        return println!(rt; "{n}");
     }
     print_lines(rt, s, ws)
 }
@@ -95,11 +81,8 @@ fn list(rt: &impl Print, s: &[u32], ws: &mut [u32]) -> io::Result<()>
 fn list_bytes(rt: &impl Print, bytes: &[u8], words: &mut [u32], ws: &mut [u32]) -> io::Result<()>
     requires { (4096 ≤ length words.old) × (90112 ≤ length ws.old) }
 {
-    if 16384 < bytes.len() {
-        return refuse(rt, 1);
-    }
-    if bytes.len() % 4 != 0 {
-        return refuse(rt, 1);
+    if 16384 < bytes.len() || bytes.len() % 4 != 0 {
+        return println!(rt; "1");
     }
     let n = lines::bytes::read_words(bytes, words);
     list(rt, &words[..n], ws)

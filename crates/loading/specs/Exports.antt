@@ -14,7 +14,6 @@ use Rattle.rules.specs.Transfer.{type_of_word, cell_types, export_types, export_
 use Rattle.rules.specs.Neat.{Neat, Brought}
 use Rattle.table.specs.Packing.{types_of, Packed}
 use Rattle.table.specs.Nodes.{types_few, type_word}
-use Rattle.transfer.specs.Source.{source}
 use Rattle.transfer.specs.Imports.{types_in, Inside, Imports}
 use Rattle.transfer.specs.Callers.{inside_from, exports_brought, export_fits}
 use Rattle.queries.specs.declared.Query.{Query}
@@ -52,7 +51,7 @@ pub record Exports (ts : Types) (q : ImplType) (us : Words) (r : Query) : Type 0
   pub is : export_impl_type ts q ≡ (query_of r, types_of us)
 
 -- Four words are all of a list of four.
-four-all : (xs : Words) → length xs ≡ 4 → four xs ≡ xs
+pub four-all : (xs : Words) → length xs ≡ 4 → four xs ≡ xs
 four-all xs e = ext_get_or 0 (four xs) xs (sym e) (λ i l. one i l)
   where
     one : (i : ℕ) → i < 4 → at (four xs) i ≡ at xs i
@@ -62,44 +61,40 @@ four-all xs e = ext_get_or 0 (four xs) xs (sym e) (λ i l. one i l)
     one (suc (suc (suc zero))) l = refl
     one (suc (suc (suc (suc i)))) l = absurd (omega arith)
 
-packed_source : (ws places : Words) → source true ws places ≡ types_of ws
-unfolding source
-packed_source ws places = refl
+module _ (ws : Words) (q : Query) (a : Asks (types_of ws) q) where
+  pub asks_neat : Neat (types_of ws)
+  asks_neat = a.neat
 
--- xs are the four words of a query.
-module _ (ws places : Words) (q : Query) (a : Asks (types_of ws) q) where
-  pub asks_neat : Neat (source true ws places)
-  asks_neat = subst Neat (sym (packed_source ws places)) a.neat
+  pub asks_room : (ms : Words) → 256 ≤ length ms → length (types_of ws) ≤ length ms
+  asks_room ms h = omega (arith, types_few ws)
 
-  pub asks_room : (ms : Words) → 256 ≤ length ms → length (source true ws places) ≤ length ms
-  asks_room ms h = omega (arith, ap (λ (ts : Types). length ts) (packed_source ws places), types_few ws)
+  -- The query's words are four.
+  module _ (long : length q.args ≡ 4) where
+    asked_in : Inside (types_of ws) (take q.n q.args)
+    unfolding query_of types_in
+    asked_in = inside_from (types_of ws) q.n q.args (subst (λ (xs : Words). AllIn (length (types_of ws)) (map type_of_word (take q.n xs))) (four-all q.args long) a.inside)
 
-  pub asks_few : q.n ≤ length (four q.args)
-  asks_few = a.few
+    pub asks_inside : Inside (types_of ws) (take q.n q.args)
+    asks_inside = asked_in
 
-  asked_in : Inside (types_of ws) (take q.n (four q.args))
-  unfolding query_of types_in
-  asked_in = inside_from (types_of ws) q.n (four q.args) a.inside
+    pub exported : (us vs : Words) (ok : Bool) → length vs ≡ 4 → Imports (export_types (types_of ws) (types_in q.n q.args)) us q.args vs q.n ok → Exports (types_of ws) (query_of q) us (record { tr = q.tr; n = q.n; args = vs })
+    unfolding query_of types_in export_impl_type import_impl_type export_types
+    exported us vs ok e i = record {
+      packed = j.replaces.packed;
+      asks = record { neat = b.neat; few = a.few; inside = subst (λ (xs : Words). AllIn (length (types_of us)) (map type_of_word (take q.n xs))) (sym (four-all vs e)) b.inside };
+      is = ap {B = ImplType × Types} (λ (xs : Words). export_impl_type (types_of ws) (q.tr, map type_of_word (take q.n xs))) (four-all q.args long)
+          ∙ ap {B = ImplType × Types} (λ (o : List Ty × Types). ((q.tr, o.0), o.1)) (j.comes.is fits)
+          ∙ ap {B = ImplType × Types} (λ (xs : Words). ((q.tr, map type_of_word (take q.n xs)), types_of us)) (sym (four-all vs e));
+    }
+      where
+        j : Imports (export_types (types_of ws) (types_in q.n q.args)) us q.args vs q.n ok
+        j = i
 
-  pub asks_inside : Inside (source true ws places) (take q.n (four q.args))
-  asks_inside = subst (λ (ts : Types). Inside ts (take q.n (four q.args))) (sym (packed_source ws places)) asked_in
+        fits : ok ≡ true
+        fits = export_fits ws us q.args vs q.n ok a.neat asked_in j
 
-  pub exported : (us vs : Words) (ok : Bool) → length vs ≡ 4 → Imports (export_types (source true ws places) (types_in q.n (four q.args))) us (four q.args) vs q.n ok → Exports (types_of ws) (query_of q) us (record { tr = q.tr; n = q.n; args = vs })
-  unfolding query_of types_in export_impl_type import_impl_type export_types
-  exported us vs ok e i = record {
-    packed = j.replaces.packed;
-    asks = record { neat = b.neat; few = a.few; inside = subst (λ (xs : Words). AllIn (length (types_of us)) (map type_of_word (take q.n xs))) (sym (four-all vs e)) b.inside };
-    is = ap {B = ImplType × Types} (λ (o : List Ty × Types). ((q.tr, o.0), o.1)) (j.comes.is fits) ∙ ap {B = ImplType × Types} (λ (xs : Words). ((q.tr, map type_of_word (take q.n xs)), types_of us)) (sym (four-all vs e));
-  }
-    where
-      j : Imports (export_types (types_of ws) (types_in q.n (four q.args))) us (four q.args) vs q.n ok
-      j = subst (λ (ts : Types). Imports (export_types ts (types_in q.n (four q.args))) us (four q.args) vs q.n ok) (packed_source ws places) i
-
-      fits : ok ≡ true
-      fits = export_fits ws us (four q.args) vs q.n ok a.neat asked_in j
-
-      b : Brought [] (types_in q.n vs) (types_of us)
-      b = exports_brought (types_of ws) us (four q.args) vs q.n ok a.neat asked_in fits j
+        b : Brought [] (types_in q.n vs) (types_of us)
+        b = exports_brought (types_of ws) us q.args vs q.n ok a.neat asked_in fits j
 
 -- A type of a table, exported: the rule's type, and its table.
 pub record ExportsType (ts : Types) (t : ℕ) (us : Words) (r : ℕ) : Type 0 where
@@ -109,22 +104,22 @@ pub record ExportsType (ts : Types) (t : ℕ) (us : Words) (r : ℕ) : Type 0 wh
   pub inside : r / 2 < length (types_of us)
   pub is : export_types ts (type_of_word t ∷ []) ≡ (type_of_word r ∷ [], types_of us)
 
-module _ (ws places : Words) (n : Neat (types_of ws)) where
-  pub type_neat : Neat (source true ws places)
-  type_neat = subst Neat (sym (packed_source ws places)) n
+module _ (ws : Words) (n : Neat (types_of ws)) where
+  pub type_neat : Neat (types_of ws)
+  type_neat = n
 
-  pub type_room : (ms : Words) → 256 ≤ length ms → length (source true ws places) ≤ length ms
-  type_room ms h = omega (arith, ap (λ (ts : Types). length ts) (packed_source ws places), types_few ws)
+  pub type_room : (ms : Words) → 256 ≤ length ms → length (types_of ws) ≤ length ms
+  type_room ms h = omega (arith, types_few ws)
 
   module _ (t : ℕ) (l : t / 2 < length (types_of ws)) where
     type_in : Inside (types_of ws) (take 1 (t ∷ []))
     unfolding types_in type_of_word
     type_in = inside_from (types_of ws) 1 (t ∷ []) (l, tt)
 
-    pub type_inside : Inside (source true ws places) (take 1 (t ∷ []))
-    type_inside = subst (λ (ts : Types). Inside ts (take 1 (t ∷ []))) (sym (packed_source ws places)) type_in
+    pub type_inside : Inside (types_of ws) (take 1 (t ∷ []))
+    type_inside = type_in
 
-    pub type_exported : (us vs : Words) (r : ℕ) (ok : Bool) → r ≡ at vs 0 → Imports (export_types (source true ws places) (types_in 1 (t ∷ []))) us (t ∷ []) vs 1 ok → ExportsType (types_of ws) t us r
+    pub type_exported : (us vs : Words) (r : ℕ) (ok : Bool) → r ≡ at vs 0 → Imports (export_types (types_of ws) (types_in 1 (t ∷ []))) us (t ∷ []) vs 1 ok → ExportsType (types_of ws) t us r
     unfolding types_in type_of_word
     type_exported us vs r ok e i = record {
       packed = j.replaces.packed;
@@ -135,7 +130,7 @@ module _ (ws places : Words) (n : Neat (types_of ws)) where
     }
       where
         j : Imports (export_types (types_of ws) (types_in 1 (t ∷ []))) us (t ∷ []) vs 1 ok
-        j = subst (λ (ts : Types). Imports (export_types ts (types_in 1 (t ∷ []))) us (t ∷ []) vs 1 ok) (packed_source ws places) i
+        j = i
 
         fits : ok ≡ true
         fits = export_fits ws us (t ∷ []) vs 1 ok n type_in j

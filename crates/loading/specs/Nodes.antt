@@ -1,11 +1,11 @@
 -- The records of a question's table as nodes: what the code is told of them, and the laws that it cites.
-use Prim.Native.Nat.{ℕ, zero, suc, ◌+◌, ◌≤◌, ◌<◌, min}
-use Rattle.std.specs.Prelude.{◌≡◌, refl, false, [], ◌∷◌, ◌++◌, map, ◌≢◌, ◌⊎◌, eqb, get_or, set, take}
-use Rattle.std.proofs.Math.Path.{sym, ap}
-use Rattle.std.proofs.Common.{◌∙◌, subst, inl, inr, not-suc-le-zero, arith, length-set, get_or-set_same, get_or-set_other, get_or-take, eq-eqb, ne_eqb}
-use Rattle.std.proofs.Math.Decide.{ℕ_discrete}
+use Prim.Native.Nat.{ℕ, ◌+◌, ◌≤◌, ◌<◌}
+use Rattle.std.specs.Prelude.{◌≡◌, [], ◌∷◌, ◌++◌, map, ◌≢◌, ◌⊎◌, eqb, set, take}
+use Rattle.std.proofs.Math.Path.{sym, ap, ap₂}
+use Rattle.std.proofs.Common.{◌∙◌, subst, inl, inr, arith, append_assoc, append-nil, length-append, length-set, eq-eqb, ne_eqb}
+use Rattle.std.proofs.lemmas.List.{map-append, take_more_set}
+use mathlib.Core.List.{map-map}
 use Rattle.std.proofs.Math.ListN.{length, length-take, length-map, get_or-eq_default}
-use Rattle.std.proofs.Math.Seq.{ext_get_or}
 use Rattle.rules.specs.Lists.{Words}
 use Rattle.rules.specs.Limits.{limit_nodes}
 use Rattle.rules.specs.Sheet.{at, chain}
@@ -40,56 +40,39 @@ pub record Cells (q : Words) (h : ℕ) (cs : Words) (m : ℕ) : Type 0 where
   pub room : m ≤ length cs
   pub is : map type_of_word (take m cs) ≡ cell_types q h
 
--- The first j are read.
-pub record Reading (q : Words) (h : ℕ) (cs : Words) (m j : ℕ) : Type 0 where
-  pub within : j ≤ m
-  pub few : m ≤ 8
+-- The cells at `done` are read; those at `left` are to come.
+pub record Reading (q : Words) (h : ℕ) (cs done left : Words) (m : ℕ) : Type 0 where
+  pub all : done ++ left ≡ chain q h
+  pub few : length (chain q h) ≤ 8
   pub long : 8 ≤ length cs
-  pub count : m ≡ length (chain q h)
-  pub each : (i : ℕ) → i < j → at cs i ≡ at q (at (chain q h) i + 1)
+  pub count : m ≡ length done
+  pub is : take m cs ≡ map (λ c. at q (c + 1)) done
 
-pub reading_start : (q : Words) (h : ℕ) (cs : Words) (m : ℕ) → length (chain q h) ≤ 8 → 8 ≤ length cs → m ≡ length (chain q h) → Reading q h cs m 0
-reading_start q h cs m f l e = record { within = omega arith; few = omega arith; long = l; count = e; each = λ i k. absurd (not-suc-le-zero k) }
+-- p is the place of the next cell, and w its type word.
+module _ (q : Words) (h : ℕ) (cs done rest left : Words) (m p : ℕ) (g : Reading q h cs done rest m) (e : rest ≡ p ∷ left) where
+  pub reading_room : m < 8
+  reading_room = omega (arith, g.few, g.count, ap (λ (l : Words). length l) g.all, ap (λ (l : Words). length l) e, length-append done rest)
 
-mapped_at : {B : Type 0} (f : ℕ → B) (l : Words) (n : ℕ) (d : B) → n < length l → get_or (map f l) n d ≡ f (at l n)
-mapped_at f [] n d h = absurd (not-suc-le-zero h)
-mapped_at f (x ∷ l) zero d h = refl
-mapped_at f (x ∷ l) (suc n) d h = mapped_at f l n d (omega arith)
-
-module _ (q : Words) (h : ℕ) (cs : Words) (m j : ℕ) (g : Reading q h cs m j) where
-  -- p is the place of cell j, and w its type word.
-  pub reading_next : (p w : ℕ) → j < m → p ≡ at (chain q h) j → w ≡ at q (p + 1) → Reading q h (set cs j w) m (j + 1)
-  reading_next p w l ep ew = record {
-    within = omega arith;
+  pub reading_next : (w : ℕ) → w ≡ at q (p + 1) → Reading q h (set cs m w) (done ++ (p ∷ [])) left (m + 1)
+  reading_next w ew = record {
+    all = append_assoc done (p ∷ []) left ∙ ap (λ (l : Words). done ++ l) (sym e) ∙ g.all;
     few = g.few;
-    long = omega (arith, length-set cs j w, g.long);
-    count = g.count;
-    each = λ i k. elim (ℕ_discrete i j) [
-      | yes e ↦ ap (at (set cs j w)) e ∙ get_or-set_same cs j w 0 (omega (arith, g.few, g.long)) ∙ ew ∙ ap (λ x. at q (x + 1)) (ep ∙ ap (at (chain q h)) (sym e))
-      | no e ↦ get_or-set_other cs j i w 0 e ∙ g.each i (omega arith)
-    ];
+    long = omega (arith, length-set cs m w, g.long);
+    count = omega (arith, g.count, length-append done (p ∷ []));
+    is = take_more_set cs m w (omega (arith, reading_room, g.long)) ∙ ap₂ (λ (l : Words) (x : ℕ). l ++ (x ∷ [])) g.is ew ∙ sym (map-append (λ c. at q (c + 1)) done (p ∷ []));
   }
 
-  pub reading_done : m ≤ j → Cells q h cs m
-  unfolding cell_types
-  reading_done l = record {
-    few = g.few;
-    room = omega (arith, g.few, g.long);
-    is = ext_get_or (false, 0) (map type_of_word (take m cs)) (cell_types q h) (length-map (take m cs) type_of_word ∙ length-take m cs ∙ size ∙ sym (length-map (chain q h) (λ c. type_of_word (at q (c + 1))))) (λ i k. one i (omega (arith, length-map (take m cs) type_of_word, length-take m cs)));
-  }
-    where
-      size : min m (length cs) ≡ length (chain q h)
-      size = omega (arith, g.few, g.long, g.count)
-
-      one : (i : ℕ) → i < m → get_or (map type_of_word (take m cs)) i (false, 0) ≡ get_or (cell_types q h) i (false, 0)
-      one i k = type_at (take m cs) i ∙ ap type_of_word (get_or-take m cs i 0 k ∙ g.each i (omega (arith, g.within))) ∙ sym (mapped_at (λ c. type_of_word (at q (c + 1))) (chain q h) i (false, 0) (omega (arith, g.count)))
+pub reading_done : (q : Words) (h : ℕ) (cs done rest : Words) (m : ℕ) → Reading q h cs done rest m → rest ≡ [] → Cells q h cs m
+unfolding cell_types
+reading_done q h cs done rest m g e = record {
+  few = omega (arith, g.few, g.count, ap (λ (l : Words). length l) g.all, length-append done rest);
+  room = omega (arith, g.few, g.long, g.count, ap (λ (l : Words). length l) g.all, length-append done rest);
+  is = ap (map type_of_word) g.is ∙ map-map type_of_word (λ c. at q (c + 1)) done ∙ ap (map (λ c. type_of_word (at q (c + 1)))) (sym (append-nil done) ∙ ap (λ (l : Words). done ++ l) (sym e) ∙ g.all);
+}
 
 -- The words that are read.
 pub cells-length : (q : Words) (h : ℕ) (cs : Words) (m : ℕ) → Cells q h cs m → m ≡ length (take m cs)
 cells-length q h cs m c = omega (arith, length-take m cs, c.room)
-
-pub cells_short : (q : Words) (h : ℕ) (cs : Words) (m : ℕ) → Cells q h cs m → length (take m cs) ≤ 8
-cells_short q h cs m c = omega (arith, length-take m cs, c.room, c.few)
 
 -- What a record is, by its kind.
 state_unknown : (q : Words) (p : ℕ) → at q (p + 1) ≡ 0 → node_state q p ≡ unknown
@@ -99,9 +82,6 @@ state_unknown q p e = rw (eq-eqb (at q (p + 1)) 0 e, node_state)
 state_known : (q : Words) (p : ℕ) → at q (p + 1) ≢ 0 → node_state q p ≡ known (eqb (at q (p + 2)) 1) (at q (p + 1)) (at q (p + 3)) (cell_types q (at q (p + 4)))
 unfolding node_state
 state_known q p e = rw (ne_eqb (at q (p + 1)) 0 e, node_state)
-
-pub kind-some : (q : Words) (p k : ℕ) → k ≡ at q (p + 1) → k ≢ 0 → Kind q p k
-kind-some q p k e z = record { is = e; some = z }
 
 module _ (q : Words) (p k : ℕ) (f : NodeFits q p) (d : Kind q p k) where
   known_here : node_state q p ≡ known (eqb (at q (p + 2)) 1) (at q (p + 1)) (at q (p + 3)) (cell_types q (at q (p + 4)))

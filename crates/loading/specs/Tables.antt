@@ -1,9 +1,9 @@
--- A question's table, node by node: the first j records are pushed.
-use Rattle.std.specs.Prelude.{ℕ, ◌+◌, ◌≤◌, ◌<◌, ◌≡◌, [], ◌∷◌, ◌++◌}
+-- A question's table, node by node: so many records are pushed, and the others are to come.
+use Rattle.std.specs.Prelude.{ℕ, suc, ◌≤◌, ◌<◌, ◌≡◌, [], ◌∷◌, ◌++◌}
 use Rattle.std.proofs.Math.Path.{sym, ap}
-use Rattle.std.proofs.Common.{◌∙◌, subst, add-one, arith, length-take, take-suc}
+use Rattle.std.proofs.Common.{◌∙◌, subst, arith, append_assoc, length-append, length-take, take-suc}
 use Rattle.std.proofs.Math.ListN.{length, take}
-use Rattle.std.proofs.Math.Seq.{take_all}
+use Rattle.std.proofs.Math.Seq.{get_or-append_seam, take_all}
 use Rattle.rules.specs.Lists.{Words}
 use Rattle.rules.specs.Limits.{limit_nodes}
 use Rattle.rules.specs.Layout.{question_table}
@@ -31,50 +31,54 @@ node_fits q h j f l =
       inside = children_more (length (table q h)) limit_nodes f.few (node_state q (at (chain q h) j)) (subst (ChildrenIn (length (table q h))) (ap (state_at (table q h)) (table-flat q h j k) ∙ e) (f.neat.proper.formed j k).2);
     }
 
--- The first j of n nodes are there.
-pub record Loading (q us : Words) (h n j : ℕ) : Type 0 where
-  pub within : j ≤ n
-  pub head : h ≡ at q question_table
-  pub count : n ≡ length (chain q h)
-  pub fits : Fitting (table q h)
+-- The nodes of the records `done` are there; those of `left` are to come.
+pub record Loading (q us done left : Words) : Type 0 where
+  pub all : done ++ left ≡ chain q (at q question_table)
+  pub fits : Fitting (question_types q)
   pub packed : Packed us
-  pub is : types_of us ≡ take j (table q h)
+  pub is : types_of us ≡ take (length done) (question_types q)
 
-pub loading_start : (q us : Words) (h n : ℕ) → h ≡ at q 0 → n ≡ length (chain q h) → Fitting (question_types q) → Becomes us [] → Loading q us h n 0
-unfolding question_types
-loading_start q us h n eh en f b = record { within = omega arith; head = eh; count = en; fits = subst (λ x. Fitting (table q x)) (sym eh) f; packed = b.packed; is = b.is }
+-- The record at p is the next.
+module _ (q us done rest left : Words) (p : ℕ) (g : Loading q us done rest) (e : rest ≡ p ∷ left) where
+  abbrev head : ℕ
+  head = at q question_table
 
-module _ (q us : Words) (h n j : ℕ) (g : Loading q us h n j) where
-  loaded : length (types_of us) ≡ j
-  loaded = ap (λ (ts : Types). length ts) g.is ∙ length-take j (table q h) ∙ omega (arith, g.within, g.count, table_length_lem q h)
+  all : done ++ (p ∷ left) ≡ chain q head
+  all = ap (λ (l : Words). done ++ l) (sym e) ∙ g.all
 
-  module _ (l : j < n) where
-    pub loading_fits : (p : ℕ) → p ≡ at (chain q h) j → NodeFits q p
-    loading_fits p e = subst (NodeFits q) (sym e) (node_fits q h j g.fits (omega (arith, g.count)))
+  inside : length done < length (table q head)
+  inside = omega (arith, table_length_lem q head, ap (λ (l : Words). length l) all, length-append done (p ∷ left))
 
-    pub loading_room : length (types_of us) < 256
-    loading_room = omega (arith, loaded, g.count, table_length_lem q h, g.fits.few)
+  place : p ≡ at (chain q head) (length done)
+  place = sym (get_or-append_seam done p left 0) ∙ ap (λ (l : Words). at l (length done)) all
 
-    pub loading_next : (vs : Words) (p : ℕ) → p ≡ at (chain q h) j → Becomes vs (types_of us ++ (new_node (length (types_of us)) (node_state q p) ∷ [])) → Loading q vs h n (j + 1)
-    unfolding node_at
-    loading_next vs p e b = record {
-      within = omega arith;
-      head = g.head;
-      count = g.count;
-      fits = g.fits;
-      packed = b.packed;
-      is = b.is ∙ cc (g.is, here) ∙ sym (take-suc (table q h) j (new_node 0 unknown) inside) ∙ ap (λ k. take k (table q h)) (sym (add-one j));
-    }
-      where
-        inside : j < length (table q h)
-        inside = omega (arith, g.count, table_length_lem q h)
-
-        here : node_at (table q h) j ≡ new_node (length (types_of us)) (node_state q p)
-        here = table-node q h j inside ∙ cc (loaded, e)
-
-  pub loading_done : n ≤ j → Becomes us (question_types q)
+  loaded : length (types_of us) ≡ length done
   unfolding question_types
-  loading_done l = record {
-    packed = g.packed;
-    is = g.is ∙ take_all j (table q h) (omega (arith, g.count, table_length_lem q h)) ∙ ap (table q) g.head;
+  loaded = ap (λ (ts : Types). length ts) g.is ∙ length-take (length done) (table q head) ∙ omega (arith, inside)
+
+  pub loading_fits : NodeFits q p
+  unfolding question_types
+  loading_fits = subst (NodeFits q) (sym place) (node_fits q head (length done) g.fits (omega (arith, inside, table_length_lem q head)))
+
+  pub loading_room : length (types_of us) < 256
+  unfolding question_types
+  loading_room = omega (arith, loaded, inside, g.fits.few)
+
+  pub loading_next : (vs : Words) → Becomes vs (types_of us ++ (new_node (length (types_of us)) (node_state q p) ∷ [])) → Loading q vs (done ++ (p ∷ [])) left
+  unfolding node_at question_types
+  loading_next vs b = record {
+    all = append_assoc done (p ∷ []) left ∙ all;
+    fits = g.fits;
+    packed = b.packed;
+    is = b.is ∙ cc (g.is, here) ∙ sym (take-suc (table q head) (length done) (new_node 0 unknown) inside) ∙ ap (λ k. take k (table q head)) (let z : suc (length done) ≡ length (done ++ (p ∷ [])) = omega (arith, length-append done (p ∷ [])) in z);
   }
+    where
+      here : node_at (table q head) (length done) ≡ new_node (length (types_of us)) (node_state q p)
+      here = table-node q head (length done) inside ∙ cc (loaded, place)
+
+pub loading_done : (q us done rest : Words) → Loading q us done rest → rest ≡ [] → Becomes us (question_types q)
+unfolding question_types
+loading_done q us done rest g e = record {
+  packed = g.packed;
+  is = g.is ∙ take_all (length done) (table q (at q question_table)) (omega (arith, table_length_lem q (at q question_table), ap (λ (l : Words). length l) g.all, ap (λ (l : Words). length l) e, length-append done rest));
+}

@@ -15,6 +15,7 @@ ghost use Rattle.loading.specs.Exports.{Reads, Asks, Exports, ExportsType};
 
 use chart::layout;
 use queries::Query;
+use transfer::PackedTable;
 
 // Reads the type words of the cells from a head, and says how many there are.
 fn read_cells(q: &[u32], head: usize, cs: &mut [u32]) -> usize
@@ -22,11 +23,10 @@ fn read_cells(q: &[u32], head: usize, cs: &mut [u32]) -> usize
     requires in_bounds { 8 ≤ length cs.old }
     ensures { Cells q.now head cs.new result }
 {
-    let m = words::chain_length(q, head);
-    let mut j = 0;
-    while j < m {
-        cs[j] = words::offset(q, words::place(q, head, j), layout::CELL_TYPE);
-        j += 1;
+    let mut m = 0;
+    for p in words::records(q, head) {
+        cs[m] = words::offset(q, p, layout::CELL_TYPE);
+        m += 1;
     }
     m
 }
@@ -40,14 +40,11 @@ fn load_known(q: &[u32], p: usize, kind: u32, dst: &mut [u32])
     ensures { Becomes dst.new (types_of dst.old ++ (new_node (length (types_of dst.old)) (node_state q.now p) ∷ [])) }
 {
     let mut cs = [0u32; 8];
-    let m = read_cells(
-        q,
-        words::wide(words::offset(q, p, layout::NODE_CHILDREN)),
-        &mut cs,
-    );
+    let head = words::offset(q, p, layout::NODE_CHILDREN) as usize;
+    let m = read_cells(q, head, &mut cs);
     let inverted = words::offset(q, p, layout::NODE_INVERTED) == 1;
     let id = words::offset(q, p, layout::NODE_ID);
-    table::new_known(dst, inverted, kind, id, &cs[..m]);
+    let _ = table::new_known(dst, inverted, kind, id, &cs[..m]);
 }
 
 // Pushes the node that the record at p is.
@@ -59,10 +56,10 @@ fn load_node(q: &[u32], p: usize, dst: &mut [u32])
 {
     let kind = words::offset(q, p, layout::NODE_KIND);
     if kind == 0 {
-        table::new_var(dst);
-        return;
+        let _ = table::new_var(dst);
+    } else {
+        load_known(q, p, kind, dst)
     }
-    load_known(q, p, kind, dst)
 }
 
 // The question's table.
@@ -73,11 +70,8 @@ pub fn load_table(q: &[u32], dst: &mut [u32])
 {
     table::clear_table(dst);
     let head = words::next(q, layout::QUESTION_TABLE);
-    let n = words::chain_length(q, head);
-    let mut j = 0;
-    while j < n {
-        load_node(q, words::place(q, head, j), dst);
-        j += 1;
+    for p in words::records(q, head) {
+        load_node(q, p, dst);
     }
 }
 
@@ -96,8 +90,7 @@ pub fn type_question(tr: u32, inverted: bool, t: u32) -> Query
     requires { t < 512 }
     ensures { Reads (tr, invert_if inverted (type_of_word t) ∷ []) result }
 {
-    let u = table::invert_if(inverted, t);
-    let args = [u, 0, 0, 0];
+    let args = [table::invert_if(inverted, t), 0, 0, 0];
     Query { tr, n: 1, args }
 }
 
@@ -108,14 +101,9 @@ pub fn export_question(table: &[u32], query: Query, dst: &mut [u32], map: &mut [
     requires in_bounds_2 { 256 ≤ length map.old }
     ensures { Exports (types_of table.now) (query_of query) dst.new result }
 {
-    let mut args = [query.args[0], query.args[1], query.args[2], query.args[3]];
-    let n = query.n;
-    transfer::export_types(true, table, &table[..0], dst, map, &mut args, n);
-    Query {
-        tr: query.tr,
-        n,
-        args,
-    }
+    let Query { tr, n, mut args } = query;
+    let _ = transfer::export_types(&PackedTable(table), dst, map, &mut args, n);
+    Query { tr, n, args }
 }
 
 // `export` of a type: its word in a table of its own.
@@ -127,6 +115,6 @@ pub fn export_type(table: &[u32], t: u32, dst: &mut [u32], map: &mut [u32]) -> u
     ensures { ExportsType (types_of table.now) t dst.new result }
 {
     let mut ts = [t];
-    transfer::export_types(true, table, &table[..0], dst, map, &mut ts, 1);
+    let _ = transfer::export_types(&PackedTable(table), dst, map, &mut ts, 1);
     ts[0]
 }

@@ -17,7 +17,7 @@ use Rattle.table.specs.ChildTypes.{ChildTypes}
 use Rattle.queries.specs.declared.Query.{Query}
 use Rattle.refs.specs.Meaning.{odd, means, node_types, record_types, Meaning}
 use Rattle.refs.specs.Refs.{place}
-use Rattle.refs.specs.Children.{Cells}
+use Rattle.refs.specs.Children.{Cells, Below, below}
 use Rattle.refs.specs.Links.{Linked, Finds}
 
 never : false ≡ true → ⊥
@@ -154,6 +154,11 @@ kids_record s ps ws r p h j o l ep eh ej c = record {
   are = λ z. c.are z ∙ ap (record_types s) (ej ∙ eh ∙ ap (λ k. at s (k + 4)) ep) ∙ sym (kids_high s ps ws r l);
 }
 
+-- They are those below it.
+pub kids_below : (s ps ws : Words) (r : ℕ) (o : Row) → Below s ps ws r o → Kids s ps ws r o
+unfolding kids below
+kids_below s ps ws r o b = record { few = b.few; long = b.long; are = b.are }
+
 pub kids_known : (ws : Words) (r k : ℕ) → k ≡ kind_at (types_of ws) r → k ≢ 0 → kind_at (types_of ws) r ≢ 0
 kids_known ws r k e z q = z (e ∙ q)
 
@@ -199,8 +204,8 @@ pub record SameKids (s ps ws ls : Words) (a z : ℕ) (ks : Words) (b : Bool) : T
 pub kids_not : (s ps ws ls : Words) (a z : ℕ) → SameKids s ps ws ls a z ls false
 kids_not s ps ws ls a z = record { fixed = fixed_same ls; same = λ e. absurd (never e) }
 
-pub kids-same : (s ps ws ls : Words) (a z : ℕ) (xs ys : Row) (ks : Words) (b : Bool) → Kids s ps ws a xs → Kids s ps ws z ys → xs.n ≢ 9 → ys.n ≢ 9 → xs.n ≡ ys.n → SameLabels ls xs.n xs.types ys.types ks b → SameKids s ps ws ls a z ks b
-kids-same s ps ws ls a z xs ys ks b k j zx zy e o = record {
+pub kids-same : (s ps ws ls : Words) (a z : ℕ) (xs ys : Row) (ks : Words) (b : Bool) → Below s ps ws a xs → Below s ps ws z ys → xs.n ≢ 9 → ys.n ≢ 9 → xs.n ≡ ys.n → SameLabels ls xs.n xs.types ys.types ks b → SameKids s ps ws ls a z ks b
+kids-same s ps ws ls a z xs ys ks b ka kz zx zy e o = let k = kids_below s ps ws a xs ka in let j = kids_below s ps ws z ys kz in record {
   fixed = o.fixed;
   same = λ t js f.
       ap (labelled js) (sym (k.are zx))
@@ -469,18 +474,18 @@ unfolding odd
 uneven w = ap (λ k. eqb k 1) (let z : (2 * w + 1) % 2 ≡ 1 = omega arith in z)
 
 -- x is found from it, whose ref is linked to its own inverse.
-pub opposite_found : (ls : Words) (w x v u : ℕ) → Finds ls (2 * w) x → v ≡ x / 2 % 2048 → u ≡ at ls v → Opposite ls w (eqb u (2 * (x / 2 % 2048) + 2))
+pub opposite_found : (ls : Words) (w x : ℕ) → Finds ls (2 * w) x → Opposite ls w (eqb (at ls (x / 2 % 2048)) (2 * (x / 2 % 2048) + 2))
 unfolding means turned
-opposite_found ls w x v u f ev eu = record { same = λ e s m l. one e s m l }
+opposite_found ls w x f = record { same = λ e s m l. one e s m l }
   where
     r : ℕ
     r = x / 2 % 2048
 
-    one : eqb u (2 * r + 2) ≡ true → (s : Words) (m : SignedSol) → Linked s m ls → inverse s (m (w % 2048)) ≡ m (w % 2048)
+    one : eqb (at ls r) (2 * r + 2) ≡ true → (s : Words) (m : SignedSol) → Linked s m ls → inverse s (m (w % 2048)) ≡ m (w % 2048)
     one e s m l = ap (inverse s) it ∙ at_root ∙ sym it
       where
         is : at ls r ≡ 2 * r + 2
-        is = ap (at ls) (sym ev) ∙ sym eu ∙ eqb-true u (2 * r + 2) e
+        is = eqb-true (at ls r) (2 * r + 2) e
 
         low : r < 2048
         low = omega arith

@@ -4,7 +4,7 @@ use Rattle.std.proofs.Math.Path.{sym, ap, ap₂}
 use Rattle.std.proofs.Common.{◌∙◌, add-one, arith, drop_of_length-le, drop-cons, length-take-le}
 use Rattle.std.proofs.Math.ListN.{drop}
 use Rattle.std.proofs.Math.Seq.{get_or-take}
-use borrow.Author.Tests.{eqb-true}
+use borrow.Author.Tests.{eqb-true, eq-eqb}
 use Rattle.rules.specs.Lists.{Words}
 use Rattle.rules.specs.Sheet.{at, chain, chain_of}
 use Rattle.rules.specs.Transfer.{cell_types}
@@ -63,6 +63,9 @@ module _ (s ls : Words) (h : ℕ) (o : Row) (ks : Words) (c j : ℕ) (k : Beside
         let e : j ≡ o.n = eqb-true j o.n t in
         k.rest js f (ap (λ (xs : Words). labelled js (map (type_in_cell s) xs)) (cells-none s (length s - j) c z) ∙ sym (ap (labelled js) (drop_of_length-le (take o.n o.types) {i = j} (omega (arith, count, e)))));
   }
+
+  pub beside_full : (i : ℕ) → i ≤ j → c ≡ 0 → CellsAlike s ls h o ks (eqb o.n i)
+  beside_full i l z = record { fixed = k.fixed; same = λ t js f. (beside_end z).same (eq-eqb j o.n (let e : j ≡ o.n = omega (arith, k.few, eqb-true o.n i t) in e)) js f }
 
   pub beside_on : (v x y n : ℕ) (is : Words) (b : Bool) → c ≢ 0 → j ≢ o.n → RefsAlike ks (x / 2) (y / 2) is b → not b ≡ false → x ≡ 2048 + v % 2048 → v ≡ at s (c + 1) → y ≡ at o.types j → n ≡ at s c → Beside s ls h o is n (j + 1)
   unfolding labelled

@@ -8,30 +8,28 @@ ghost use Rattle.rules.specs.Sheet.{at};
 ghost use Rattle.table.specs.Packing.{Packed};
 ghost use Rattle.table.specs.ChildTypes.{row_at};
 ghost use Rattle.loose.specs.LooseAcross.{CellsAlike};
-ghost use Rattle.loose.specs.Loose.{Labelled, RefsAlike, turned_round, Kids, SameLabels, SameKids, Closes, Owns, NodeCloses, NodesClose, RecordCloses, RecordsClose, ArgsSame, Labels, Opposite, Witness, Opposed};
+ghost use Rattle.loose.specs.Loose.{Labelled, RefsAlike, turned_round, SameLabels, SameKids, Closes, Owns, NodeCloses, NodesClose, RecordCloses, RecordsClose, ArgsSame, Labels, Opposite, Witness, Opposed};
 
 use chart::layout;
 use queries::Query;
-use refs::{NODES, PARAM, PARAMS, RECORDS, UNTOLD, cells, find, own_type, place_of, untold};
+use refs::{NODES, PARAM, PARAMS, RECORDS, UNTOLD, below, find, own_type, place_of, record_count};
 use table::Row;
 
 // The label of a ref.
 fn label_of(labels: &[u32; 2048], r: u32) -> u32
     ensures { result ≡ at labels.now (r % 2048) }
 {
-    labels[words::wide(r % 2048)]
+    labels[r as usize % 2048]
 }
 
 // The label of a ref, which becomes x where it is not set.
 fn label(labels: &mut [u32; 2048], r: u32, x: u32) -> u32
     ensures { Labelled labels.old r labels.new result }
 {
-    let i = words::wide(r % 2048);
-    let y = labels[i];
-    if y != 0 {
-        return y;
+    let i = r as usize % 2048;
+    if labels[i] == 0 {
+        labels[i] = x;
     }
-    labels[i] = x;
     labels[i]
 }
 
@@ -40,35 +38,20 @@ fn same_label(labels: &mut [u32; 2048], x: u32, y: u32) -> bool
     ensures { RefsAlike labels.old x y labels.new result }
 {
     let b = label(labels, y, y % 2048 + 1);
-    if b == 0 {
-        return false;
-    }
-    let i = words::wide(x % 2048);
-    let a = labels[i];
-    if a == b {
-        return true;
-    }
-    if a != 0 {
-        return false;
-    }
-    labels[i] = b;
-    labels[i] == b
+    b != 0 && label(labels, x, b) == b
 }
 
 // Labels n refs from one on by their roots.
 fn label_from(links: &[u32; 2048], labels: &mut [u32; 2048], from: u32, n: u32)
     requires { from + n ≤ 2048 }
 {
-    let mut k: u32 = 0;
-    while k < n {
-        let r = from + k;
-        k += 1;
-        let i = words::wide(r % 2048);
-        if links[i] == 0 {
-            labels[i] = r + 1;
+    for r in from..from + n {
+        let i = r as usize;
+        labels[i] = if links[i] == 0 {
+            r + 1
         } else {
-            labels[i] = find(links, 2 * r) / 2 % 2048 + 1;
-        }
+            find(links, 2 * r) / 2 % 2048 + 1
+        };
     }
 }
 
@@ -76,35 +59,13 @@ fn label_from(links: &[u32; 2048], labels: &mut [u32; 2048], from: u32, n: u32)
 fn label_linked(links: &[u32; 2048], labels: &mut [u32; 2048], n: u32)
     requires { n ≤ 1024 }
 {
-    let mut k: u32 = 0;
-    while k < n {
-        let r = RECORDS + k;
-        k += 1;
-        if links[words::wide(r % 2048)] != 0 {
+    for r in RECORDS..RECORDS + n {
+        if links[r as usize] != 0 {
             let z = find(links, 2 * r) / 2 % 2048;
-            labels[words::wide(r % 2048)] = z + 1;
-            labels[words::wide(z)] = z + 1;
+            labels[r as usize] = z + 1;
+            labels[z as usize] = z + 1;
         }
     }
-}
-
-// The children of a ref.
-fn kids(sheet: &[u32], places: &[u32], ws: &[u32], r: u32) -> Row
-    requires { Packed ws.now }
-    ensures { Kids sheet.now places.now ws.now r result }
-{
-    if r < NODES {
-        if table::kind_of(ws, r) == 0 {
-            return untold();
-        }
-        return table::child_types(ws, r);
-    }
-    let p = place_of(places, r);
-    if p == 0 {
-        return untold();
-    }
-    let head = words::offset(sheet, p, layout::NODE_CHILDREN);
-    cells(sheet, words::wide(head))
 }
 
 // Whether the types of two rows of one length are labelled alike.
@@ -112,14 +73,10 @@ fn same_labels(labels: &mut [u32; 2048], xs: Row, ys: Row) -> bool
     requires { xs.n ≤ 8 }
     ensures { SameLabels labels.old xs.n xs.types ys.types labels.new result }
 {
-    let mut j: usize = 0;
-    while j < xs.n {
-        let x = xs.types[j];
-        let y = ys.types[j];
-        if !same_label(labels, x / 2, y / 2) {
+    for j in 0..xs.n {
+        if !same_label(labels, xs.types[j] / 2, ys.types[j] / 2) {
             return false;
         }
-        j += 1;
     }
     true
 }
@@ -140,8 +97,7 @@ fn same_cells(
     ensures { CellsAlike sheet.now labels.old head (row_at ws.now z n) labels.new result }
 {
     let mut c = head;
-    let mut j: usize = 0;
-    while j < 8 {
+    for j in 0..8 {
         if c == 0 {
             return j == n;
         }
@@ -154,12 +110,8 @@ fn same_cells(
             return false;
         }
         c = words::next(sheet, c);
-        j += 1;
     }
-    if c != 0 {
-        return false;
-    }
-    j == n
+    c == 0 && n == 8
 }
 
 // Whether the children of a ref that has a record and of a node are labelled alike.
@@ -176,10 +128,7 @@ fn same_across(
     requires z_bound { z < 256 }
     ensures { SameKids sheet.now places.now ws.now labels.old a z labels.new result }
 {
-    if sheet.len() <= 8 {
-        return false;
-    }
-    if table::kind_of(ws, z) == 0 {
+    if sheet.len() <= 8 || table::kind_of(ws, z) == 0 {
         return false;
     }
     let n = table::own_children(ws, z);
@@ -188,7 +137,7 @@ fn same_across(
     }
     let p = place_of(places, a);
     let head = words::offset(sheet, p, layout::NODE_CHILDREN);
-    same_cells(sheet, ws, labels, words::wide(head), z, n)
+    same_cells(sheet, ws, labels, head as usize, z, n)
 }
 
 // Whether the children of two refs, whichever they are, are labelled alike.
@@ -203,18 +152,12 @@ fn same_kids(
     requires { Packed ws.now }
     ensures { SameKids sheet.now places.now ws.now labels.old a z labels.new result }
 {
-    let xs = kids(sheet, places, ws, a);
+    let xs = below(sheet, places, ws, a);
     if xs.n == UNTOLD {
         return false;
     }
-    let ys = kids(sheet, places, ws, z);
-    if ys.n == UNTOLD {
-        return false;
-    }
-    if xs.n != ys.n {
-        return false;
-    }
-    same_labels(labels, xs, ys)
+    let ys = below(sheet, places, ws, z);
+    ys.n != UNTOLD && xs.n == ys.n && same_labels(labels, xs, ys)
 }
 
 // Whether the children of two refs are labelled alike.
@@ -229,12 +172,11 @@ fn same_children(
     requires { Packed ws.now }
     ensures { SameKids sheet.now places.now ws.now labels.old a z labels.new result }
 {
-    if RECORDS <= a {
-        if z < NODES {
-            return same_across(sheet, places, ws, labels, a, z);
-        }
+    if RECORDS <= a && z < NODES {
+        same_across(sheet, places, ws, labels, a, z)
+    } else {
+        same_kids(sheet, places, ws, labels, a, z)
     }
-    same_kids(sheet, places, ws, labels, a, z)
 }
 
 // Whether a ref has another label than l, and its children are labelled as those of the ref that stands for its class: itself, where it has no label.
@@ -251,16 +193,7 @@ fn is_closed(
     ensures { Closes sheet.now places.now ws.now labels.old l r labels.new result }
 {
     let x = label(labels, r, r + 1);
-    if x == 0 {
-        return false;
-    }
-    if x == l {
-        return false;
-    }
-    if x == r + 1 {
-        return true;
-    }
-    same_children(sheet, places, ws, labels, r, x - 1)
+    x != 0 && x != l && (x == r + 1 || same_children(sheet, places, ws, labels, r, x - 1))
 }
 
 // Whether a ref stands for its class itself, and has another label than l: most nodes of the question do.
@@ -269,10 +202,7 @@ fn is_own(labels: &[u32; 2048], l: u32, r: u32) -> bool
     ensures { Owns labels.now l r result }
 {
     let y = label_of(labels, r);
-    if y == l {
-        return false;
-    }
-    y == r + 1
+    y != l && y == r + 1
 }
 
 // Whether a node of the question's table, if it is known, is so.
@@ -288,13 +218,7 @@ fn node_closed(
     requires r_bound { r < 2048 }
     ensures { NodeCloses sheet.now places.now ws.now labels.old l r labels.new result }
 {
-    if is_own(labels, l, r) {
-        return true;
-    }
-    if table::kind_of(ws, r) == 0 {
-        return true;
-    }
-    is_closed(sheet, places, ws, labels, l, r)
+    is_own(labels, l, r) || table::kind_of(ws, r) == 0 || is_closed(sheet, places, ws, labels, l, r)
 }
 
 // Whether all nodes are.
@@ -302,13 +226,10 @@ fn nodes_closed(sheet: &[u32], places: &[u32], ws: &[u32], labels: &mut [u32; 20
     requires { Packed ws.now }
     ensures { NodesClose sheet.now places.now ws.now labels.old l labels.new result }
 {
-    let n = table::count(ws);
-    let mut r: u32 = 0;
-    while r < n {
+    for r in 0..table::count(ws) {
         if !node_closed(sheet, places, ws, labels, l, r) {
             return false;
         }
-        r += 1;
     }
     true
 }
@@ -326,30 +247,24 @@ fn record_closed(
     requires k_bound { k < 1024 }
     ensures { RecordCloses sheet.now places.now ws.now labels.old l k labels.new result }
 {
-    let p = words::next(places, words::wide(k));
-    let j = words::offset(sheet, p, layout::NODE_KIND);
-    if j == 0 {
-        return true;
-    }
-    if j == PARAM {
-        let d = words::offset(sheet, p, layout::NODE_ID);
-        if d >= 8 {
-            return false;
+    let p = words::next(places, k as usize);
+    match words::offset(sheet, p, layout::NODE_KIND) {
+        0 => true,
+        PARAM => {
+            let d = words::offset(sheet, p, layout::NODE_ID);
+            d < 8 && same_label(labels, RECORDS + k, PARAMS + d)
         }
-        return same_label(labels, RECORDS + k, PARAMS + d);
+        _ => is_closed(sheet, places, ws, labels, l, RECORDS + k),
     }
-    is_closed(sheet, places, ws, labels, l, RECORDS + k)
 }
 
 // The index of number i of n, from the last to the first or from the first to the last.
+#[tactic(auto, using(crate::specs::Loose::round_down, crate::specs::Loose::round_up))]
 fn index(down: bool, n: u32, i: u32) -> u32
     requires { i < n }
     ensures { result ≡ turned_round down n i }
 {
-    if down {
-        return n - 1 - i;
-    }
-    i
+    if down { n - 1 - i } else { i }
 }
 
 // Whether all records are.
@@ -368,13 +283,10 @@ fn records_closed(
         return false;
     }
     let n = places.len() as u32;
-    let mut i: u32 = 0;
-    while i < n {
-        let k = index(down, n, i);
-        if !record_closed(sheet, places, ws, labels, l, k) {
+    for i in 0..n {
+        if !record_closed(sheet, places, ws, labels, l, index(down, n, i)) {
             return false;
         }
-        i += 1;
     }
     true
 }
@@ -384,21 +296,19 @@ fn args_alike(ws: &[u32], labels: &mut [u32; 2048], p: Query, q: Query) -> bool
     requires { q.n ≤ 4 }
     ensures { ArgsSame ws.now labels.old p q labels.new result }
 {
-    let mut k: usize = 0;
-    while k < q.n {
+    for k in 0..q.n {
         let x = own_type(p.args[k]);
         let y = table::find(ws, q.args[k]);
         if !same_label(labels, x / 2, y / 2) {
             return false;
         }
-        k += 1;
     }
     true
 }
 
 // Whether the record of the first argument is in the upper half: then parents are likely to be behind their children.
 fn is_high(places: &[u32], p: Query) -> bool {
-    words::wide(p.args[0] % 2048) >= places.len()
+    p.args[0] as usize % 2048 >= places.len()
 }
 
 // Whether the labels are closed, and nothing known has label l.
@@ -415,24 +325,19 @@ fn are_closed(
     requires n_bound { q.n ≤ 4 }
     ensures { Labels sheet.now places.now ws.now labels.old p q l labels.new result }
 {
-    if !args_alike(ws, labels, p, q) {
-        return false;
-    }
-    if !records_closed(sheet, places, ws, labels, l, is_high(places, p)) {
-        return false;
-    }
-    nodes_closed(sheet, places, ws, labels, l)
+    args_alike(ws, labels, p, q)
+        && records_closed(sheet, places, ws, labels, l, is_high(places, p))
+        && nodes_closed(sheet, places, ws, labels, l)
 }
 
 // Whether the links say that a ref is its own inverse.
+#[tactic(auto, using(crate::specs::Loose::opposite_found))]
 fn is_opposite(links: &[u32; 2048], w: u32) -> bool
     requires { w < 2048 }
     ensures { Opposite links.now w result }
 {
-    let x = find(links, 2 * w);
-    let r = x / 2 % 2048;
-    let up = links[words::wide(r)];
-    up == 2 * r + 2
+    let r = find(links, 2 * w) / 2 % 2048;
+    links[r as usize] == 2 * r + 2
 }
 
 // Whether a ref is an unknown root of the question's table, or has a record.
@@ -440,49 +345,21 @@ fn may_witness(places: &[u32], ws: &[u32], w: u32) -> bool
     ensures { Witness places.now ws.now w result }
 {
     if w >= RECORDS {
-        if w >= 2048 {
-            return false;
-        }
-        return words::wide(w - RECORDS) < places.len();
+        return w < 2048 && ((w - RECORDS) as usize) < places.len();
     }
-    if w >= table::count(ws) {
-        return false;
-    }
-    if table::kind_of(ws, w) != 0 {
-        return false;
-    }
-    table::find(ws, 2 * w) == 2 * w
-}
-
-// How many records there are, or 1,024.
-fn records(places: &[u32]) -> u32
-    ensures { result ≤ 1024 }
-{
-    if places.len() > 1024 {
-        return 1024;
-    }
-    places.len() as u32
+    w < table::count(ws) && table::kind_of(ws, w) == 0 && table::find(ws, 2 * w) == 2 * w
 }
 
 // A ref of the class of r that is no type parameter; r if there is none.
 fn witness(links: &[u32; 2048], r: u32, n: u32) -> u32
     requires { n ≤ 1024 }
 {
-    if r < NODES {
+    if r < NODES || r >= RECORDS {
         return r;
     }
-    if r >= RECORDS {
-        return r;
-    }
-    let mut k: u32 = 0;
-    while k < n {
-        let w = RECORDS + k;
-        k += 1;
-        if find(links, 2 * w) / 2 == r {
-            return w;
-        }
-    }
-    r
+    (RECORDS..RECORDS + n)
+        .find(|w| find(links, 2 * *w) / 2 == r)
+        .unwrap_or(r)
 }
 
 // Whether the ref w, or its class, is its own inverse, and nothing known is of its class.
@@ -500,21 +377,15 @@ fn is_loose(
     requires w_bound { w < 2048 }
     ensures { Opposed sheet.now places.now ws.now links.now p q result }
 {
-    if !is_opposite(links, w) {
-        return false;
-    }
-    if !may_witness(places, ws, w) {
+    if !is_opposite(links, w) || !may_witness(places, ws, w) {
         return false;
     }
     let mut labels = [0u32; 2048];
     label_from(links, &mut labels, 0, table::count(ws));
     label_from(links, &mut labels, PARAMS, 8);
-    label_linked(links, &mut labels, records(places));
+    label_linked(links, &mut labels, record_count(places));
     let l = label_of(&labels, w);
-    if l == 0 {
-        return false;
-    }
-    are_closed(sheet, places, ws, &mut labels, p, q, l)
+    l != 0 && are_closed(sheet, places, ws, &mut labels, p, q, l)
 }
 
 // Whether ref r, which met its own inverse, stays free.
@@ -531,6 +402,6 @@ pub fn opposed(
     requires n_bound { q.n ≤ 4 }
     ensures { Opposed sheet.now places.now ws.now links.now p q result }
 {
-    let w = witness(links, r, records(places));
+    let w = witness(links, r, record_count(places));
     is_loose(sheet, places, ws, links, p, q, w % 2048)
 }

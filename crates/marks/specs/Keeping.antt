@@ -1,6 +1,6 @@
 -- The chain rule for one record: which of its tests decides.
 use Prim.Native.Nat.{ℕ, zero, suc, ◌+◌, ◌-◌, ◌≤◌, ◌<◌}
-use Rattle.std.specs.Prelude.{◌≡◌, true, false, ◌≢◌, length}
+use Rattle.std.specs.Prelude.{◌≡◌, false, ◌≢◌, eqb, length}
 use Rattle.std.proofs.Math.Path.{refl, sym, ap}
 use Rattle.std.proofs.Common.{◌∙◌, arith, le-leb}
 use Rattle.std.proofs.lemmas.Bool.{lt-leb}
@@ -20,9 +20,9 @@ module _ (s : Words) (len i : ℕ) where
   keeps_past k h = rw (lt-leb (i + len) (length s) (omega arith))
 
   -- it ends its chain,
-  pub keeps_last : (next : ℕ) → next ≡ at s i → len ≤ length s → i ≤ length s - len → next ≡ 0 → true ≡ record_keeps s len i
+  pub keeps_last : (next : ℕ) → next ≡ at s i → len ≤ length s → i ≤ length s - len → next ≡ 0 → eqb next 0 ≡ record_keeps s len i
   unfolding record_keeps zero_or_from
-  keeps_last next e k h z = rw (le-leb (i + len) (length s) (omega arith), sym e ∙ z)
+  keeps_last next e k h z = rw (z, le-leb (i + len) (length s) (omega arith), sym e ∙ z)
 
   -- or its next lies past it.
   pub keeps_next : (next : ℕ) → next ≡ at s i → len ≤ length s → i ≤ length s - len → next ≢ 0 → leb (i + len) next ≡ record_keeps s len i

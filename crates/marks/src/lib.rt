@@ -8,15 +8,9 @@ ghost use Rattle.rules.specs.Chains.{record_keeps};
 pub fn keeps(s: &[u32], len: usize, i: usize) -> bool
     ensures { result ≡ record_keeps s.now len i }
 {
-    if s.len() < len {
-        return false;
-    }
-    if s.len() - len < i {
+    if s.len() < len || s.len() - len < i {
         return false;
     }
     let next = words::next(s, i);
-    if next == 0 {
-        return true;
-    }
-    i + len <= next
+    next == 0 || i + len <= next
 }

@@ -4,9 +4,14 @@
 // A slice may be short: what would lie past its end is not kept.
 #![tactic(auto)]
 
-ghost use Rattle.std.specs.Prelude.{◌≡◌, ◌+◌, ◌*◌, ◌<◌, set};
+ghost use Rattle.std.specs.Prelude.{◌≡◌, ◌≢◌, ◌+◌, ◌*◌, ◌<◌, set, Some};
 ghost use Rattle.rules.specs.Sheet.{at};
-ghost use Rattle.memo.specs.Memo.{memo_count, memo_same, entry, Forgets, Starts, Recalls, Adds, Keeps, Ends};
+ghost use Rattle.memo.specs.Memo.{memo_same, entry, Forgets, Starts, Recalls, Adds, Keeps, Ends};
+ghost use Rattle.memo.specs.Verdicts.{code_of, kept_code};
+
+mod verdict; // verdict.rt: what a pair comes to
+
+pub use verdict::UnifyResult;
 
 // The words of the marks for `occurs`, and of all marks.
 pub const MARKS: usize = 256;
@@ -33,14 +38,13 @@ fn put(ms: &mut [u32], i: usize, w: u32)
     }
 }
 
-// The word of the row for types x and y and a code.
-fn word_of(x: u32, y: u32, code: u32) -> u32
+// The word of the row for types x and y and a verdict.
+fn word_of(x: u32, y: u32, v: UnifyResult) -> u32
     requires x_bound { x < 512 }
     requires y_bound { y < 512 }
-    requires code_bound { code < 3 }
-    ensures { result ≡ entry x y code }
+    ensures { result ≡ entry x y (code_of v) }
 {
-    4 * (512 * x + y) + code
+    4 * (512 * x + y) + v as u32
 }
 
 // A join: no pair is kept, and the table does not stand.
@@ -57,35 +61,33 @@ pub fn start(ms: &mut [u32])
 {
     if ALL_MARKS <= ms.len() {
         words::clear(ms, ALL_MARKS);
-        forget(ms);
-        return;
     }
     forget(ms)
 }
 
-// The code that is kept for types x and y: 1 or 2; 0 where there is none.
-pub fn recall(ms: &[u32], x: u32, y: u32) -> u32
+// The verdict that is kept for types x and y, which is no success.
+pub fn recall(ms: &[u32], x: u32, y: u32) -> Option<UnifyResult>
     requires x_bound { x < 512 }
     requires y_bound { y < 512 }
-    ensures { Recalls ms.now x y result }
+    ensures kept { Recalls ms.now x y (kept_code result) }
+    ensures fails { result ≢ Some UnifyResult.Success }
 {
     let n = words::word(ms, COUNT);
     if n == 0 {
-        return 0;
+        return None;
     }
-    let k = words::wide(512 * x + y);
-    let p = words::offset(ms, PLACES, k);
+    let p = words::offset(ms, PLACES, (512 * x + y) as usize);
     if n <= p {
-        return 0;
+        return None;
     }
-    let w = words::offset(ms, ROW, words::wide(p));
-    if w == word_of(x, y, 1) {
-        return 1;
+    let w = words::offset(ms, ROW, p as usize);
+    if w == word_of(x, y, UnifyResult::Failure) {
+        Some(UnifyResult::Failure)
+    } else if w == word_of(x, y, UnifyResult::Indeterminate) {
+        Some(UnifyResult::Indeterminate)
+    } else {
+        None
     }
-    if w == word_of(x, y, 2) {
-        return 2;
-    }
-    0
 }
 
 // Begins a pair: the table stands. Gives back whether it stood before.
@@ -105,37 +107,32 @@ fn add(ms: &mut [u32], pair: u32, w: u32)
 {
     let n = words::word(ms, COUNT);
     if n < PAIRS {
-        let i = words::wide(n);
-        let k = words::wide(pair);
-        put(ms, ROW + i, w);
-        put(ms, PLACES + k, n);
+        put(ms, ROW + n as usize, w);
+        put(ms, PLACES + pair as usize, n);
         put(ms, COUNT, n + 1);
     }
 }
 
-// Keeps a pair of types x and y with its code, if that is not 0.
-fn keep(ms: &mut [u32], x: u32, y: u32, code: u32)
+// Keeps a pair of types x and y with what it comes to, if that is no success.
+fn keep(ms: &mut [u32], x: u32, y: u32, v: UnifyResult)
     requires x_bound { x < 512 }
     requires y_bound { y < 512 }
-    requires code_bound { code < 3 }
-    ensures { Keeps ms.old ms.new x y code }
+    ensures { Keeps ms.old ms.new x y (code_of v) }
 {
-    if code == 0 {
-        return;
+    if v != UnifyResult::Success {
+        add(ms, 512 * x + y, word_of(x, y, v));
     }
-    add(ms, 512 * x + y, word_of(x, y, code))
 }
 
-// Ends a pair of types x and y: kept with its code where the table stands and the code is not 0.
-pub fn end(ms: &mut [u32], before: u32, x: u32, y: u32, code: u32)
+// Ends a pair of types x and y: kept with what it comes to where the table stands and that is no success.
+pub fn end(ms: &mut [u32], before: u32, x: u32, y: u32, v: UnifyResult)
     requires x_bound { x < 512 }
     requires y_bound { y < 512 }
-    requires code_bound { code < 3 }
-    ensures { Ends ms.old ms.new before x y code }
+    ensures { Ends ms.old ms.new before x y (code_of v) }
 {
     if words::word(ms, SAME) != 1 {
         return;
     }
-    keep(ms, x, y, code);
+    keep(ms, x, y, v);
     put(ms, SAME, before)
 }

@@ -1,74 +1,69 @@
-// The trees of an answer: a line for each node, a level of two spaces below the node that it belongs to.
-ghost use Rattle.io.specs.Counts.{IsPrefixLen};
+// The trees of an answer: a line for each record, a level of two spaces below the record that it belongs to.
+use std::fmt;
 
-// What a tree's record stands for.
-fn put_name(out: &mut [u8], at: usize, kind: u32, id: u32) -> usize
-    ensures { IsPrefixLen result out.new }
-{
-    if kind == 1 {
-        let n = crate::put_text(out, at, b"parameter ");
-        return crate::put_number(out, n, id);
+// What a record of a tree stands for, by its id.
+#[derive(Clone, Copy, Debug, PartialEq, Eq)]
+enum Found {
+    Parameter(u32),
+    Impl(u32),
+    ClosureFork(u32),
+    ClosureDrop(u32),
+}
+
+impl Found {
+    fn new(kind: u32, id: u32) -> Self {
+        match kind {
+            1 => Found::Parameter(id),
+            2 => Found::Impl(id),
+            3 => Found::ClosureFork(id),
+            _ => Found::ClosureDrop(id),
+        }
     }
-    if kind == 2 {
-        let n = crate::put_text(out, at, b"impl ");
-        return crate::put_number(out, n, id);
+}
+
+impl fmt::Display for Found {
+    fn fmt<W: fmt::Write>(&self, f: &mut fmt::Formatter<W>) -> fmt::Result {
+        match self {
+            Found::Parameter(id) => write!(f, "parameter {id}"),
+            Found::Impl(id) => write!(f, "impl {id}"),
+            Found::ClosureFork(id) => write!(f, "closure {id} fork"),
+            Found::ClosureDrop(id) => write!(f, "closure {id} drop"),
+        }
     }
-    let n = crate::put_text(out, at, b"closure ");
-    let n = crate::put_number(out, n, id);
-    if kind == 3 {
-        return crate::put_text(out, n, b" fork");
-    }
-    crate::put_text(out, n, b" drop")
 }
 
 // How deep a tree may be: the search's own 16, and more.
 const DEPTH: usize = 32;
 
-// How deep a record stands whose depth left is known.
-fn level(left: usize) -> usize {
-    if left < DEPTH {
-        return 2 * (DEPTH - left) + 2;
-    }
-    2
+/// The tree at a head of an answer.
+#[derive(Clone, Copy, Debug)]
+pub struct Tree<'a> {
+    pub answer: &'a [u32],
+    pub head: usize,
 }
 
-// The line of the record at a place.
-fn put_line(out: &mut [u8], at: usize, a: &[u32], h: usize, left: usize) -> usize
-    ensures { IsPrefixLen result out.new }
-{
-    let n = crate::put_spaces(out, at, level(left));
-    let n = put_name(out, n, words::offset(a, h, 1), words::offset(a, h, 2));
-    crate::put(out, n, b'\n')
-}
-
-// The trees of a chain and what is below them, as far as depth is left and the records rise.
-fn put_chain(out: &mut [u8], at: usize, a: &[u32], head: usize, left: usize) -> usize
-    ensures { IsPrefixLen result out.new }
-{
-    let mut end = crate::least(at, out.len());
-    if left == 0 {
-        return end;
-    }
-    let mut h = head;
-    while h != 0 {
-        if a.len() <= h {
-            return end;
+impl<'a> Tree<'a> {
+    // The records of the head's chain with what is below them, at a level.
+    fn write<W: fmt::Write>(self, f: &mut fmt::Formatter<W>, level: usize) -> fmt::Result {
+        if level >= DEPTH {
+            return Ok(());
         }
-        end = put_line(out, end, a, h, left);
-        let child = words::wide(words::offset(a, h, 3));
-        end = put_chain(out, end, a, child, left - 1);
-        let next = words::next(a, h);
-        if next <= h {
-            return end;
+        for at in words::records(self.answer, self.head) {
+            let found = Found::new(
+                words::offset(self.answer, at, 1),
+                words::offset(self.answer, at, 2),
+            );
+            f.write_repeated("  ", level + 1)?;
+            writeln!(f, "{found}")?;
+            let head = words::offset(self.answer, at, 3) as usize;
+            Tree { head, ..self }.write(f, level + 1)?;
         }
-        h = next;
+        Ok(())
     }
-    end
 }
 
-// The tree at a head of an answer.
-pub fn put_tree(out: &mut [u8], at: usize, a: &[u32], head: usize) -> usize
-    ensures { IsPrefixLen result out.new }
-{
-    put_chain(out, at, a, head, DEPTH)
+impl<'a> fmt::Display for Tree<'a> {
+    fn fmt<W: fmt::Write>(&self, f: &mut fmt::Formatter<W>) -> fmt::Result {
+        self.write(f, 0)
+    }
 }

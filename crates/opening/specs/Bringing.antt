@@ -1,5 +1,5 @@
 -- Imports from the sheet's tables: the places of a chain are a source of records.
-use Rattle.std.specs.Prelude.{ℕ, ◌+◌, ◌≤◌, ◌≡◌, Bool, false, List, length, take}
+use Rattle.std.specs.Prelude.{ℕ, ◌+◌, ◌≤◌, ◌≡◌, Bool, List, length, take}
 use Rattle.std.proofs.Common.{sym, ap, subst, arith, length-take-le}
 use Rattle.std.proofs.Math.Option.{Option}
 use Rattle.rules.specs.Lists.{Words}
@@ -11,7 +11,7 @@ use Rattle.rules.specs.Transfer.{import_types, table}
 use Rattle.rules.specs.CheckedTables.{table_length_lem}
 use Rattle.rules.specs.Neat.{Neat}
 use Rattle.table.specs.Packing.{types_of}
-use Rattle.transfer.specs.Source.{source}
+use Rattle.transfer.specs.Source.{indexed}
 use Rattle.transfer.specs.Imports.{types_in, Inside, Imports}
 use Rattle.transfer.specs.Callers.{inside_from, places-chain, places-table}
 use Rattle.chart.specs.Index.{Indexed}
@@ -39,17 +39,17 @@ module _ (s : Words) (h : ℕ) (ws us : Words) (n : ℕ) (x : Indexed s h ws us 
   first : take n us ≡ chain s h
   first = places-chain s h us 0 n x.count x.place (omega (arith, places_few))
 
-  there : source false s (take n us) ≡ table s h
+  there : indexed s (take n us) ≡ table s h
   there = places-table s h (take n us) first
 
-  pub source_neat : Neat (table s h) → Neat (source false s (take n us))
+  pub source_neat : Neat (table s h) → Neat (indexed s (take n us))
   source_neat k = subst Neat (sym there) k
 
-  pub source_room : length (source false s (take n us)) ≤ length ms
+  pub source_room : length (indexed s (take n us)) ≤ length ms
   source_room = omega (arith, ap (λ (ts : Types). length ts) there, table_length_lem s h, room.map_long)
 
-  pub source_inside : (m : ℕ) (ts : Words) → AllIn (length (table s h)) (types_in m ts) → Inside (source false s (take n us)) (take m ts)
-  source_inside m ts a = inside_from (source false s (take n us)) m ts (subst (λ (x : Types). AllIn (length x) (types_in m ts)) (sym there) a)
+  pub source_inside : (m : ℕ) (ts : Words) → AllIn (length (table s h)) (types_in m ts) → Inside (indexed s (take n us)) (take m ts)
+  source_inside m ts a = inside_from (indexed s (take n us)) m ts (subst (λ (x : Types). AllIn (length x) (types_in m ts)) (sym there) a)
 
-  pub source_imports : (ps : Option (List Ty)) (ds es ts vs : Words) (m : ℕ) (r : Bool) → Imports (import_types (source false s (take n us)) ps (types_in m ts) (types_of ds)) es ts vs m r → Imports (import_types (table s h) ps (types_in m ts) (types_of ds)) es ts vs m r
+  pub source_imports : (ps : Option (List Ty)) (ds es ts vs : Words) (m : ℕ) (r : Bool) → Imports (import_types (indexed s (take n us)) ps (types_in m ts) (types_of ds)) es ts vs m r → Imports (import_types (table s h) ps (types_in m ts) (types_of ds)) es ts vs m r
   source_imports ps ds es ts vs m r i = subst (λ (x : Types). Imports (import_types x ps (types_in m ts) (types_of ds)) es ts vs m r) there i

@@ -34,21 +34,19 @@ stood_length b n ps t = sym (length-take-le n ps t.room)
 pub stood_small : (b n : ℕ) (ps : Words) → Stands b n ps → TypeWords (take n ps)
 stood_small b n ps t = t.small
 
--- k of n are written, and w is the next.
-pub record Standing (b n k w : ℕ) (ps : Words) : Type 0 where
+-- k of n are written.
+pub record Standing (b n k : ℕ) (ps : Words) : Type 0 where
   pub room : n ≤ length ps
-  pub next : w ≡ 2 * (b + k)
   pub each : (j : ℕ) → j < k → at ps j ≡ 2 * (b + j)
 
-pub standing-none : (b n : ℕ) (ps : Words) → n ≤ length ps → Standing b n 0 (2 * b) ps
-standing-none b n ps l = record { room = l; next = omega arith; each = λ j h. absurd (omega arith) }
+pub standing-none : (b n : ℕ) (ps : Words) → n ≤ length ps → Standing b n 0 ps
+standing-none b n ps l = record { room = l; each = λ j h. absurd (omega arith) }
 
-pub standing_more : (b n k w : ℕ) (ps : Words) → Standing b n k w ps → k < n → Standing b n (k + 1) (w + 2) (set ps k w)
-standing_more b n k w ps t h = record {
+pub standing_more : (b n k w : ℕ) (ps : Words) → Standing b n k ps → k < n → w ≡ 2 * (b + k) → Standing b n (k + 1) (set ps k w)
+standing_more b n k w ps t h q = record {
   room = omega (arith, t.room, length-set ps k w);
-  next = omega (arith, t.next);
   each = λ j lj. ⊎_elim
-      (λ e. ap (λ x. at (set ps k w) x) e ∙ get_or-set_same ps k w 0 (omega (arith, t.room)) ∙ t.next ∙ ap (λ x. 2 * (b + x)) (sym e))
+      (λ e. ap (λ x. at (set ps k w) x) e ∙ get_or-set_same ps k w 0 (omega (arith, t.room)) ∙ q ∙ ap (λ x. 2 * (b + x)) (sym e))
       (λ lt. get_or-set_other ps k j w 0 (λ e. omega arith) ∙ t.each j lt)
       (eq-or-lt_of_le (let z : j ≤ k = omega arith in z));
 }
@@ -68,9 +66,9 @@ upright : (m : ℕ) → type_of_word (2 * m) ≡ (false, m)
 unfolding word_of_type
 upright m = ap type_of_word (let z : 2 * m ≡ 2 * m + 0 = omega arith in z) ∙ type_word (false, m)
 
-pub standing_done : (b n k w : ℕ) (ps : Words) → Standing b n k w ps → n ≤ k → b + n ≤ 256 → Stands b n ps
+pub standing_done : (b n k : ℕ) (ps : Words) → Standing b n k ps → n ≤ k → b + n ≤ 256 → Stands b n ps
 unfolding standing
-standing_done b n k w ps t h few = record {
+standing_done b n k ps t h few = record {
   is = ext_get_or (false, 0) (map type_of_word (take n ps)) (map (λ k. (false, k)) (range b n))
       (length-map (take n ps) type_of_word ∙ long ∙ sym (length-map (range b n) (λ k. (false, k)) ∙ range_length b n))
       (λ j lj. let m : j < n = omega (arith, length-map (take n ps) type_of_word, long) in

@@ -3,6 +3,7 @@
 #![tactic(auto)]
 
 ghost use Rattle.std.specs.Prelude.{◌≡◌, true, map as map_list, ◌+◌, ◌*◌, ◌<◌, ◌≤◌, length};
+ghost use Rattle.std.specs.Result.{is_ok};
 ghost use Rattle.std.proofs.Math.Option.{none, some};
 ghost use Rattle.rules.specs.Layout.{header_generics, header_impls};
 ghost use Rattle.rules.specs.Sheet.{field, many};
@@ -14,6 +15,7 @@ ghost use Rattle.rules.specs.SearchKeeps.{fresh_count, signed};
 ghost use Rattle.rules.specs.Neat.{Neat, Brought, QueriesIn};
 ghost use Rattle.table.specs.Packing.{types_of, Packed, Good, TypeWords};
 ghost use Rattle.transfer.specs.Moving.{params_of};
+ghost use Rattle.transfer.specs.Outcomes.{params_in, GivenWords};
 ghost use Rattle.transfer.specs.Imports.{types_in, Imports};
 ghost use Rattle.queries.specs.Queries.{query_of, queries_of};
 ghost use Rattle.queries.specs.Gathering.{WithinFour};
@@ -30,6 +32,8 @@ ghost use Rattle.opening.specs.Meeting.{imported, Meets};
 
 use chart::layout;
 use queries::{Queries, Query};
+use refusals::Refusal;
+use transfer::Records;
 
 // What an import and the join with the question come to: the table would pass its limit, they do not unify, or they do.
 #[derive(Clone, Copy)]
@@ -39,33 +43,27 @@ pub enum Signed {
     Fits,
 }
 
-// Pushes n fresh unknowns to a table. False where there is no room.
-fn fresh(ws: &mut [u32], n: usize) -> bool
+#[tactic(auto, using(crate::specs::Fresh::fresh_more, crate::specs::Fresh::fresh_full, crate::specs::Fresh::fresh_done))]
+// Pushes n fresh unknowns to a table. Refused where there is no room.
+fn fresh(ws: &mut [u32], n: usize) -> Result<(), Refusal>
     requires { Packed ws.old }
-    ensures { Freshens ws.old ws.new n result }
+    ensures { Freshens ws.old ws.new n (is_ok result) }
 {
-    let mut i = 0;
-    while i < n {
-        if table::new_var(ws) == table::NODES {
-            return false;
-        }
-        i += 1;
+    for i in 0..n {
+        table::new_var(ws)?;
     }
-    true
+    Ok(())
 }
 
+#[tactic(auto, using(crate::specs::Standing::standing_more))]
 // Writes the types that stand for n type parameters: the nodes from base on.
 fn stand(base: u32, n: usize, ps: &mut [u32])
     requires n_bound { base + n ≤ 256 }
     requires n_in_bounds { n ≤ length ps.old }
     ensures { Stands base n ps.new }
 {
-    let mut w = 2 * base;
-    let mut k = 0;
-    while k < n {
-        ps[k] = w;
-        w += 2;
-        k += 1;
+    for k in 0..n {
+        ps[k] = 2 * (base + k as u32);
     }
 }
 
@@ -78,28 +76,28 @@ fn word_of(s: &[u32], h: usize, id: usize, k: usize) -> u32
     words::offset(s, p, k)
 }
 
-// `import` of the first m types of ts, in place, from the sheet's table at a head. False where there is no room.
+// `import` of the first m types of ts, in place, from the sheet's table at a head. Refused where there is no room.
 fn bring(
     sheet: &[u32],
     head: u32,
     dst: &mut [u32],
     places: &mut [u32],
     map: &mut [u32],
-    with: bool,
-    ps: &[u32],
+    params: Option<&[u32]>,
     ts: &mut [u32],
     m: usize,
-) -> bool
+) -> Result<(), Refusal>
     requires neat { Neat (table_of sheet.now head) }
     requires lent { Lent sheet.now head places.old map.old }
-    requires type_words { TypeWords ps.now }
+    requires type_words { GivenWords params }
     requires packed { Packed dst.old }
     requires m_in_bounds { m ≤ length ts.old }
     requires all_in { AllIn (length (table_of sheet.now head)) (types_in m ts.old) }
-    ensures { Imports (import_types (table_of sheet.now head) (params_of with ps.now) (types_in m ts.old) (types_of dst.old)) dst.new ts.old ts.new m result }
+    ensures { Imports (import_types (table_of sheet.now head) (params_in params.entry) (types_in m ts.old) (types_of dst.old)) dst.new ts.old ts.new m (is_ok result) }
 {
     let n = chart::index_chain(sheet, head, places, 0);
-    transfer::import_types(false, sheet, &places[..n], dst, map, with, ps, ts, m)
+    let places = &places[..n];
+    transfer::import_types(&Records { sheet, places }, dst, map, params, ts, m)
 }
 
 // The join of a trait? and its arguments with the question: whether it succeeds.
@@ -123,8 +121,7 @@ fn meet_types(
     dst: &mut [u32],
     places: &mut [u32],
     map: &mut [u32],
-    with: bool,
-    ps: &[u32],
+    params: Option<&[u32]>,
     tr: u32,
     xs: &mut [u32],
     n: usize,
@@ -132,23 +129,25 @@ fn meet_types(
 ) -> Signed
     requires neat { Neat (table_of sheet.now head) }
     requires lent { Lent sheet.now head places.old map.old }
-    requires type_words { TypeWords ps.now }
+    requires type_words { GivenWords params }
     requires packed { Packed dst.old }
     requires n_in_bounds { n ≤ length xs.old }
     requires all_in { AllIn (length (table_of sheet.now head)) (types_in n xs.old) }
     requires n_bound { q.n ≤ 4 }
     requires all_in_2 { AllIn (length (types_of dst.old)) (query_of q).1 }
-    requires brought { Brought (types_of dst.old) (imported (table_of sheet.now head) (params_of with ps.now) tr n xs.old dst.old).0.1 (imported (table_of sheet.now head) (params_of with ps.now) tr n xs.old dst.old).1 }
-    ensures { Meets sheet.now (imported (table_of sheet.now head) (params_of with ps.now) tr n xs.old dst.old) (query_of q) result dst.new }
+    requires brought { Brought (types_of dst.old) (imported (table_of sheet.now head) (params_in params) tr n xs.old dst.old).0.1 (imported (table_of sheet.now head) (params_in params) tr n xs.old dst.old).1 }
+    ensures { Meets sheet.now (imported (table_of sheet.now head) (params_in params.entry) tr n xs.old dst.old) (query_of q) result dst.new }
 {
-    let done = bring(sheet, head, dst, places, map, with, ps, xs, n);
-    if done {
-        if joins(sheet, dst, map, tr, &xs[..n], q) {
-            return Signed::Fits;
+    match bring(sheet, head, dst, places, map, params, xs, n) {
+        Err(_) => Signed::Full,
+        Ok(()) => {
+            if joins(sheet, dst, map, tr, &xs[..n], q) {
+                Signed::Fits
+            } else {
+                Signed::Unfit
+            }
         }
-        return Signed::Unfit;
     }
-    Signed::Full
 }
 
 // Imports p from the sheet's table at a head, and joins it with question q.
@@ -158,26 +157,23 @@ fn meet(
     dst: &mut [u32],
     places: &mut [u32],
     map: &mut [u32],
-    with: bool,
-    ps: &[u32],
+    params: Option<&[u32]>,
     p: Query,
     q: Query,
 ) -> Signed
     requires neat { Neat (table_of sheet.now head) }
     requires lent { Lent sheet.now head places.old map.old }
-    requires type_words { TypeWords ps.now }
+    requires type_words { GivenWords params }
     requires packed { Packed dst.old }
     requires n_bound { p.n ≤ 4 }
     requires all_in { AllIn (length (table_of sheet.now head)) (query_of p).1 }
     requires n_bound_2 { q.n ≤ 4 }
     requires all_in_2 { AllIn (length (types_of dst.old)) (query_of q).1 }
-    requires brought { Brought (types_of dst.old) (import_impl_type (table_of sheet.now head) (params_of with ps.now) (query_of p) (types_of dst.old)).0.1 (import_impl_type (table_of sheet.now head) (params_of with ps.now) (query_of p) (types_of dst.old)).1 }
-    ensures { Meets sheet.now (import_impl_type (table_of sheet.now head) (params_of with ps.now) (query_of p) (types_of dst.old)) (query_of q) result dst.new }
+    requires brought { Brought (types_of dst.old) (import_impl_type (table_of sheet.now head) (params_in params) (query_of p) (types_of dst.old)).0.1 (import_impl_type (table_of sheet.now head) (params_in params) (query_of p) (types_of dst.old)).1 }
+    ensures { Meets sheet.now (import_impl_type (table_of sheet.now head) (params_in params.entry) (query_of p) (types_of dst.old)) (query_of q) result dst.new }
 {
     let mut xs = [p.args[0], p.args[1], p.args[2], p.args[3]];
-    meet_types(
-        sheet, head, dst, places, map, with, ps, p.tr, &mut xs, p.n, q,
-    )
+    meet_types(sheet, head, dst, places, map, params, p.tr, &mut xs, p.n, q)
 }
 
 // An impl parameter p of generics, imported and met with question q.
@@ -203,7 +199,7 @@ pub fn meet_param(
     ensures { Meets sheet.now (import_impl_type (impl_params sheet.now generics).0 none (query_of p) (types_of dst.old)) (query_of q) result dst.new }
 {
     let head = word_of(sheet, layout::GENERICS, generics, layout::GENERICS_TABLE);
-    meet(sheet, head, dst, places, map, false, &sheet[..0], p, q)
+    meet(sheet, head, dst, places, map, None, p, q)
 }
 
 // The signature of impl i, imported with the parameters ps and met with question q.
@@ -231,7 +227,7 @@ fn sign_with(
     let args = chart::impl_args(sheet, i);
     let p = queries::read_query(sheet, tr, args);
     let head = word_of(sheet, layout::IMPLS, i, layout::IMPL_TABLE);
-    meet(sheet, head, dst, places, map, true, ps, p, q)
+    meet(sheet, head, dst, places, map, Some(ps), p, q)
 }
 
 // The same with the n nodes from base on as parameters.
@@ -284,11 +280,10 @@ pub fn sign(
     let base = table::count(dst);
     let g = chart::impl_generics(sheet, i);
     let n = chart::type_params(sheet, g);
-    let room = fresh(dst, n);
-    if room {
-        return sign_from(sheet, dst, places, map, base, n, q, i);
+    match fresh(dst, n) {
+        Err(_) => Signed::Full,
+        Ok(()) => sign_from(sheet, dst, places, map, base, n, q, i),
     }
-    Signed::Full
 }
 
 // What stands for no room: more than four sub-questions.
@@ -325,11 +320,10 @@ fn bring_row(
     requires rowed { Rowed qs ts.old m }
     ensures { Needs (import_impl_types (table_of sheet.now head) (params_of true ps.now) (queries_of qs) (types_of dst.old)) result dst.new }
 {
-    let done = bring(sheet, head, dst, places, map, true, ps, ts, m);
-    if done {
-        return queries::unrow(qs, ts);
+    match bring(sheet, head, dst, places, map, Some(ps), ts, m) {
+        Ok(()) => queries::unrow(qs, ts),
+        Err(_) => crowded(),
     }
-    crowded()
 }
 
 // Imports sub-questions qs from the sheet's table at a head with the parameters ps.

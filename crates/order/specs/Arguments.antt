@@ -145,3 +145,6 @@ module _ (s ps ws : Words) (p q : Query) (m : Words) (k : ℕ) (o : Asked s ps w
 
   pub asked-last : (m' : Words) (r : ℕ) → Follows s ps ws m a b m' r → r ≢ 1 → Fails s ps ws p q (eqb r 0)
   asked-last m' r f n = record { unfit = λ e. let z : r ≡ 0 = eqb-true r 0 e in here m' (follows_last s ps ws m a b m' 0 _ _ (subst (Follows s ps ws m a b m') z f) (λ y. omega (arith, y))) }
+
+  pub asked_clash : (m' : Words) → Follows s ps ws m a b m' 0 → Fails s ps ws p q true
+  asked_clash m' f = asked-last m' 0 f (λ e. omega (arith, e))

@@ -9,3 +9,4 @@ pub mod Going
 pub mod Kids
 pub mod Brought
 pub mod Arguments
+pub mod Halts

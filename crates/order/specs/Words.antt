@@ -15,7 +15,7 @@ use Rattle.table.specs.Packing.{types_of, kind_at}
 use Rattle.table.specs.ChildTypes.{ChildTypes}
 use Rattle.refs.specs.Meaning.{odd, turn, record_side, record_types}
 use Rattle.refs.specs.Refs.{place, Bit, IdOf}
-use Rattle.refs.specs.Children.{Cells}
+use Rattle.refs.specs.Children.{Cells, Below, below}
 use Rattle.order.specs.Stage.{stands, Plain, Stage, kind_word, id_word, kids, base, stands-turn, find_invert}
 use Rattle.order.specs.Mirror.{source, Sound, Mirror, link_find, root_find, stands_at}
 
@@ -154,6 +154,11 @@ kids-node s ps ws r o h c = record { few = c.few; long = c.long; are = λ z. c.a
 pub kids_record : (s ps ws : Words) (r p h j : ℕ) (o : Row) → 256 ≤ r → p ≡ place ps r → h ≡ at s (p + 4) → j ≡ h → Cells s j o → Kids s ps ws r o
 unfolding kids
 kids_record s ps ws r p h j o l ep eh ej c = record { few = c.few; long = c.long; are = λ z. c.are z ∙ ap (record_types s) (ej ∙ eh ∙ ap (λ k. at s (k + 4)) ep) ∙ rw (le-ltb r 256 l, kids) }
+
+-- They are those below it.
+pub kids_below : (s ps ws : Words) (r : ℕ) (o : Row) → Below s ps ws r o → Kids s ps ws r o
+unfolding kids below
+kids_below s ps ws r o b = record { few = b.few; long = b.long; are = b.are }
 
 pub kids_known : (ws : Words) (r k : ℕ) → k ≡ kind_at (types_of ws) r → k ≢ 0 → kind_at (types_of ws) r ≢ 0
 kids_known ws r k e z q = z (e ∙ q)

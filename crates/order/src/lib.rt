@@ -1,10 +1,10 @@
 // Whether the rule's `unify` fails for the arguments of a candidate's signature and those of the question: it is followed in its own order, over refs, and nothing is imported. Only its occurs checks are left out.
 // Types and refs are told in `refs`. `m` has four times 2,048 words, for each ref: its link, 0 for a root, or 1 and the type that the ref is; what was added to the size of a root's class;
 // where a root has its state from, 0 for itself, or 1 and a type; and a mark, if it was found to be its own inverse.
-// What a step comes to: 0, the rule fails; 1, it goes on, and `m` is of the table that is left; 2, nothing is said.
+// Where a step goes on `m` is of the table that is left.
 #![tactic(auto)]
 
-ghost use Rattle.std.specs.Prelude.{◌≡◌, ◌≢◌, true, false, map, ◌+◌, ◌/◌, ◌%◌, ◌<◌, ◌≤◌, length};
+ghost use Rattle.std.specs.Prelude.{◌≡◌, ◌≢◌, true, false, map, ◌+◌, ◌/◌, ◌%◌, ◌<◌, ◌≤◌, length, IfSome};
 ghost use Rattle.rules.specs.Sheet.{at};
 ghost use Rattle.table.specs.Packing.{Packed};
 ghost use Rattle.table.specs.ChildTypes.{row_at};
@@ -13,31 +13,31 @@ ghost use Rattle.order.specs.Stage.{kind_word, id_word, kids, base};
 ghost use Rattle.order.specs.Mirror.{source, Marks};
 ghost use Rattle.order.specs.Following.{Follows, FollowsAll, Meets, Owns};
 ghost use Rattle.order.specs.Meeting.{Joins};
-ghost use Rattle.order.specs.Words.{Found, Roots, Kids, Steps, Shortens};
+ghost use Rattle.order.specs.Words.{Found, Roots, Steps, Shortens};
 ghost use Rattle.order.specs.Owning.{OwnsAll, Flagged};
 ghost use Rattle.order.specs.Going.{Compared, Rejoins};
 ghost use Rattle.order.specs.Kids.{CellMet, Cells, Even, Paired};
 ghost use Rattle.order.specs.Arguments.{Fails};
 ghost use Rattle.order.specs.Joined.{Inherits, Hangs};
+ghost use Rattle.order.specs.Halts.{step_code, side_code};
 
 use chart::{kinds, layout};
 use queries::Query;
 use refs::{
-    NODES, PARAM, PARAMS, RECORDS, UNTOLD, apart, cells, id, own_type, place_of, record_inverted,
-    turn, untold,
+    NODES, PARAM, PARAMS, RECORDS, UNTOLD, apart, id, own_type, place_of, record_inverted, ref_of,
+    turn,
 };
 use table::Row;
 
-const CLASH: u32 = 0;
+// Why a step does not go on: the rule fails, or nothing is said.
+#[derive(Clone, Copy, PartialEq, Eq, Debug)]
+enum Halt {
+    Clash,
+    Stop,
+}
 
-const OK: u32 = 1;
-
-const STOP: u32 = 2;
-
-// Types are below; a root that was not found is not.
+// Types are below.
 const TYPES: u32 = 4096;
-
-const LOST: u32 = 8192;
 
 // Where the sizes, the states and the marks begin.
 const SIZES: usize = 2048;
@@ -51,76 +51,62 @@ const MANY: u32 = 65536;
 
 const ERROR: u32 = 13;
 
-// Types clash.
-const DIFFER: u32 = 2;
-
 // How deep types are followed.
 const DEPTH: usize = 128;
 
-// The ref of a type, as an index.
-fn ref_of(t: u32) -> usize
-    ensures { result ≡ t / 2 % 2048 }
-{
-    words::wide(t / 2 % 2048)
-}
-
-// The root that a type is, along at most 16 links; LOST where they are more.
-fn find(m: &[u32; 8192], t: u32) -> u32
-    ensures { result < 4096 → Found m.now t result }
+// The root that a type is, along at most 16 links; none where they are more.
+fn find(m: &[u32; 8192], t: u32) -> Option<u32>
+    ensures { IfSome result (λ x. (x < 4096) × Found m.now t x) }
 {
     let mut x = t;
-    let mut left: usize = 16;
-    while left > 0 {
+    for _ in 0..16 {
         let up = m[ref_of(x)];
         if up == 0 {
-            return x;
+            return if x < TYPES { Some(x) } else { None };
         }
         x = turn(x % 2, up - 1);
-        left -= 1;
     }
-    LOST
+    None
 }
 
 // The same of a ref that has no link: a Param of the signature is its type parameter.
-fn find_own(sheet: &[u32], places: &[u32], m: &[u32; 8192], t: u32) -> u32
+fn find_own(sheet: &[u32], places: &[u32], m: &[u32; 8192], t: u32) -> Option<u32>
     requires { at m.now (t / 2 % 2048) ≡ 0 }
-    ensures { result < 4096 → Roots sheet.now places.now m.now t result }
+    ensures { IfSome result (λ x. (x < 4096) × Roots sheet.now places.now m.now t x) }
 {
     if t / 2 < RECORDS {
-        return t;
+        return Some(t);
     }
     let p = place_of(places, t / 2);
     if words::offset(sheet, p, layout::NODE_KIND) != PARAM {
-        return t;
+        return if t < TYPES { Some(t) } else { None };
     }
     let d = words::offset(sheet, p, layout::NODE_ID);
     if d >= 8 {
-        return LOST;
+        return None;
     }
-    let b = record_inverted(sheet, p);
+    let b = u32::from(record_inverted(sheet, p));
     find(m, turn(t, 2 * (PARAMS + d) + b))
 }
 
-// The root that a type is; LOST where it is not found.
-fn root(sheet: &[u32], places: &[u32], m: &[u32; 8192], t: u32) -> u32
-    ensures { result < 4096 → Roots sheet.now places.now m.now t result }
+// The root that a type is; none where it is not found.
+fn root(sheet: &[u32], places: &[u32], m: &[u32; 8192], t: u32) -> Option<u32>
+    ensures { IfSome result (λ x. (x < 4096) × Roots sheet.now places.now m.now t x) }
 {
-    let up = m[ref_of(t)];
-    if up == 0 {
-        return find_own(sheet, places, m, t);
+    match m[ref_of(t)] {
+        0 => find_own(sheet, places, m, t),
+        up => find(m, turn(t % 2, up - 1)),
     }
-    find(m, turn(t % 2, up - 1))
 }
 
 // The type that a type is linked to, or itself.
 fn step(m: &[u32; 8192], t: u32) -> u32
     ensures { Steps m.now t result }
 {
-    let up = m[ref_of(t)];
-    if up == 0 {
-        return t;
+    match m[ref_of(t)] {
+        0 => t,
+        up => turn(t % 2, up - 1),
     }
-    turn(t % 2, up - 1)
 }
 
 // Links a type to its root, unless it is of the same ref.
@@ -128,8 +114,7 @@ fn shorten(m: &mut [u32; 8192], t: u32, x: u32)
     ensures { Shortens m.old t x m.new }
 {
     if t / 2 != x / 2 {
-        let v = turn(t % 2, x);
-        m[ref_of(t)] = v % 4096 + 1;
+        m[ref_of(t)] = turn(t % 2, x) % 4096 + 1;
     }
 }
 
@@ -138,11 +123,10 @@ fn state(m: &[u32; 8192], x: u32) -> u32
     requires { x < 4096 }
     ensures { result ≡ turn_of x (source m.now (x / 2)) }
 {
-    let from = m[STATES + ref_of(x)];
-    if from == 0 {
-        return x;
+    match m[STATES + ref_of(x)] {
+        0 => x,
+        from => turn(x % 2, from - 1),
     }
-    turn(x % 2, from - 1)
 }
 
 // The kind of a ref that is no Param; 0 where it is unknown.
@@ -159,19 +143,28 @@ fn kind(sheet: &[u32], places: &[u32], ws: &[u32], r: u32) -> u32
     words::offset(sheet, p, layout::NODE_KIND)
 }
 
-// The size of the class of a root; MANY where more was added than is followed.
-fn size(ws: &[u32], m: &[u32; 8192], r: u32) -> u32
-    requires { r < 2048 }
-    ensures { result < 65536 → result ≡ base ws.now r + at m.now (2048 + r) }
+// The size of the class of a ref in the question's table.
+fn own_size(ws: &[u32], r: u32) -> u32
+    ensures size { result ≡ base ws.now r }
+    ensures small { result < 512 }
 {
-    let more = m[SIZES + words::wide(r)];
-    if more >= 32768 {
-        return MANY;
-    }
     if r < NODES {
-        return table::size_of(ws, r) + more;
+        return table::size_of(ws, r);
     }
-    1 + more
+    1
+}
+
+// The size of the class of a root; none where more was added than is followed.
+fn size(ws: &[u32], m: &[u32; 8192], r: u32) -> Option<u32>
+    requires { r < 2048 }
+    ensures { IfSome result (λ n. (n < 65536) × (n ≡ base ws.now r + at m.now (2048 + r))) }
+{
+    let more = m[SIZES + r as usize];
+    if more >= 32768 {
+        return None;
+    }
+    let n = own_size(ws, r) + more;
+    if n < MANY { Some(n) } else { None }
 }
 
 // Root hi has its state from lo's.
@@ -180,35 +173,32 @@ fn inherit(m: &mut [u32; 8192], lo: u32, hi: u32)
     requires hi_bound { hi < 4096 }
     ensures { Inherits m.old lo hi m.new }
 {
-    let p = state(m, lo);
-    let v = turn(hi % 2, p);
-    m[STATES + ref_of(hi)] = v % 4096 + 1;
+    m[STATES + ref_of(hi)] = turn(hi % 2, state(m, lo)) % 4096 + 1;
 }
 
 // Root lo, whose class has n nodes, is hung under root hi, which is known.
-fn put(m: &mut [u32; 8192], lo: u32, hi: u32, n: u32) -> u32
+fn put(m: &mut [u32; 8192], lo: u32, hi: u32, n: u32) -> Result<(), Halt>
     requires lo_bound { lo < 4096 }
     requires hi_bound { hi < 4096 }
     requires n_bound { n < 65536 }
-    ensures { Hangs m.old lo hi n false m.new result }
+    ensures { Hangs m.old lo hi n false m.new (step_code result) }
 {
-    let i = ref_of(hi);
-    let more = m[SIZES + i];
+    let i = SIZES + ref_of(hi);
+    let more = m[i];
     if more >= 32768 {
-        return STOP;
+        return Err(Halt::Stop);
     }
-    m[SIZES + i] = more + n;
-    let v = turn(lo % 2, hi);
-    m[ref_of(lo)] = v % 4096 + 1;
-    OK
+    m[i] = more + n;
+    m[ref_of(lo)] = turn(lo % 2, hi) % 4096 + 1;
+    Ok(())
 }
 
 // The same; bare: hi is unknown.
-fn hang(m: &mut [u32; 8192], lo: u32, hi: u32, n: u32, bare: bool) -> u32
+fn hang(m: &mut [u32; 8192], lo: u32, hi: u32, n: u32, bare: bool) -> Result<(), Halt>
     requires lo_bound { lo < 4096 }
     requires hi_bound { hi < 4096 }
     requires n_bound { n < 65536 }
-    ensures { Hangs m.old lo hi n bare m.new result }
+    ensures { Hangs m.old lo hi n bare m.new (step_code result) }
 {
     if bare {
         inherit(m, lo, hi);
@@ -218,39 +208,21 @@ fn hang(m: &mut [u32; 8192], lo: u32, hi: u32, n: u32, bare: bool) -> u32
 }
 
 // The rule's `join` of two roots, of which bx and by say whether they are unknown.
-fn join(ws: &[u32], m: &mut [u32; 8192], x: u32, y: u32, bx: bool, by: bool) -> u32
+fn join(ws: &[u32], m: &mut [u32; 8192], x: u32, y: u32, bx: bool, by: bool) -> Result<(), Halt>
     requires x_bound { x < 4096 }
     requires y_bound { y < 4096 }
-    ensures { Joins ws.now m.old x y bx by m.new result }
+    ensures { Joins ws.now m.old x y bx by m.new (step_code result) }
 {
-    let a = size(ws, m, x / 2);
-    if a >= MANY {
-        return STOP;
-    }
-    let b = size(ws, m, y / 2);
-    if b >= MANY {
-        return STOP;
-    }
+    let Some(a) = size(ws, m, x / 2) else {
+        return Err(Halt::Stop);
+    };
+    let Some(b) = size(ws, m, y / 2) else {
+        return Err(Halt::Stop);
+    };
     if b < a {
         return hang(m, y, x, b, bx);
     }
     hang(m, x, y, a, by)
-}
-
-// The children of a ref.
-fn children(sheet: &[u32], places: &[u32], ws: &[u32], r: u32) -> Row
-    requires { Packed ws.now }
-    ensures { Kids sheet.now places.now ws.now r result }
-{
-    if r < NODES {
-        if table::kind_of(ws, r) == 0 {
-            return untold();
-        }
-        return table::child_types(ws, r);
-    }
-    let p = place_of(places, r);
-    let head = words::offset(sheet, p, layout::NODE_CHILDREN);
-    cells(sheet, words::wide(head))
 }
 
 // Whether a ref is known and its kind, its children aside, its own inverse.
@@ -262,12 +234,7 @@ fn may_own(sheet: &[u32], places: &[u32], ws: &[u32], r: u32) -> bool
         return false;
     }
     let d = id(sheet, places, ws, r);
-    kinds::kind_flag(
-        sheet,
-        layout::ROW_OWN_INVERSE,
-        words::wide(k),
-        words::wide(d),
-    )
+    kinds::kind_flag(sheet, layout::ROW_OWN_INVERSE, k as usize, d as usize)
 }
 
 // Marks the ref of a type.
@@ -283,10 +250,9 @@ fn own(sheet: &[u32], places: &[u32], ws: &[u32], m: &mut [u32; 8192], t: u32, l
     requires { Packed ws.now }
     ensures { Owns sheet.now places.now ws.now m.old t m.new result }
 {
-    let x = root(sheet, places, m, t);
-    if x >= TYPES {
+    let Some(x) = root(sheet, places, m, t) else {
         return true;
-    }
+    };
     if m[MARKS + ref_of(x)] != 0 {
         return true;
     }
@@ -317,65 +283,63 @@ fn own_all(
     requires { Packed ws.now }
     ensures { OwnsAll sheet.now places.now ws.now m.old (kids sheet.now places.now ws.now r) m.new result }
 {
-    let row = children(sheet, places, ws, r);
+    let row = refs::below(sheet, places, ws, r);
     if row.n == UNTOLD {
         return true;
     }
-    let mut j: usize = 0;
-    while j < row.n {
+    for j in 0..row.n {
         if !own(sheet, places, ws, m, row.types[j], left) {
             return false;
         }
-        j += 1;
     }
     true
 }
 
-// Whether two types of kind k and id d are met inverted: 1 or 0; DIFFER where they may not.
-fn sides(sheet: &[u32], places: &[u32], ws: &[u32], p: u32, q: u32, k: u32, d: u32) -> u32
+// Whether two types of kind k and id d are met inverted; none where they may not.
+fn sides(sheet: &[u32], places: &[u32], ws: &[u32], p: u32, q: u32, k: u32, d: u32) -> Option<bool>
     requires k_value { k ≡ kind_word sheet.now places.now ws.now (p / 2) }
     requires d_value { d ≡ id_word sheet.now places.now ws.now (p / 2) }
-    ensures { Compared sheet.now places.now ws.now p q result }
+    ensures { Compared sheet.now places.now ws.now p q (side_code result) }
 {
-    let b = apart(sheet, places, ws, p, q);
-    if b == 1 {
-        if !kinds::kind_flag(sheet, layout::ROW_MAY_MEET, words::wide(k), words::wide(d)) {
-            return DIFFER;
-        }
+    let inverted = apart(sheet, places, ws, p, q);
+    if inverted && !kinds::kind_flag(sheet, layout::ROW_MAY_MEET, k as usize, d as usize) {
+        return None;
     }
-    b
+    Some(inverted)
 }
 
-// Whether two known types, of kinds k and l, are met inverted: 1 or 0; DIFFER where they clash.
-fn compare(sheet: &[u32], places: &[u32], ws: &[u32], p: u32, q: u32, k: u32, l: u32) -> u32
+// Whether two known types, of kinds k and l, are met inverted; none where they clash.
+fn compare(
+    sheet: &[u32],
+    places: &[u32],
+    ws: &[u32],
+    p: u32,
+    q: u32,
+    k: u32,
+    l: u32,
+) -> Option<bool>
     requires k_value { k ≡ kind_word sheet.now places.now ws.now (p / 2) }
     requires l_value { l ≡ kind_word sheet.now places.now ws.now (q / 2) }
-    ensures { Compared sheet.now places.now ws.now p q result }
+    ensures { Compared sheet.now places.now ws.now p q (side_code result) }
 {
-    if k != l {
-        return DIFFER;
-    }
-    if k == ERROR {
-        return DIFFER;
+    if k != l || k == ERROR {
+        return None;
     }
     let d = id(sheet, places, ws, p / 2);
     if d != id(sheet, places, ws, q / 2) {
-        return DIFFER;
+        return None;
     }
     sides(sheet, places, ws, p, q, k, d)
 }
 
 // Joins two known roots, if they are roots still.
-fn rejoin(ws: &[u32], m: &mut [u32; 8192], x: u32, y: u32) -> u32
+fn rejoin(ws: &[u32], m: &mut [u32; 8192], x: u32, y: u32) -> Result<(), Halt>
     requires x_bound { x < 4096 }
     requires y_bound { y < 4096 }
-    ensures { Rejoins ws.now m.old x y m.new result }
+    ensures { Rejoins ws.now m.old x y m.new (step_code result) }
 {
-    if m[ref_of(x)] != 0 {
-        return STOP;
-    }
-    if m[ref_of(y)] != 0 {
-        return STOP;
+    if m[ref_of(x)] != 0 || m[ref_of(y)] != 0 {
+        return Err(Halt::Stop);
     }
     join(ws, m, x, y, false, false)
 }
@@ -390,30 +354,25 @@ fn go(
     a: u32,
     b: u32,
     left: usize,
-) -> u32
+) -> Result<(), Halt>
     requires { Packed ws.now }
-    ensures { Follows sheet.now places.now ws.now m.old a b m.new result }
+    ensures { Follows sheet.now places.now ws.now m.old a b m.new (step_code result) }
 {
-    let x = root(sheet, places, m, a);
-    if x >= TYPES {
-        return STOP;
-    }
+    let Some(x) = root(sheet, places, m, a) else {
+        return Err(Halt::Stop);
+    };
     shorten(m, a, x);
-    let y = root(sheet, places, m, b);
-    if y >= TYPES {
-        return STOP;
-    }
+    let Some(y) = root(sheet, places, m, b) else {
+        return Err(Halt::Stop);
+    };
     shorten(m, b, y);
     if x / 2 != y / 2 {
         return meet(sheet, places, ws, m, x, y, left);
     }
-    if x == y {
-        return OK;
+    if x == y || own(sheet, places, ws, m, x, DEPTH) {
+        return Ok(());
     }
-    if own(sheet, places, ws, m, x, DEPTH) {
-        return OK;
-    }
-    CLASH
+    Err(Halt::Clash)
 }
 
 // Two different roots.
@@ -426,11 +385,11 @@ fn meet(
     x: u32,
     y: u32,
     left: usize,
-) -> u32
+) -> Result<(), Halt>
     requires packed { Packed ws.now }
     requires x_bound { x < 4096 }
     requires y_bound { y < 4096 }
-    ensures { Meets sheet.now places.now ws.now m.old x y m.new result }
+    ensures { Meets sheet.now places.now ws.now m.old x y m.new (step_code result) }
 {
     let p = state(m, x);
     let q = state(m, y);
@@ -459,7 +418,7 @@ fn meet_known(
     k: u32,
     l: u32,
     left: usize,
-) -> u32
+) -> Result<(), Halt>
     requires packed { Packed ws.now }
     requires x_bound { x < 4096 }
     requires y_bound { y < 4096 }
@@ -469,19 +428,16 @@ fn meet_known(
     requires l_value { l ≡ kind_word sheet.now places.now ws.now (q / 2) }
     requires k_nonzero { k ≢ 0 }
     requires l_nonzero { l ≢ 0 }
-    ensures { Meets sheet.now places.now ws.now m.old x y m.new result }
+    ensures { Meets sheet.now places.now ws.now m.old x y m.new (step_code result) }
 {
-    let c = compare(sheet, places, ws, p, q, k, l);
-    if c == DIFFER {
-        return CLASH;
-    }
+    let Some(inverted) = compare(sheet, places, ws, p, q, k, l) else {
+        return Err(Halt::Clash);
+    };
     if left == 0 {
-        return STOP;
+        return Err(Halt::Stop);
     }
-    let r = below(sheet, places, ws, m, p / 2, q / 2, c, left - 1);
-    if r != OK {
-        return r;
-    }
+    let b = u32::from(inverted);
+    below(sheet, places, ws, m, p / 2, q / 2, b, left - 1)?;
     rejoin(ws, m, x, y)
 }
 
@@ -496,16 +452,15 @@ fn below(
     z: u32,
     b: u32,
     left: usize,
-) -> u32
+) -> Result<(), Halt>
     requires { Packed ws.now }
-    ensures { FollowsAll sheet.now places.now ws.now m.old (kids sheet.now places.now ws.now a) (map (turn_of b) (kids sheet.now places.now ws.now z)) m.new result }
+    ensures { FollowsAll sheet.now places.now ws.now m.old (kids sheet.now places.now ws.now a) (map (turn_of b) (kids sheet.now places.now ws.now z)) m.new (step_code result) }
 {
-    if RECORDS <= a {
-        if z < NODES {
-            return across(sheet, places, ws, m, a, z, b, left);
-        }
+    if RECORDS <= a && z < NODES {
+        across(sheet, places, ws, m, a, z, b, left)
+    } else {
+        rows(sheet, places, ws, m, a, z, b, left)
     }
-    rows(sheet, places, ws, m, a, z, b, left)
 }
 
 // The same of a ref that has a record and of a node.
@@ -519,25 +474,22 @@ fn across(
     z: u32,
     b: u32,
     left: usize,
-) -> u32
+) -> Result<(), Halt>
     requires packed { Packed ws.now }
     requires le_a { 1024 ≤ a }
     requires z_bound { z < 256 }
-    ensures { FollowsAll sheet.now places.now ws.now m.old (kids sheet.now places.now ws.now a) (map (turn_of b) (kids sheet.now places.now ws.now z)) m.new result }
+    ensures { FollowsAll sheet.now places.now ws.now m.old (kids sheet.now places.now ws.now a) (map (turn_of b) (kids sheet.now places.now ws.now z)) m.new (step_code result) }
 {
-    if sheet.len() <= 8 {
-        return STOP;
-    }
-    if table::kind_of(ws, z) == 0 {
-        return STOP;
+    if sheet.len() <= 8 || table::kind_of(ws, z) == 0 {
+        return Err(Halt::Stop);
     }
     let n = table::own_children(ws, z);
     if n == UNTOLD {
-        return STOP;
+        return Err(Halt::Stop);
     }
     let p = place_of(places, a);
     let head = words::offset(sheet, p, layout::NODE_CHILDREN);
-    beside(sheet, places, ws, m, words::wide(head), z, n, b, left)
+    beside(sheet, places, ws, m, head as usize, z, n, b, left)
 }
 
 // The types in the cells from a head and the n children of node z, turned by b.
@@ -552,31 +504,26 @@ fn beside(
     n: usize,
     b: u32,
     left: usize,
-) -> u32
+) -> Result<(), Halt>
     requires packed { Packed ws.now }
     requires in_bounds { 8 < length sheet.now }
     requires z_bound { z < 256 }
     requires n_bound { n ≤ 8 }
-    ensures { Cells sheet.now places.now ws.now m.old head (row_at ws.now z n) b m.new result }
+    ensures { Cells sheet.now places.now ws.now m.old head (row_at ws.now z n) b m.new (step_code result) }
 {
     let mut c = head;
-    let mut j: usize = 0;
-    while j < n {
+    for j in 0..n {
         if c == 0 {
-            return CLASH;
+            return Err(Halt::Clash);
         }
         let y = table::child_type(ws, z, j);
-        let r = cell(sheet, places, ws, m, c, y, b, left);
-        if r != OK {
-            return r;
-        }
+        cell(sheet, places, ws, m, c, y, b, left)?;
         c = words::next(sheet, c);
-        j += 1;
     }
     if c != 0 {
-        return CLASH;
+        return Err(Halt::Clash);
     }
-    OK
+    Ok(())
 }
 
 // The type in the cell at c and type y, turned by b.
@@ -590,9 +537,9 @@ fn cell(
     y: u32,
     b: u32,
     left: usize,
-) -> u32
+) -> Result<(), Halt>
     requires { Packed ws.now }
-    ensures { CellMet sheet.now places.now ws.now m.old c y b m.new result }
+    ensures { CellMet sheet.now places.now ws.now m.old c y b m.new (step_code result) }
 {
     let u = own_type(words::offset(sheet, c, layout::CELL_TYPE));
     let v = turn(b, y);
@@ -609,16 +556,13 @@ fn pair(
     a: u32,
     b: u32,
     left: usize,
-) -> u32
+) -> Result<(), Halt>
     requires { Packed ws.now }
-    ensures { Follows sheet.now places.now ws.now m.old a b m.new result }
+    ensures { Follows sheet.now places.now ws.now m.old a b m.new (step_code result) }
 {
     let x = step(m, a);
-    if x == b {
-        return OK;
-    }
-    if x == step(m, b) {
-        return OK;
+    if x == b || x == step(m, b) {
+        return Ok(());
     }
     go(sheet, places, ws, m, a, b, left)
 }
@@ -634,20 +578,20 @@ fn rows(
     z: u32,
     b: u32,
     left: usize,
-) -> u32
+) -> Result<(), Halt>
     requires { Packed ws.now }
-    ensures { FollowsAll sheet.now places.now ws.now m.old (kids sheet.now places.now ws.now a) (map (turn_of b) (kids sheet.now places.now ws.now z)) m.new result }
+    ensures { FollowsAll sheet.now places.now ws.now m.old (kids sheet.now places.now ws.now a) (map (turn_of b) (kids sheet.now places.now ws.now z)) m.new (step_code result) }
 {
-    let xs = children(sheet, places, ws, a);
+    let xs = refs::below(sheet, places, ws, a);
     if xs.n == UNTOLD {
-        return STOP;
+        return Err(Halt::Stop);
     }
-    let ys = children(sheet, places, ws, z);
+    let ys = refs::below(sheet, places, ws, z);
     if ys.n == UNTOLD {
-        return STOP;
+        return Err(Halt::Stop);
     }
     if xs.n != ys.n {
-        return CLASH;
+        return Err(Halt::Clash);
     }
     pairs(sheet, places, ws, m, xs, ys, b, left)
 }
@@ -663,22 +607,17 @@ fn pairs(
     ys: Row,
     b: u32,
     left: usize,
-) -> u32
+) -> Result<(), Halt>
     requires packed { Packed ws.now }
     requires even { Even xs ys }
-    ensures { Paired sheet.now places.now ws.now m.old xs ys b m.new result }
+    ensures { Paired sheet.now places.now ws.now m.old xs ys b m.new (step_code result) }
 {
-    let mut j: usize = 0;
-    while j < xs.n {
+    for j in 0..xs.n {
         let u = xs.types[j];
         let v = turn(b, ys.types[j]);
-        let r = pair(sheet, places, ws, m, u, v, left);
-        if r != OK {
-            return r;
-        }
-        j += 1;
+        pair(sheet, places, ws, m, u, v, left)?;
     }
-    OK
+    Ok(())
 }
 
 // Whether the rule fails for the arguments of a candidate's signature and of the question.
@@ -688,15 +627,14 @@ pub fn fails(sheet: &[u32], places: &[u32], ws: &[u32], p: Query, q: Query) -> b
     ensures { Fails sheet.now places.now ws.now p q result }
 {
     let mut m = [0u32; 8192];
-    let mut k: usize = 0;
-    while k < q.n {
+    for k in 0..q.n {
         let a = own_type(p.args[k]);
         let b = table::find(ws, q.args[k]);
-        let r = go(sheet, places, ws, &mut m, a, b, DEPTH);
-        if r != OK {
-            return r == CLASH;
+        match go(sheet, places, ws, &mut m, a, b, DEPTH) {
+            Ok(()) => {}
+            Err(Halt::Clash) => return true,
+            Err(Halt::Stop) => return false,
         }
-        k += 1;
     }
     false
 }

@@ -5,18 +5,13 @@ use std::io;
 
 // Argument k; no text where there is none.
 pub fn argument(args: &[String], k: usize) -> &str {
-    match args.get(k) {
-        Some(arg) => arg.as_str(),
-        None => "",
-    }
+    args.get(k).map_or("", |arg| arg.as_str())
 }
 
 // The system's words for an error, without the number behind them.
 fn words_of(text: &str) -> &str {
-    match text.split_once(" (os error ") {
-        Some((words, _)) => words,
-        None => text,
-    }
+    text.split_once(" (os error ")
+        .map_or(text, |(words, _)| words)
 }
 
 // Says on standard error what failed, and why.

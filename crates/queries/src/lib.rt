@@ -130,17 +130,15 @@ fn put_query(q: Query, ts: &mut [u32], m: usize) -> usize
 }
 
 // Writes the type words of all sub-questions, one behind the other, and says how many there are.
+#[tactic(auto, using(crate::specs::Rows::rowing_start, crate::specs::Rows::rowing_next, crate::specs::Rows::rowed))]
 pub fn row(qs: Queries, ts: &mut [u32]) -> usize
     requires within_four { WithinFour qs }
     requires in_bounds { 16 ≤ length ts.old }
     ensures { Rowed qs ts.new result }
 {
-    let mut k = 0;
     let mut m = 0;
-    while k < qs.n {
-        let q = query_at(qs, k);
-        m = put_query(q, ts, m);
-        k += 1;
+    for k in 0..qs.n {
+        m = put_query(query_at(qs, k), ts, m);
     }
     m
 }

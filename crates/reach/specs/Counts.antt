@@ -118,16 +118,16 @@ module _ (s : Words) (head : ℕ) (w : Bool) (ws : Words) (ps : Option (List Ty)
       cells (inr o) = o
 
 -- The nodes that are marked.
-module _ (s : Words) (w : Bool) (ws qs us rs vs ts : Words) (e r args h : ℕ) (long : length qs ≡ 256) (eh : h ≡ args) (c : EntersCells s w ws qs 0 h us rs e) (z : e ≢ 1000) (d : Ends s w us rs e vs ts r) (y : r ≢ 1000) where
+module _ (s : Words) (w : Bool) (ws qs us rs vs ts : Words) (e r args : ℕ) (long : length qs ≡ 256) (c : EntersCells s w ws qs 0 args us rs e) (d : Ends s w us rs e vs ts r) where
   module _ (head : ℕ) (q : ws ≡ chain s head) where
-    entered : Went s (chain s head) w ws qs us rs 0 0 e × CellsReached s (chain s head) w us h
-    entered = c.goes z (chain s head) 0 (subst (λ (x : Words). Walking s (chain s head) w x qs 0 0) (sym q) (walk_start s head w qs long))
+    entered : Went s (chain s head) w ws qs us rs 0 0 e × CellsReached s (chain s head) w us args
+    entered = c.goes (chain s head) 0 (subst (λ (x : Words). Walking s (chain s head) w x qs 0 0) (sym q) (walk_start s head w qs long))
 
     ended : Went s (chain s head) w us rs vs ts r e r
-    ended = d.goes y (chain s head) entered.0.walking
+    ended = d.goes (chain s head) entered.0.walking
 
     args_reached : CellsReached s (chain s head) w vs args
-    args_reached = subst (CellsReached s (chain s head) w vs) eh (λ x i. still x (entered.1 x i))
+    args_reached x i = still x (entered.1 x i)
       where
         still : (x : ℕ) → Reached s (chain s head) w us (at s (x + 1) / 2) → Reached s (chain s head) w vs (at s (x + 1) / 2)
         still x (inl o) = inl (ended.kept (at s (x + 1) / 2) o)

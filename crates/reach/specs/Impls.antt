@@ -1,5 +1,5 @@
 -- The signatures of all impls of a checked sheet.
-use Rattle.std.specs.Prelude.{ℕ, ◌+◌, ◌*◌, ◌≤◌, ◌<◌, ◌≡◌, refl, ◌≢◌, length, set}
+use Rattle.std.specs.Prelude.{[], ◌∷◌, ℕ, ◌+◌, ◌*◌, ◌≤◌, ◌<◌, ◌≡◌, refl, ◌≢◌, length, set}
 use Rattle.std.proofs.Common.{sym, ◌∙◌, ⊎_elim, eq-or-lt_of_le, arith, get_or-set_same, get_or-set_other}
 use Rattle.std.proofs.Math.Path.{ap, subst}
 use Rattle.std.proofs.Math.Bool.{true}
@@ -16,7 +16,7 @@ use Rattle.rules.specs.CommonTerms.{fresh-most}
 use Rattle.queries.specs.Sizes.{impl_few}
 use Rattle.queries.specs.Takes.{SignatureTakes}
 use Rattle.reach.specs.Counts.{Bounds, Counts}
-use Rattle.reach.specs.Steps.{Stepping, step_start, step_end, step_full, step_inside, step_here, step_on}
+use Rattle.reach.specs.Steps.{Stepping, step_start, step_end, step_inside, step_here, step_on}
 
 -- The sheet of a call with generics g that passed its checks.
 pub record Called (s : Words) (g : ℕ) : Type 0 where
@@ -66,24 +66,20 @@ puts_signature s gs p i ws head args n m l eh ea c em = record {
 pub record Signatures (s ts : Words) : Type 0 where
   pub each : (i : ℕ) → i < many s header_impls → SignatureTakes s i (at ts i)
 
--- Those of the first i are, and the chain goes on at p.
-pub record Signing (s ts : Words) (i p : ℕ) : Type 0 where
-  pub steps : Stepping s (at s 4) i p
+-- Those of the first i are, and the records at ps are left.
+pub record Signing (s ts : Words) (i : ℕ) (ps : Words) : Type 0 where
+  pub steps : Stepping s (at s 4) i ps
   pub done : (j : ℕ) → j < i → SignatureTakes s j (at ts j)
 
-pub signing_start : (s ts : Words) (p : ℕ) → p ≡ at s 4 → Signing s ts 0 p
-signing_start s ts p e = record { steps = step_start s (at s 4) p e; done = λ j h. absurd (omega arith) }
+pub signing_start : (s ts : Words) (h n : ℕ) (ps : Words) → h ≡ at s 4 → n ≡ 0 → ps ≡ chain s h → Signing s ts n ps
+signing_start s ts h n ps eh en e = subst (λ x. Signing s ts x ps) (sym en) record { steps = step_start s (at s 4) ps (e ∙ ap (chain s) eh); done = λ j h. absurd (omega arith) }
 
-module _ (s ts : Words) (i p : ℕ) (t : Signing s ts i p) where
-  pub signing_end : p ≡ 0 → Signatures s ts
+module _ (s ts : Words) (i : ℕ) (ps : Words) (t : Signing s ts i ps) where
+  pub signing_end : ps ≡ [] → Signatures s ts
   unfolding many records
-  signing_end e = record { each = λ j h. t.done j (omega (arith, step_end s (at s 4) i p t.steps e)) }
+  signing_end e = record { each = λ j h. t.done j (omega (arith, step_end s (at s 4) i ps t.steps e)) }
 
-  pub signing_full : length s ≤ i → Signatures s ts
-  unfolding many records
-  signing_full l = record { each = λ j h. t.done j (omega (arith, step_full s (at s 4) i p t.steps l)) }
-
-  module _ (k : Checked s) (l : i < length s) (z : p ≢ 0) where
+  module _ (k : Checked s) (p : ℕ) (qs : Words) (e : ps ≡ p ∷ qs) where
     abbrev finder : Finder
     finder = record { sheet = s; source = k.called.source; generics = k.generics }
 
@@ -92,17 +88,17 @@ module _ (s ts : Words) (i p : ℕ) (t : Signing s ts i p) where
 
     inside : i < many s header_impls
     unfolding many records
-    inside = step_inside s (at s 4) i p t.steps l z
+    inside = step_inside s (at s 4) i ps t.steps p qs e
 
     word : (n : ℕ) → at s (p + n) ≡ field s header_impls i n
     unfolding field records
-    word n = ap (λ x. at s (x + n)) (step_here s (at s 4) i p t.steps l z)
+    word n = ap (λ x. at s (x + n)) (step_here s (at s 4) i ps t.steps p qs e)
 
     pub signing_few : 5 * length (chain s (at s (p + 4))) ≤ length s
     signing_few = subst (λ h. 5 * length (chain s h) ≤ length s) (sym (word 4)) (impl_few s ready.chains i inside)
 
-    pub signing_index : (ws : Words) → 132 ≤ length ws → length ts ≡ length ws → i < length ts
-    signing_index ws h e = omega (arith, inside, ready.values.impl_count)
+    pub signing_index : (ws : Words) (j : ℕ) → j ≡ i → 132 ≤ length ws → length ts ≡ length ws → j < length ts
+    signing_index ws j o h q = omega (arith, inside, ready.values.impl_count)
 
     module _ (gs : Words) (g : Generics s gs) where
       params_are : params_at s gs p ≡ fresh_count s i
@@ -120,11 +116,14 @@ module _ (s ts : Words) (i p : ℕ) (t : Signing s ts i p) where
           let m = d (signature_neat finder k.called.question ready i inside).proper.formed (signature_in finder k.called.question ready i inside) in
           record { most = λ us. omega (arith, m.most (some (fresh_params us (fresh_count s i))) (λ e. (fresh_params us (fresh_count s i), refl)) (with_fresh us (fresh_count s i)), fresh-length us (fresh_count s i), params_are) }
 
-      pub signing_on : (us : Words) (n : ℕ) → PutsSignature s gs p i ts us → n ≡ at s p → Signing s us (i + 1) n
-      signing_on us n w e = record {
-        steps = step_on s (at s 4) i p t.steps l z n e;
+      signing_next : (us : Words) → PutsSignature s gs p i ts us → Signing s us (i + 1) qs
+      signing_next us w = record {
+        steps = step_on s (at s 4) i ps t.steps p qs e;
         done = λ j h. ⊎_elim
             (λ q. subst (λ x. SignatureTakes s x (at us x)) (sym q) (subst (SignatureTakes s i) (sym w.is) (takes w.nodes w.bounds)))
             (λ q. subst (SignatureTakes s j) (sym (w.other j (λ o. absurd (omega arith)))) (t.done j q))
             (eq-or-lt_of_le (let o : j ≤ i = omega arith in o));
       }
+
+      pub signing_on : (us : Words) (j n : ℕ) → j ≡ i → n ≡ i + 1 → PutsSignature s gs p j ts us → Signing s us n qs
+      signing_on us j n ej en v = subst (λ x. Signing s us x qs) (sym en) (signing_next us (subst (λ x. PutsSignature s gs p x ts us) ej v))

@@ -1,5 +1,5 @@
 -- The impl parameters of the caller's generics.
-use Rattle.std.specs.Prelude.{ℕ, ◌+◌, ◌*◌, ◌≤◌, ◌<◌, ◌≡◌, refl, true, [], ◌≢◌, get_or, set}
+use Rattle.std.specs.Prelude.{◌∷◌, ℕ, ◌+◌, ◌*◌, ◌≤◌, ◌<◌, ◌≡◌, refl, true, [], ◌≢◌, get_or, set}
 use Rattle.std.proofs.Common.{sym, ◌∙◌, ⊎_elim, eq-or-lt_of_le, arith, get_or-set_same, get_or-set_other}
 use Rattle.std.proofs.Math.Path.{ap, subst}
 use Rattle.std.proofs.Math.Bool.{false}
@@ -19,7 +19,7 @@ use Rattle.queries.specs.Sizes.{generics_few}
 use Rattle.queries.specs.Few.{map_at, few_params}
 use Rattle.queries.specs.Takes.{ParamTakes}
 use Rattle.reach.specs.Counts.{Bounds, Counts}
-use Rattle.reach.specs.Steps.{Stepping, step_start, step_end, step_full, step_inside, step_here, step_on}
+use Rattle.reach.specs.Steps.{Stepping, step_start, step_end, step_inside, step_here, step_on}
 use Rattle.reach.specs.Impls.{Called, Generics}
 
 never : false ≡ true → ⊥
@@ -44,35 +44,35 @@ pub record PutsParams (s : Words) (head first : ℕ) (ws us : Words) : Type 0 wh
   pub each : (k : ℕ) → k < length (chain s first) → Bounds s head (at s (at (chain s first) k + 2)) false (at us (128 + k))
   pub low : (j : ℕ) → j < 128 → at us j ≡ at ws j
 
--- Those of the first k are, and the chain goes on at p.
-pub record Adding (s : Words) (head first : ℕ) (ws us : Words) (k p : ℕ) : Type 0 where
-  pub steps : Stepping s first k p
+-- Those of the first k are, and the records at ps are left.
+pub record Adding (s : Words) (head first : ℕ) (ws us : Words) (k : ℕ) (ps : Words) : Type 0 where
+  pub steps : Stepping s first k ps
   pub done : (j : ℕ) → j < k → Bounds s head (at s (at (chain s first) j + 2)) false (at us (128 + j))
   pub low : (j : ℕ) → j < 128 → at us j ≡ at ws j
 
-pub adding_start : (s : Words) (head first : ℕ) (ws : Words) (p : ℕ) → p ≡ first → Adding s head first ws ws 0 p
-adding_start s head first ws p e = record { steps = step_start s first p e; done = λ j h. absurd (omega arith); low = λ j h. refl }
+pub adding_start : (s : Words) (head first n : ℕ) (ws ps : Words) → n ≡ 0 → ps ≡ chain s first → Adding s head first ws ws n ps
+adding_start s head first n ws ps en e = subst (λ x. Adding s head first ws ws x ps) (sym en) record { steps = step_start s first ps e; done = λ j h. absurd (omega arith); low = λ j h. refl }
 
-module _ (s : Words) (head first : ℕ) (ws us : Words) (k p : ℕ) (t : Adding s head first ws us k p) where
-  pub adding_end : p ≡ 0 → PutsParams s head first ws us
-  adding_end e = record { each = λ j h. t.done j (omega (arith, step_end s first k p t.steps e)); low = t.low }
+module _ (s : Words) (head first : ℕ) (ws us : Words) (k : ℕ) (ps : Words) (t : Adding s head first ws us k ps) where
+  pub adding_end : ps ≡ [] → PutsParams s head first ws us
+  adding_end e = record { each = λ j h. t.done j (omega (arith, step_end s first k ps t.steps e)); low = t.low }
 
-  pub adding_full : length s ≤ k → PutsParams s head first ws us
-  adding_full l = record { each = λ j h. t.done j (omega (arith, step_full s first k p t.steps l)); low = t.low }
+  module _ (p : ℕ) (qs : Words) (e : ps ≡ p ∷ qs) where
+    pub adding_index : (j : ℕ) → j ≡ k → length (chain s first) ≤ 4 → 132 ≤ length ws → length us ≡ length ws → 128 + j < length us
+    adding_index j o h m q = omega (arith, step_inside s first k ps t.steps p qs e)
 
-  module _ (l : k < length s) (z : p ≢ 0) where
-    pub adding_index : length (chain s first) ≤ 4 → 132 ≤ length ws → length us ≡ length ws → 128 + k < length us
-    adding_index h m e = omega (arith, step_inside s first k p t.steps l z)
-
-    pub adding_on : (vs : Words) (n : ℕ) → PutsParam s head p k us vs → n ≡ at s p → Adding s head first ws vs (k + 1) n
-    adding_on vs n w e = record {
-      steps = step_on s first k p t.steps l z n e;
+    adding_next : (vs : Words) → PutsParam s head p k us vs → Adding s head first ws vs (k + 1) qs
+    adding_next vs w = record {
+      steps = step_on s first k ps t.steps p qs e;
       done = λ j h. ⊎_elim
-          (λ q. subst (λ x. Bounds s head (at s (at (chain s first) x + 2)) false (at vs (128 + x))) (sym q) (subst (λ x. Bounds s head (at s (x + 2)) false (at vs (128 + k))) (step_here s first k p t.steps l z) w.bounds))
+          (λ q. subst (λ x. Bounds s head (at s (at (chain s first) x + 2)) false (at vs (128 + x))) (sym q) (subst (λ x. Bounds s head (at s (x + 2)) false (at vs (128 + k))) (step_here s first k ps t.steps p qs e) w.bounds))
           (λ q. subst (Bounds s head (at s (at (chain s first) j + 2)) false) (sym (w.other (128 + j) (λ o. absurd (omega arith)))) (t.done j q))
           (eq-or-lt_of_le (let o : j ≤ k = omega arith in o));
       low = λ j h. w.other j (λ o. absurd (omega arith)) ∙ t.low j h;
     }
+
+    pub adding_on : (vs : Words) (j n : ℕ) → j ≡ k → n ≡ k + 1 → PutsParam s head p j us vs → Adding s head first ws vs n qs
+    adding_on vs j n ej en w = subst (λ x. Adding s head first ws vs x qs) (sym en) (adding_next vs (subst (λ x. PutsParam s head p x us vs) ej w))
 
 -- The words of the impl parameters of generics g.
 pub record ParamsPut (s : Words) (g : ℕ) (ws us : Words) : Type 0 where

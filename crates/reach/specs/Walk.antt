@@ -66,23 +66,20 @@ reached_on : (s ch : Words) (w : Bool) (ws us : Words) → ((j : ℕ) → at ws 
 reached_on s ch w ws us kept m (inl e) = inl (kept m e)
 reached_on s ch w ws us kept m (inr e) = inr e
 
--- Node m is entered, unless the queue is full, which 1000 says.
+-- Node m is entered.
 pub record Enters (s : Words) (w : Bool) (ws qs : Words) (e m : ℕ) (us rs : Words) (r : ℕ) : Type 0 where
-  pub goes : r ≢ 1000 → (ch : Words) (k : ℕ) → Walking s ch w ws qs k e → Went s ch w ws qs us rs k e r × Reached s ch w us m
-
-pub enters_full : (s : Words) (w : Bool) (ws qs : Words) (e m : ℕ) (us rs : Words) → Enters s w ws qs e m us rs 1000
-enters_full s w ws qs e m us rs = record { goes = λ z. absurd (z refl) }
+  pub goes : (ch : Words) (k : ℕ) → Walking s ch w ws qs k e → Went s ch w ws qs us rs k e r × Reached s ch w us m
 
 -- It is marked already.
 pub enters_marked : (s : Words) (w : Bool) (ws qs : Words) (e m p : ℕ) → p ≡ at ws m → p ≡ 0 → Enters s w ws qs e m ws qs e
-enters_marked s w ws qs e m p ep z = record { goes = λ y ch k h. (went_none s ch w ws qs k e h, inl (sym ep ∙ z)) }
+enters_marked s w ws qs e m p ep z = record { goes = λ ch k h. (went_none s ch w ws qs k e h, inl (sym ep ∙ z)) }
 
 its_place : (s ch : Words) (w : Bool) (ws qs : Words) (k e m p : ℕ) → Walking s ch w ws qs k e → p ≡ at ws m → p ≢ 0 → p ≡ at ch m
 its_place s ch w ws qs k e m p h ep z = ⊎_elim (λ a. absurd (z (ep ∙ a))) (λ a. ep ∙ a) (h.place m)
 
 -- It is a Param that is given.
 pub enters_given : (s : Words) (w : Bool) (ws qs : Words) (e m p v : ℕ) (r : Bool) → p ≡ at ws m → p ≢ 0 → v ≡ p → Spares s w v r → r ≡ true → Enters s w ws qs e m ws qs e
-enters_given s w ws qs e m p v r ep z ev g q = record { goes = λ y ch k h. (went_none s ch w ws qs k e h, inr (g.given q, ap (λ x. at s (x + 1)) (sym (its_place s ch w ws qs k e m p h ep z) ∙ sym ev) ∙ g.param q)) }
+enters_given s w ws qs e m p v r ep z ev g q = record { goes = λ ch k h. (went_none s ch w ws qs k e h, inr (g.given q, ap (λ x. at s (x + 1)) (sym (its_place s ch w ws qs k e m p h ep z) ∙ sym ev) ∙ g.param q)) }
 
 -- Any other is a node.
 pub enters_inside : (ws : Words) (m p : ℕ) → p ≡ at ws m → p ≢ 0 → m < length ws
@@ -135,55 +132,32 @@ module _ (s : Words) (w : Bool) (ws qs : Words) (e m p : ℕ) (ep : p ≡ at ws 
     }
 
   pub enters_new : Enters s w ws qs e m (set ws m 0) (set qs e p) (e + 1)
-  enters_new = record { goes = λ y ch k h. (went_new ch k h, inl here) }
+  enters_new = record { goes = λ ch k h. (went_new ch k h, inl here) }
 
 -- The cells of a chain are entered.
 pub record EntersCells (s : Words) (w : Bool) (ws qs : Words) (e head : ℕ) (us rs : Words) (r : ℕ) : Type 0 where
-  pub goes : r ≢ 1000 → (ch : Words) (k : ℕ) → Walking s ch w ws qs k e → Went s ch w ws qs us rs k e r × CellsReached s ch w us head
+  pub goes : (ch : Words) (k : ℕ) → Walking s ch w ws qs k e → Went s ch w ws qs us rs k e r × CellsReached s ch w us head
 
--- Those from c on are left, at most `left` of them.
-pub record Turned (s ch : Words) (w : Bool) (ws qs us rs : Words) (k e r head left c : ℕ) : Type 0 where
+-- Those of cs are left.
+pub record Turned (s ch : Words) (w : Bool) (ws qs us rs : Words) (k e r head : ℕ) (cs : Words) : Type 0 where
   pub went : Went s ch w ws qs us rs k e r
-  pub behind : (x : ℕ) → In x (chain s head) → In x (chain_of left s c) ⊎ Reached s ch w us (at s (x + 1) / 2)
+  pub behind : (x : ℕ) → In x (chain s head) → In x cs ⊎ Reached s ch w us (at s (x + 1) / 2)
 
-pub record Turning (s : Words) (w : Bool) (ws qs : Words) (e head : ℕ) (us rs : Words) (r left c : ℕ) : Type 0 where
-  pub goes : (ch : Words) (k : ℕ) → Walking s ch w ws qs k e → Turned s ch w ws qs us rs k e r head left c
+pub record Turning (s : Words) (w : Bool) (ws qs : Words) (e head : ℕ) (us rs : Words) (r : ℕ) (cs : Words) : Type 0 where
+  pub goes : (ch : Words) (k : ℕ) → Walking s ch w ws qs k e → Turned s ch w ws qs us rs k e r head cs
 
-no_more : (left : ℕ) (s : Words) → chain_of left s 0 ≡ []
-unfolding chain_of
-no_more zero s = refl
-no_more (suc left) s = refl
+pub turning_start : (s : Words) (w : Bool) (ws qs : Words) (e head : ℕ) (cs : Words) → cs ≡ chain s head → Turning s w ws qs e head ws qs e cs
+turning_start s w ws qs e head cs q = record { goes = λ ch k h. record { went = went_none s ch w ws qs k e h; behind = λ x i. inl (subst (In x) (sym q) i) } }
 
-one_more : (left : ℕ) (s : Words) (i : ℕ) → left ≢ 0 → i ≢ 0 → chain_of left s i ≡ i ∷ chain_of (left - 1) s (at s i)
-unfolding chain_of
-one_more zero s i a b = absurd (a refl)
-one_more (suc left) s zero a b = absurd (b refl)
-one_more (suc left) s (suc i) a b = ap (λ k. suc i ∷ chain_of k s (at s (suc i))) (sym (suc-sub-suc left 0 ∙ sub-zero left))
+module _ (s : Words) (w : Bool) (ws qs : Words) (e head : ℕ) (us rs : Words) (r : ℕ) (cs : Words) (t : Turning s w ws qs e head us rs r cs) where
+  pub turning_end : cs ≡ [] → EntersCells s w ws qs e head us rs r
+  turning_end q = record { goes = λ ch k h. let o = t.goes ch k h in (o.went, λ x i. ⊎_elim (λ a. absurd (in_empty (subst (In x) q a))) (λ a. a) (o.behind x i)) }
 
-pub cells_full : (s : Words) (w : Bool) (ws qs : Words) (e head : ℕ) (us rs : Words) (r : ℕ) → r ≡ 1000 → EntersCells s w ws qs e head us rs r
-cells_full s w ws qs e head us rs r q = record { goes = λ z. absurd (z q) }
-
-pub turning_start : (s : Words) (w : Bool) (ws qs : Words) (e head : ℕ) → Turning s w ws qs e head ws qs e (length s) head
-unfolding chain
-turning_start s w ws qs e head = record { goes = λ ch k h. record { went = went_none s ch w ws qs k e h; behind = λ x i. inl i } }
-
-module _ (s : Words) (w : Bool) (ws qs : Words) (e head : ℕ) (us rs : Words) (r left c : ℕ) (t : Turning s w ws qs e head us rs r left c) where
-  turning_done : chain_of left s c ≡ [] → EntersCells s w ws qs e head us rs r
-  turning_done q = record { goes = λ z ch k h. let o = t.goes ch k h in (o.went, λ x i. ⊎_elim (λ a. absurd (in_empty (subst (In x) q a))) (λ a. a) (o.behind x i)) }
-
-  pub turning_end : c ≡ 0 → EntersCells s w ws qs e head us rs r
-  turning_end z = turning_done (ap (chain_of left s) z ∙ no_more left s)
-
-  pub turning_spent : left ≡ 0 → EntersCells s w ws qs e head us rs r
-  unfolding chain_of
-  turning_spent z = turning_done (ap (λ k. chain_of k s c) z)
-
-  pub turning_on : (v m n : ℕ) (xs ys : Words) (o : ℕ) → left ≢ 0 → c ≢ 0 → v ≡ at s (c + 1) → m ≡ v / 2 → Enters s w us rs r m xs ys o → o ≢ 1000 → n ≡ at s c → Turning s w ws qs e head xs ys o (left - 1) n
-  turning_on v m n xs ys o a b ev em g z en = record {
+  pub turning_on : (c v m : ℕ) (ds xs ys : Words) (o : ℕ) → cs ≡ c ∷ ds → v ≡ at s (c + 1) → m ≡ v / 2 → Enters s w us rs r m xs ys o → Turning s w ws qs e head xs ys o ds
+  turning_on c v m ds xs ys o q ev em g = record {
     goes = λ ch k h.
         let d = t.goes ch k h in
-        let f = g.goes z ch k d.went.walking in
-        let q : chain_of left s c ≡ c ∷ chain_of (left - 1) s n = one_more left s c a b ∙ ap (λ x. c ∷ chain_of (left - 1) s x) (sym en) in
+        let f = g.goes ch k d.went.walking in
         let u : m ≡ at s (c + 1) / 2 = em ∙ ap (λ x. x / 2) ev in
         record {
           went = went_on s ch w ws qs us rs xs ys k k e r o d.went f.0;
@@ -196,34 +170,31 @@ module _ (s : Words) (w : Bool) (ws qs : Words) (e head : ℕ) (us rs : Words) (
 
 -- The queue is worked off.
 pub record Ends (s : Words) (w : Bool) (ws qs : Words) (n : ℕ) (us rs : Words) (r : ℕ) : Type 0 where
-  pub goes : r ≢ 1000 → (ch : Words) → Walking s ch w ws qs 0 n → Went s ch w ws qs us rs r n r
+  pub goes : (ch : Words) → Walking s ch w ws qs 0 n → Went s ch w ws qs us rs r n r
 
 -- It is, up to k.
 pub record Running (s : Words) (w : Bool) (ws qs : Words) (n : ℕ) (us rs : Words) (k e : ℕ) : Type 0 where
   pub goes : (ch : Words) → Walking s ch w ws qs 0 n → Went s ch w ws qs us rs k n e
-
-pub ends_full : (s : Words) (w : Bool) (ws qs : Words) (n : ℕ) (us rs : Words) → Ends s w ws qs n us rs 1000
-ends_full s w ws qs n us rs = record { goes = λ z. absurd (z refl) }
 
 pub running_start : (s : Words) (w : Bool) (ws qs : Words) (n : ℕ) → Running s w ws qs n ws qs 0 n
 running_start s w ws qs n = record { goes = λ ch h. went_none s ch w ws qs 0 n h }
 
 module _ (s : Words) (w : Bool) (ws qs : Words) (n : ℕ) (us rs : Words) (k e : ℕ) (t : Running s w ws qs n us rs k e) where
   pub running_end : e ≤ k → Ends s w ws qs n us rs e
-  running_end l = record { goes = λ z ch h. let o = t.goes ch h in subst (λ x. Went s ch w ws qs us rs x n e) (let q : k ≡ e = omega (arith, o.walking.passed) in q) o }
+  running_end l = record { goes = λ ch h. let o = t.goes ch h in subst (λ x. Went s ch w ws qs us rs x n e) (let q : k ≡ e = omega (arith, o.walking.passed) in q) o }
 
   -- The next record's cells are entered.
-  module _ (p v u head : ℕ) (xs ys : Words) (o : ℕ) (l : k < e) (ep : p ≡ at rs k) (ev : v ≡ p) (eu : u ≡ at s (v + 4)) (eh : head ≡ u) (g : EntersCells s w us rs e head xs ys o) (z : o ≢ 1000) where
+  module _ (head : ℕ) (xs ys : Words) (o : ℕ) (l : k < e) (eh : head ≡ at s (at rs k + 4)) (g : EntersCells s w us rs e head xs ys o) where
     module _ (ch : Words) (h : Walking s ch w ws qs 0 n) where
       its : Went s ch w us rs xs ys k e o × CellsReached s ch w xs head
-      its = g.goes z ch k (t.goes ch h).walking
+      its = g.goes ch k (t.goes ch h).walking
 
       abbrev walk : Walking s ch w xs ys k o
       walk = its.0.walking
 
       waits_on : (j : ℕ) → Waits ys k o (at ch j) → Waits ys (k + 1) o (at ch j) ⊎ CellsReached s ch w xs (at s (at ch j + 4))
       waits_on j a = ⊎_elim
-          (λ q. inr (subst (CellsReached s ch w xs) (eh ∙ eu ∙ ap (λ x. at s (x + 4)) (ev ∙ ep ∙ sym (its.0.held k l) ∙ ap (at ys) q ∙ a.is)) its.1))
+          (λ q. inr (subst (CellsReached s ch w xs) (eh ∙ ap (λ x. at s (x + 4)) (sym (its.0.held k l) ∙ ap (at ys) q ∙ a.is)) its.1))
           (λ q. inl (record { spot = a.spot; from = omega arith; low = a.low; is = a.is }))
           (eq-or-lt_of_le a.from)
 

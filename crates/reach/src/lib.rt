@@ -3,7 +3,7 @@
 // the node is marked; the queue has the places of the records of marked nodes, and the number of marks is its end. A Param that is given is left out: the import makes no node for it.
 #![tactic(auto)]
 
-ghost use Rattle.std.specs.Prelude.{◌≡◌, ◌+◌, ◌*◌, ◌<◌, ◌≤◌, length};
+ghost use Rattle.std.specs.Prelude.{◌≡◌, ◌+◌, ◌*◌, ◌<◌, ◌≤◌, length, IfSome};
 ghost use Rattle.rules.specs.Sheet.{at, chain};
 ghost use Rattle.queries.specs.Takes.{Taken};
 ghost use Rattle.reach.specs.Walk.{Spares, Enters, EntersCells, Ends};
@@ -15,9 +15,6 @@ use chart::layout;
 
 // As many nodes as a walk goes to: no table of a search has more.
 const NODES: usize = 256;
-
-// What is told, in place of the queue's end, where there are more.
-const FULL: usize = 1000;
 
 // So many nodes of a table are not looked at.
 const SMALL: usize = 4;
@@ -31,13 +28,11 @@ const PARAM: u32 = 1;
 fn is_given(sheet: &[u32], with: bool, p: usize) -> bool
     ensures { Spares sheet.now with p result }
 {
-    if with {
-        return words::offset(sheet, p, layout::NODE_KIND) == PARAM;
-    }
-    false
+    with && words::offset(sheet, p, layout::NODE_KIND) == PARAM
 }
 
-// Marks node k and queues its record, unless it is marked already or a Param that is given. The queue's end after it.
+// Marks node k and queues its record, unless it is marked already or a Param that is given. The queue's end after it; none where the queue is full.
+#[tactic(auto, using(crate::specs::Walk::enters_new))]
 fn enter(
     sheet: &[u32],
     places: &mut [u32],
@@ -45,25 +40,23 @@ fn enter(
     end: usize,
     with: bool,
     k: usize,
-) -> usize
-    ensures { Enters sheet.now with places.old queue.old end k places.new queue.new result }
+) -> Option<usize>
+    ensures { IfSome result (Enters sheet.now with places.old queue.old end k places.new queue.new) }
 {
     let p = words::word(places, k);
-    if p == 0 {
-        return end;
-    }
-    if is_given(sheet, with, words::wide(p)) {
-        return end;
+    if p == 0 || is_given(sheet, with, p as usize) {
+        return Some(end);
     }
     if end >= NODES {
-        return FULL;
+        return None;
     }
     places[k] = 0;
     queue[end] = p;
-    end + 1
+    Some(end + 1)
 }
 
 // The same for the nodes that the cells of a chain name.
+#[tactic(auto, using(crate::specs::Walk::turning_on, crate::specs::Walk::turning_end))]
 fn enter_cells(
     sheet: &[u32],
     places: &mut [u32],
@@ -71,66 +64,51 @@ fn enter_cells(
     end: usize,
     with: bool,
     head: usize,
-) -> usize
-    ensures { EntersCells sheet.now with places.old queue.old end head places.new queue.new result }
+) -> Option<usize>
+    ensures { IfSome result (EntersCells sheet.now with places.old queue.old end head places.new queue.new) }
 {
     let mut e = end;
-    let mut c = head;
-    let mut left = sheet.len();
-    while left != 0 {
-        if c == 0 {
-            return e;
-        }
+    for c in words::records(sheet, head) {
         let t = words::offset(sheet, c, layout::CELL_TYPE);
-        e = enter(sheet, places, queue, e, with, words::wide(t / 2));
-        if e == FULL {
-            return e;
-        }
-        c = words::next(sheet, c);
-        left -= 1;
+        e = enter(sheet, places, queue, e, with, t as usize / 2)?;
     }
-    e
+    Some(e)
 }
 
-// Works off the queue, whose end is n.
-fn run(sheet: &[u32], places: &mut [u32], queue: &mut [u32; 256], n: usize, with: bool) -> usize
-    ensures { Ends sheet.now with places.old queue.old n places.new queue.new result }
+// Works off the queue, whose end is n, and grows. Its end then; none where it is full.
+#[tactic(auto, using(crate::specs::Walk::running_on))]
+fn run(
+    sheet: &[u32],
+    places: &mut [u32],
+    queue: &mut [u32; 256],
+    n: usize,
+    with: bool,
+) -> Option<usize>
+    ensures { IfSome result (Ends sheet.now with places.old queue.old n places.new queue.new) }
 {
-    let mut k: usize = 0;
     let mut end = n;
-    while k < end {
-        if k >= NODES {
-            return FULL;
+    for k in 0..NODES {
+        if k >= end {
+            break;
         }
-        let p = queue[k];
-        k += 1;
-        let head = words::offset(sheet, words::wide(p), layout::NODE_CHILDREN);
-        end = enter_cells(sheet, places, queue, end, with, words::wide(head));
-        if end == FULL {
-            return FULL;
-        }
+        let head = words::offset(sheet, queue[k] as usize, layout::NODE_CHILDREN);
+        end = enter_cells(sheet, places, queue, end, with, head as usize)?;
     }
-    end
+    Some(end)
 }
 
-// How many nodes the import of the arguments from a head makes; all nodes of the table where a walk would go to more than NODES. The table's records are at the places given.
-fn walk(sheet: &[u32], places: &mut [u32], args: u32, with: bool) -> usize
-    ensures { Tells sheet.now with places.old args result }
+// How many nodes the import of the arguments from a head makes; none where a walk would go to more than NODES. The table's records are at the places given.
+#[tactic(auto, using(crate::specs::Counts::tells_walked))]
+fn walk(sheet: &[u32], places: &mut [u32], args: u32, with: bool) -> Option<usize>
+    ensures { IfSome result (Tells sheet.now with places.old args) }
 {
-    let n = places.len();
     let mut queue = [0u32; 256];
-    let e = enter_cells(sheet, places, &mut queue, 0, with, words::wide(args));
-    if e == FULL {
-        return n;
-    }
-    let m = run(sheet, places, &mut queue, e, with);
-    if m == FULL {
-        return n;
-    }
-    m
+    let end = enter_cells(sheet, places, &mut queue, 0, with, args as usize)?;
+    run(sheet, places, &mut queue, end, with)
 }
 
-// The same; all nodes of a small table.
+// The same; all nodes of the table where a walk would go to more, and of a small table.
+#[tactic(auto, using(crate::specs::Counts::tells_all))]
 fn tell(sheet: &[u32], places: &mut [u32], args: u32, with: bool) -> usize
     ensures { Tells sheet.now with places.old args result }
 {
@@ -138,7 +116,7 @@ fn tell(sheet: &[u32], places: &mut [u32], args: u32, with: bool) -> usize
     if n <= SMALL {
         return n;
     }
-    walk(sheet, places, args, with)
+    walk(sheet, places, args, with).unwrap_or(n)
 }
 
 // The same for the table from a head. The places of its records are written to `places`.
@@ -157,7 +135,7 @@ fn type_params(sheet: &[u32], generics: &[u32], p: usize) -> u32
     ensures { result ≡ params_at sheet.now generics.now p }
 {
     let g = words::offset(sheet, p, layout::IMPL_GENERICS);
-    let at = words::next(generics, words::wide(g));
+    let at = words::next(generics, g as usize);
     words::offset(sheet, at, layout::GENERICS_TYPE_PARAMS)
 }
 
@@ -192,15 +170,9 @@ fn put_signatures(sheet: &[u32], places: &mut [u32], generics: &[u32], taken: &m
     requires in_bounds { 132 ≤ length taken.old }
     ensures { Signatures sheet.now taken.new }
 {
-    let mut p = words::next(sheet, layout::IMPLS);
-    let mut i: usize = 0;
-    while i < sheet.len() {
-        if p == 0 {
-            return;
-        }
+    let impls = words::records(sheet, words::next(sheet, layout::IMPLS));
+    for (i, p) in impls.enumerate() {
         put_signature(sheet, places, generics, taken, p, i);
-        p = words::next(sheet, p);
-        i += 1;
     }
 }
 
@@ -218,6 +190,7 @@ fn put_param(sheet: &[u32], places: &mut [u32], taken: &mut [u32], head: u32, p:
 }
 
 // Writes what all impl parameters of a chain take.
+#[tactic(auto, using(crate::specs::Params::adding_index, crate::specs::Params::adding_on, crate::specs::Params::adding_end))]
 fn put_chain(sheet: &[u32], places: &mut [u32], taken: &mut [u32], head: u32, first: u32)
     requires sheet_len_bound { length sheet.now ≤ 4096 }
     requires head_in_bounds { 5 * length (chain sheet.now head) ≤ length sheet.now }
@@ -226,15 +199,8 @@ fn put_chain(sheet: &[u32], places: &mut [u32], taken: &mut [u32], head: u32, fi
     requires in_bounds { 132 ≤ length taken.old }
     ensures { PutsParams sheet.now head first taken.old taken.new }
 {
-    let mut p = words::wide(first);
-    let mut k: usize = 0;
-    while k < sheet.len() {
-        if p == 0 {
-            return;
-        }
+    for (k, p) in words::records(sheet, first as usize).enumerate() {
         put_param(sheet, places, taken, head, p, k);
-        p = words::next(sheet, p);
-        k += 1;
     }
 }
 

@@ -1,17 +1,19 @@
 -- The children of a ref, told as a row of types.
-use Rattle.std.specs.Prelude.{ℕ, zero, suc, ◌+◌, ◌-◌, ◌%◌, ◌≤◌, ◌<◌, ◌≡◌, refl, Bool, [], ◌∷◌, ◌++◌, map, ◌≢◌, length, set, take}
-use Rattle.std.proofs.Common.{sym, ◌∙◌, ap, append_assoc, append-nil, add-one, arith, length-set, take-suc-set}
+use Rattle.std.specs.Prelude.{ℕ, zero, suc, ◌+◌, ◌-◌, ◌%◌, ◌≤◌, ◌<◌, ◌≡◌, refl, Bool, true, false, [], ◌∷◌, ◌++◌, map, ◌≢◌, ltb, length, set, take}
+use Rattle.std.proofs.Common.{⊎_elim, lt-ltb, le-ltb, sym, ◌∙◌, ap, append_assoc, append-nil, add-one, arith, length-set, take-suc-set}
 use Rattle.rules.specs.Lists.{Words}
 use Rattle.rules.specs.Sheet.{at, chain, chain_of}
 use Rattle.rules.specs.Types.{Ty}
 use Rattle.rules.specs.Transfer.{cell_types, type_of_word}
 use Rattle.rules.specs.Answer.{word_of_type}
+use Rattle.rules.specs.Solutions.{rep}
+use Rattle.rules.specs.Pigeonholes.{lt_or}
 use Rattle.rules.specs.SignedTerms.{Signed, SignedSol, made, label}
 use Rattle.table.specs.declared.Row.{Row}
 use Rattle.table.specs.Packing.{types_of, kind_at, id_at}
 use Rattle.table.specs.Nodes.{word_type}
 use Rattle.table.specs.ChildTypes.{ChildTypes}
-use Rattle.refs.specs.Meaning.{row, record_types, Meaning}
+use Rattle.refs.specs.Meaning.{node_types, row, record_types, Meaning}
 use Rattle.refs.specs.Refs.{KindOf, place, side_of, side-node, side_record, ref_low, record_plain}
 
 -- The cells of a chain, where there are at most eight.
@@ -31,20 +33,33 @@ pub cell_types_are : (s : Words) (ps : Words) → map (λ (c : Ty). 2048 + word_
 cell_types_are s [] = refl
 cell_types_are s (p ∷ ps) = λ i. (2048 + word_type (at s (p + 1)) i % 2048) ∷ cell_types_are s ps i
 
--- j types are written, and the chain goes on at c.
-pub record Walks (s : Words) (h : ℕ) (ns : Words) (c j : ℕ) : Type 0 where
+-- j types are written, and the cells at cs are left.
+pub record Walks (s : Words) (h : ℕ) (ns cs : Words) (j : ℕ) : Type 0 where
   pub long : length ns ≡ 8
   pub few : j ≤ 8
-  pub fuel : 8 ≤ length s
-  pub rest : take j ns ++ map (type_in_cell s) (chain_of (length s - j) s c) ≡ record_types s h
+  pub rest : take j ns ++ map (type_in_cell s) cs ≡ record_types s h
 
-pub walks_start : (s : Words) (h : ℕ) (ns : Words) → length ns ≡ 8 → 8 ≤ length s → Walks s h ns h 0
-unfolding cell_types chain
-walks_start s h ns e l = record {
+pub walks_start : (s : Words) (h : ℕ) (ns cs : Words) → length ns ≡ 8 → cs ≡ chain s h → Walks s h ns cs 0
+unfolding cell_types
+walks_start s h ns cs e q = record {
   long = e;
   few = omega arith;
-  fuel = l;
-  rest = ap (λ k. map (type_in_cell s) (chain_of k s h)) (let z : length s - 0 ≡ length s = omega arith in z) ∙ sym (cell_types_are s (chain s h));
+  rest = ap (map (type_in_cell s)) q ∙ sym (cell_types_are s (chain s h));
+}
+
+pub walks_end : (s : Words) (h : ℕ) (ns cs : Words) (j : ℕ) → Walks s h ns cs j → cs ≡ [] → Cells s h (record { n = j; types = ns })
+walks_end s h ns cs j w e = record { few = λ z. w.few; long = λ z. omega (arith, w.few, w.long); are = λ z. sym (append-nil (take j ns)) ∙ ap (λ (l : Words). take j ns ++ map (type_in_cell s) l) (sym e) ∙ w.rest }
+
+pub walks_on : (s : Words) (h : ℕ) (ns cs : Words) (c : ℕ) (ds : Words) (j v x : ℕ) → Walks s h ns cs j → cs ≡ c ∷ ds → j ≢ 8 → v ≡ at s (c + 1) → x ≡ 2048 + v % 2048 → Walks s h (set ns j x) ds (j + 1)
+walks_on s h ns cs c ds j v x w e y ev ex = record {
+  long = length-set ns j x ∙ w.long;
+  few = omega (arith, w.few, y);
+  rest =
+      ap (λ (l : Words). l ++ map (type_in_cell s) ds) (ap (λ k. take k (set ns j x)) (add-one j) ∙ take-suc-set ns j x (omega (arith, w.few, w.long, y)))
+      ∙ append_assoc (take j ns) (x ∷ []) (map (type_in_cell s) ds)
+      ∙ (λ t. take j ns ++ ((ex ∙ ap (λ k. 2048 + k % 2048) ev) t ∷ map (type_in_cell s) ds))
+      ∙ ap (λ (l : Words). take j ns ++ map (type_in_cell s) l) (sym e)
+      ∙ w.rest;
 }
 
 -- Nothing is left at 0, and elsewhere a cell.
@@ -57,22 +72,6 @@ pub cells_more : (s : Words) (j c : ℕ) → j < length s → c ≢ 0 → chain_
 unfolding chain_of
 cells_more s j zero h q = absurd (q refl)
 cells_more s j (suc i) h q = ap (λ k. chain_of k s (suc i)) (let e : length s - j ≡ suc (length s - (j + 1)) = omega arith in e)
-
-pub walks_end : (s : Words) (h : ℕ) (ns : Words) (c j : ℕ) → Walks s h ns c j → c ≡ 0 → Cells s h (record { n = j; types = ns })
-walks_end s h ns c j w e = record { few = λ z. w.few; long = λ z. omega (arith, w.few, w.long); are = λ z. sym (append-nil (take j ns)) ∙ ap (λ (l : Words). take j ns ++ map (type_in_cell s) l) (sym (cells-none s (length s - j) c e)) ∙ w.rest }
-
-pub walks_on : (s : Words) (h : ℕ) (ns : Words) (c j v x n : ℕ) → Walks s h ns c j → c ≢ 0 → j ≢ 8 → v ≡ at s (c + 1) → x ≡ 2048 + v % 2048 → n ≡ at s c → Walks s h (set ns j x) n (j + 1)
-walks_on s h ns c j v x n w z y ev ex en = record {
-  long = length-set ns j x ∙ w.long;
-  few = omega (arith, w.few, y);
-  fuel = w.fuel;
-  rest =
-      ap (λ (l : Words). l ++ map (type_in_cell s) (chain_of (length s - (j + 1)) s n)) (ap (λ k. take k (set ns j x)) (add-one j) ∙ take-suc-set ns j x (omega (arith, w.few, w.long, y)))
-      ∙ append_assoc (take j ns) (x ∷ []) (map (type_in_cell s) (chain_of (length s - (j + 1)) s n))
-      ∙ (λ t. take j ns ++ ((ex ∙ ap (λ k. 2048 + k % 2048) ev) t ∷ map (type_in_cell s) (chain_of (length s - (j + 1)) s (en t))))
-      ∙ ap (λ (l : Words). take j ns ++ map (type_in_cell s) l) (sym (cells_more s j c (omega (arith, w.fuel, w.few, y)) z))
-      ∙ w.rest;
-}
 
 -- A term of a side, some kind and id over another.
 pub record Over (s : Words) (t : Signed) (i : Bool) (u : Signed) : Type 0 where
@@ -121,3 +120,47 @@ gathers_record s ps ws r k p h j o e z l ep eh ej c = record {
       let v = over_record s ps ws m r k p h j w e z l ep eh ej in
       record { kind = v.kind; id = v.id; is = v.is ∙ ap (λ (x : Words). made s (side_of s ps ws r) v.kind v.id (row s m x)) (sym (c.are y)) };
 }
+
+-- The types below a ref, by its node or its record.
+unfoldable pub below : Words → Words → Words → ℕ → Words
+below s ps ws r = elim (ltb r 256) [ true ↦ node_types ws r | false ↦ record_types s (at s (place ps r + 4)) ]
+
+pub below_low : (s ps ws : Words) (r : ℕ) → r < 256 → below s ps ws r ≡ node_types ws r
+unfolding below
+below_low s ps ws r h = rw (lt-ltb r 256 h, below)
+
+pub below_high : (s ps ws : Words) (r : ℕ) → 256 ≤ r → below s ps ws r ≡ record_types s (at s (place ps r + 4))
+unfolding below
+below_high s ps ws r h = rw (le-ltb r 256 h, below)
+
+-- They are what the row says, where it is told.
+pub record Below (s ps ws : Words) (r : ℕ) (o : Row) : Type 0 where
+  pub root : o.n ≢ 9 → r < 256 → rep (types_of ws) r ≡ r
+  pub few : o.n ≢ 9 → o.n ≤ 8
+  pub long : o.n ≢ 9 → o.n ≤ length o.types
+  pub are : o.n ≢ 9 → take o.n o.types ≡ below s ps ws r
+
+pub below_untold : (s ps ws : Words) (r : ℕ) (o : Row) → o.n ≡ 9 → Below s ps ws r o
+below_untold s ps ws r o e = record { root = λ z. absurd (z e); few = λ z. absurd (z e); long = λ z. absurd (z e); are = λ z. absurd (z e) }
+
+pub below_node : (s ps ws : Words) (r : ℕ) (o : Row) → r < 256 → ChildTypes ws r o → Below s ps ws r o
+below_node s ps ws r o h c = record { root = λ z l. c.root z; few = c.few; long = c.long; are = λ z. c.are z ∙ sym (below_low s ps ws r h) }
+
+pub below_record : (s ps ws : Words) (r p h : ℕ) (o : Row) → 256 ≤ r → p ≡ place ps r → h ≡ at s (p + 4) → Cells s h o → Below s ps ws r o
+below_record s ps ws r p h o l ep eh c = record {
+  root = λ z q. absurd (omega (arith, l, q));
+  few = c.few;
+  long = c.long;
+  are = λ z. c.are z ∙ ap (record_types s) (eh ∙ ap (λ k. at s (k + 4)) ep) ∙ sym (below_high s ps ws r l);
+}
+
+pub gathers_below : (s ps ws : Words) (r k : ℕ) (o : Row) → KindOf s ps ws r k → k ≢ 0 → Below s ps ws r o → Gathers s ps ws r o
+gathers_below s ps ws r k o e z b = record { few = b.few; long = b.long; are = λ y m w. ⊎_elim (low y m w) (high y m w) (lt_or r 256) }
+  where
+    low : o.n ≢ 9 → (m : SignedSol) → Meaning s ps ws m → r < 256 → Over s (m (r % 2048)) (side_of s ps ws r) (row s m (take o.n o.types))
+    low y m w h = (gathers_node s ps ws r k o e z h (record { root = λ x. b.root x h; few = b.few; long = b.long; are = λ x. b.are x ∙ below_low s ps ws r h })).are y m w
+
+    high : o.n ≢ 9 → (m : SignedSol) → Meaning s ps ws m → 256 ≤ r → Over s (m (r % 2048)) (side_of s ps ws r) (row s m (take o.n o.types))
+    high y m w l =
+        let v = over_record s ps ws m r k (place ps r) (at s (place ps r + 4)) (at s (place ps r + 4)) w e z l refl refl refl in
+        record { kind = v.kind; id = v.id; is = v.is ∙ ap (λ (x : Words). made s (side_of s ps ws r) v.kind v.id (row s m x)) (sym (b.are y ∙ below_high s ps ws r l)) }

@@ -41,6 +41,13 @@ finds_up ls t x w u v f e q z ev =
 pub finds_far : (ls : Words) (t w u v x : ℕ) → w ≡ t / 2 % 2048 → u ≡ at ls w → u ≢ 0 → v ≡ turn (t % 2) (u - 1) → Finds ls v x → Finds ls t x
 finds_far ls t w u v x e q z ev f = record { at = λ s m l. (finds_up ls t t w u v (finds_same ls t) e q z ev).at s m l ∙ f.at s m l }
 
+-- The same from the type that the ref is linked to.
+pub finds_on : (ls : Words) (t x u v : ℕ) → Finds ls t x → u + 1 ≡ at ls (x / 2 % 2048) → v ≡ turn (x % 2) u → Finds ls t v
+finds_on ls t x u v f e ev = finds_up ls t x (x / 2 % 2048) (u + 1) v f refl e (omega arith) (ev ∙ ap (turn (x % 2)) (let z : u ≡ u + 1 - 1 = omega arith in z))
+
+pub finds_first : (ls : Words) (t u v x : ℕ) → Finds ls v x → u + 1 ≡ at ls (t / 2 % 2048) → v ≡ turn (t % 2) u → Finds ls t x
+finds_first ls t u v x f e ev = record { at = λ s m l. (finds_on ls t t u v (finds_same ls t) e ev).at s m l ∙ f.at s m l }
+
 turn_next : (b r : ℕ) → turn b (2 * r + 2 - 1) ≡ r * 2 + (1 + b) % 2
 turn_next b r = omega arith
 

@@ -1,5 +1,7 @@
 -- What is read of a ref: the place of its record, its kind, its id and its side, and the type parameter that it is.
-use Rattle.std.specs.Prelude.{ℕ, ◌+◌, ◌-◌, ◌*◌, ◌/◌, ◌%◌, ◌≤◌, ◌<◌, ◌≡◌, refl, Bool, true, false, ◌≢◌, eqb, ltb, length}
+use Rattle.std.specs.Prelude.{ℕ, ◌+◌, ◌-◌, ◌*◌, ◌/◌, ◌%◌, ◌≤◌, ◌<◌, ◌≡◌, refl, Bool, true, false, ◌≢◌, not, eqb, ltb, length}
+use Rattle.std.specs.Int.{from_bool}
+use Rattle.std.proofs.Math.Bool.{beq}
 use Rattle.std.proofs.Common.{sym, ◌∙◌, ap, ap₂, subst, ⊎_elim, arith, eq-eqb, ne_eqb, lt-ltb, le-ltb}
 use Rattle.rules.specs.Lists.{Words}
 use Rattle.rules.specs.Layout.{kind_error}
@@ -124,6 +126,31 @@ type_side s ps ws t = xor (odd t) (side_of s ps ws (t / 2))
 -- The difference of the sides of two types.
 abbrev pub apart : Words → Words → Words → ℕ → ℕ → Bool
 apart s ps ws x y = xor (type_side s ps ws x) (type_side s ps ws y)
+
+-- The sides as they are read: of a node, of a record, and of a type, which may turn them.
+pub node_side : (s ps ws : Words) (r : ℕ) (b : Bool) → b ≡ inverted_at (types_of ws) r → r < 256 → b ≡ side_of s ps ws r
+node_side s ps ws r b e h = e ∙ sym (side-node s ps ws r h)
+
+pub place_side : (s ps ws : Words) (r p : ℕ) (b : Bool) → b ≡ record_side s p → p ≡ place ps r → 256 ≤ r → b ≡ side_of s ps ws r
+place_side s ps ws r p b e q h = e ∙ ap (record_side s) q ∙ sym (side_record s ps ws r h)
+
+pub beq_xor : (a b : Bool) → not (beq a b) ≡ xor a b
+beq_xor true true = refl
+beq_xor true false = refl
+beq_xor false true = refl
+beq_xor false false = refl
+
+pub turned_side : (s ps ws : Words) (t : ℕ) (b : Bool) → b ≡ side_of s ps ws (t / 2) → not (beq (eqb (t % 2) 1) b) ≡ type_side s ps ws t
+unfolding odd
+turned_side s ps ws t b e = beq_xor (eqb (t % 2) 1) b ∙ ap (xor (eqb (t % 2) 1)) e
+
+pub sides_apart : (s ps ws : Words) (x y : ℕ) (a b : Bool) → a ≡ type_side s ps ws x → b ≡ type_side s ps ws y → not (beq a b) ≡ apart s ps ws x y
+sides_apart s ps ws x y a b ea eb = beq_xor a b ∙ ap₂ xor ea eb
+
+-- The same as a number.
+pub side_bit : (b i : Bool) (r : ℕ) → b ≡ i → r ≡ from_bool b → Bit i r
+side_bit true i r e q = subst (Bit i) (sym q) (bit_yes i (sym e))
+side_bit false i r e q = subst (Bit i) (sym q) (bit_no i (sym e))
 
 odd-rest : (t : ℕ) → odd (t % 2) ≡ odd t
 unfolding odd
@@ -273,3 +300,6 @@ alike_param s ps x p k d b r e z ek q ed l o er = record { at = λ m w. one m w 
         ∙ param m)
         ∙ sym (means-turn s m x (2 * (256 + d) + b))
         ∙ ap (means s m) (sym er)
+
+pub alike_read : (s ps : Words) (x p k d r : ℕ) (i : Bool) → r ≡ turn x (2 * (256 + d) + from_bool i) → p ≡ place ps (x / 2) → p ≢ 0 → k ≡ at s (p + 1) → k ≡ 1 → d ≡ at s (p + 3) → d < 8 → i ≡ record_side s p → Alike s ps x r
+alike_read s ps x p k d r i er e z ek q ed l ei = alike_param s ps x p k d (from_bool i) r e z ek q ed l (side_bit i (record_side s p) (from_bool i) ei refl) er

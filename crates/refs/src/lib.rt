@@ -3,12 +3,13 @@
 // `links` has for each ref 0, or 1 and the type that the ref is, of the same class.
 #![tactic(auto)]
 
-ghost use Rattle.std.specs.Prelude.{◌≡◌, ◌+◌, ◌%◌};
+ghost use Rattle.std.specs.Prelude.{◌≡◌, ◌+◌, ◌/◌, ◌%◌, IfSome, length, min};
+ghost use Rattle.rules.specs.Sheet.{at};
 ghost use Rattle.table.specs.Packing.{Packed};
-ghost use Rattle.refs.specs.Refs.{place, KindOf, IdOf, side_of, type_side, apart as Apart_of, Bit, Alike};
+ghost use Rattle.refs.specs.Refs.{place, KindOf, IdOf, side_of, type_side, apart as Apart_of, Alike};
 ghost use Rattle.refs.specs.Meaning.{turn as turn_of, record_side};
 ghost use Rattle.refs.specs.Links.{Finds, Links, Settles};
-ghost use Rattle.refs.specs.Children.{Cells, Gathers};
+ghost use Rattle.refs.specs.Children.{Cells, Below, Gathers};
 
 use chart::layout;
 use table::Row;
@@ -24,6 +25,13 @@ pub const PARAM: u32 = 1;
 // A row that is not told.
 pub const UNTOLD: usize = 9;
 
+// How many records there are, at most 1,024.
+pub fn record_count(places: &[u32]) -> u32
+    ensures { result ≡ min (length places.now) 1024 }
+{
+    places.len().min(1024) as u32
+}
+
 // The place of the record of a ref; 0 where there is none.
 pub fn place_of(places: &[u32], r: u32) -> usize
     ensures { result ≡ place places.now r }
@@ -31,7 +39,7 @@ pub fn place_of(places: &[u32], r: u32) -> usize
     if r < RECORDS {
         return 0;
     }
-    words::next(places, words::wide(r - RECORDS))
+    words::next(places, (r - RECORDS) as usize)
 }
 
 // The kind of a ref; 0 where it is unknown, and for a Param of the signature.
@@ -46,10 +54,7 @@ pub fn kind(sheet: &[u32], places: &[u32], ws: &[u32], r: u32) -> u32
         return 0;
     }
     let k = words::offset(sheet, p, layout::NODE_KIND);
-    if k == PARAM {
-        return 0;
-    }
-    k
+    if k == PARAM { 0 } else { k }
 }
 
 // The id of a ref that has a kind.
@@ -63,46 +68,38 @@ pub fn id(sheet: &[u32], places: &[u32], ws: &[u32], r: u32) -> u32
     words::offset(sheet, p, layout::NODE_ID)
 }
 
-// Whether the node of the record at p is inverted: 1 or 0.
-pub fn record_inverted(sheet: &[u32], p: usize) -> u32
-    ensures { Bit (record_side sheet.now p) result }
+// Whether the node of the record at p is inverted.
+pub fn record_inverted(sheet: &[u32], p: usize) -> bool
+    ensures { result ≡ record_side sheet.now p }
 {
-    let w = words::offset(sheet, p, layout::NODE_INVERTED);
-    if w == 1 {
-        return 1;
-    }
-    0
+    words::offset(sheet, p, layout::NODE_INVERTED) == 1
 }
 
-// The side of a ref: 1 or 0.
-fn inverted(sheet: &[u32], places: &[u32], ws: &[u32], r: u32) -> u32
-    ensures { Bit (side_of sheet.now places.now ws.now r) result }
+// The side of a ref: whether it is inverted.
+#[tactic(auto, using(crate::specs::Refs::node_side, crate::specs::Refs::place_side))]
+fn inverted(sheet: &[u32], places: &[u32], ws: &[u32], r: u32) -> bool
+    ensures { result ≡ side_of sheet.now places.now ws.now r }
 {
     if r < NODES {
-        if table::inverted_of(ws, r) {
-            return 1;
-        }
-        return 0;
+        return table::inverted_of(ws, r);
     }
-    let p = place_of(places, r);
-    record_inverted(sheet, p)
+    record_inverted(sheet, place_of(places, r))
 }
 
-// The side of a type: 1 or 0.
-fn side(sheet: &[u32], places: &[u32], ws: &[u32], t: u32) -> u32
-    ensures { Bit (type_side sheet.now places.now ws.now t) result }
+// The side of a type.
+#[tactic(auto, using(crate::specs::Refs::turned_side))]
+fn side(sheet: &[u32], places: &[u32], ws: &[u32], t: u32) -> bool
+    ensures { result ≡ type_side sheet.now places.now ws.now t }
 {
-    let b = inverted(sheet, places, ws, t / 2);
-    (t % 2 + b) % 2
+    (t % 2 == 1) ^ inverted(sheet, places, ws, t / 2)
 }
 
-// Whether two types differ in side: 1 or 0.
-pub fn apart(sheet: &[u32], places: &[u32], ws: &[u32], x: u32, y: u32) -> u32
-    ensures { Bit (Apart_of sheet.now places.now ws.now x y) result }
+// Whether two types differ in side.
+#[tactic(auto, using(crate::specs::Refs::sides_apart))]
+pub fn apart(sheet: &[u32], places: &[u32], ws: &[u32], x: u32, y: u32) -> bool
+    ensures { result ≡ Apart_of sheet.now places.now ws.now x y }
 {
-    let a = side(sheet, places, ws, x);
-    let b = side(sheet, places, ws, y);
-    (a + b) % 2
+    side(sheet, places, ws, x) ^ side(sheet, places, ws, y)
 }
 
 // A type, inverted if b is odd.
@@ -112,27 +109,20 @@ pub fn turn(b: u32, t: u32) -> u32
     t / 2 * 2 + (t % 2 + b % 2) % 2
 }
 
-// The type parameter that a Param of the signature is; any other type itself.
-pub fn parameter(sheet: &[u32], places: &[u32], x: u32) -> u32
-    ensures { Alike sheet.now places.now x result }
+// The type parameter that a Param of the signature is; none for any other type.
+#[tactic(auto, using(crate::specs::Refs::alike_read))]
+pub fn parameter(sheet: &[u32], places: &[u32], x: u32) -> Option<u32>
+    ensures { IfSome result (Alike sheet.now places.now x) }
 {
-    if x / 2 < RECORDS {
-        return x;
-    }
     let p = place_of(places, x / 2);
-    if p == 0 {
-        return x;
-    }
-    let k = words::offset(sheet, p, layout::NODE_KIND);
-    if k != PARAM {
-        return x;
+    if p == 0 || words::offset(sheet, p, layout::NODE_KIND) != PARAM {
+        return None;
     }
     let d = words::offset(sheet, p, layout::NODE_ID);
-    if d < 8 {
-        let b = record_inverted(sheet, p);
-        return turn(x, 2 * (PARAMS + d) + b);
+    if d >= 8 {
+        return None;
     }
-    x
+    Some(turn(x, 2 * (PARAMS + d) + u32::from(record_inverted(sheet, p))))
 }
 
 // A type of the signature.
@@ -156,25 +146,35 @@ pub fn untold() -> Row
 pub fn cells(sheet: &[u32], head: usize) -> Row
     ensures { Cells sheet.now head result }
 {
-    if sheet.len() < 8 {
-        return untold();
-    }
     let mut types = [0u32; 8];
-    let mut c = head;
-    let mut j: usize = 0;
-    while c != 0 {
-        if j == 8 {
+    let mut n = 0;
+    for c in words::records(sheet, head) {
+        if n == types.len() {
             return untold();
         }
-        let t = words::offset(sheet, c, layout::CELL_TYPE);
-        types[j] = own_type(t);
-        c = words::next(sheet, c);
-        j += 1;
+        types[n] = own_type(words::offset(sheet, c, layout::CELL_TYPE));
+        n += 1;
     }
-    Row { n: j, types }
+    Row { n, types }
 }
 
-// The children of a ref.
+// The types below a ref, by its node or its record; not told of an unknown node.
+pub fn below(sheet: &[u32], places: &[u32], ws: &[u32], r: u32) -> Row
+    requires { Packed ws.now }
+    ensures { Below sheet.now places.now ws.now r result }
+{
+    if r < NODES {
+        if table::kind_of(ws, r) == 0 {
+            return untold();
+        }
+        return table::child_types(ws, r);
+    }
+    let p = place_of(places, r);
+    let head = words::offset(sheet, p, layout::NODE_CHILDREN);
+    cells(sheet, head as usize)
+}
+
+// The children of a ref, if it is known.
 pub fn children(sheet: &[u32], places: &[u32], ws: &[u32], r: u32) -> Row
     requires { Packed ws.now }
     ensures { Gathers sheet.now places.now ws.now r result }
@@ -182,30 +182,38 @@ pub fn children(sheet: &[u32], places: &[u32], ws: &[u32], r: u32) -> Row
     if kind(sheet, places, ws, r) == 0 {
         return untold();
     }
-    if r < NODES {
-        return table::child_types(ws, r);
-    }
-    let p = place_of(places, r);
-    let head = words::offset(sheet, p, layout::NODE_CHILDREN);
-    cells(sheet, words::wide(head))
+    below(sheet, places, ws, r)
 }
 
-// The last of at most 16 links from a type. A ref that is linked to its own inverse is a root.
+// The ref of a type, as an index.
+pub fn ref_of(t: u32) -> usize
+    ensures { result ≡ t / 2 % 2048 }
+{
+    t as usize / 2 % 2048
+}
+
+// The type that the ref of a type is linked to; none at a root: it has no link, or is linked to its own inverse.
+fn link_of(links: &[u32; 2048], t: u32) -> Option<u32>
+    ensures { IfSome result (λ up. up + 1 ≡ at links.now (t / 2 % 2048)) }
+{
+    let up = links[ref_of(t)];
+    if up == 0 || (up - 1) / 2 == t / 2 % 2048 {
+        return None;
+    }
+    Some(up - 1)
+}
+
+// The last of at most 16 links from a type.
+#[tactic(auto, using(crate::specs::Links::finds_on))]
 fn find_far(links: &[u32; 2048], t: u32) -> u32
     ensures { Finds links.now t result }
 {
     let mut x = t;
-    let mut left: usize = 16;
-    while left > 0 {
-        let up = links[words::wide(x / 2 % 2048)];
-        if up == 0 {
+    for _ in 0..16 {
+        let Some(up) = link_of(links, x) else {
             return x;
-        }
-        if (up - 1) / 2 == x / 2 % 2048 {
-            return x;
-        }
-        x = turn(x % 2, up - 1);
-        left -= 1;
+        };
+        x = turn(x % 2, up);
     }
     x
 }
@@ -214,22 +222,18 @@ fn find_far(links: &[u32; 2048], t: u32) -> u32
 pub fn find(links: &[u32; 2048], t: u32) -> u32
     ensures { Finds links.now t result }
 {
-    let up = links[words::wide(t / 2 % 2048)];
-    if up == 0 {
-        return t;
+    match link_of(links, t) {
+        Some(up) => find_far(links, turn(t % 2, up)),
+        None => t,
     }
-    if (up - 1) / 2 == t / 2 % 2048 {
-        return t;
-    }
-    find_far(links, turn(t % 2, up - 1))
 }
 
 // Links the ref of x, so that x is y.
+#[tactic(auto, using(crate::specs::Links::links_set))]
 pub fn link(links: &mut [u32; 2048], x: u32, y: u32)
     ensures { Links links.old x y links.new }
 {
-    let v = turn(x % 2, y);
-    links[words::wide(x / 2 % 2048)] = v % 4096 + 1;
+    links[ref_of(x)] = turn(x % 2, y) % 4096 + 1;
 }
 
 // The same, unless it is the ref of y.
@@ -245,10 +249,11 @@ pub fn link_apart(links: &mut [u32; 2048], x: u32, y: u32)
 pub fn settle(sheet: &[u32], places: &[u32], links: &mut [u32; 2048], x: u32) -> u32
     ensures { Settles sheet.now places.now links.old x links.new result }
 {
-    let p = parameter(sheet, places, x);
-    if p == x {
-        return x;
+    match parameter(sheet, places, x) {
+        Some(p) => {
+            link(links, x, p);
+            find(links, p)
+        }
+        None => x,
     }
-    link(links, x, p);
-    find(links, p)
 }

@@ -1,6 +1,7 @@
 -- One result more behind n of a question: as it stands, under a Def, or as the trees behind a tree. `add_results` of the rules, for one result.
-use Rattle.std.specs.Prelude.{ℕ, ◌+◌, ◌*◌, ◌≤◌, ◌<◌, ◌≡◌, refl, List, [], ◌∷◌, ◌++◌, ◌≢◌, length, drop}
-use Rattle.std.proofs.Common.{◌∙◌, ap, subst, inl, inr, arith, lt-ltb, le-ltb}
+use Rattle.std.specs.Prelude.{ℕ, ◌+◌, ◌*◌, ◌≤◌, ◌<◌, ◌≡◌, refl, List, [], ◌∷◌, ◌++◌, ◌≢◌, length, drop, Ok, Err}
+use Rattle.std.proofs.Common.{sym, ◌∙◌, ap, subst, inl, inr, arith, lt-ltb, le-ltb}
+use Rattle.std.specs.Prelude.{Result as Outcome}
 use Rattle.rules.specs.Lists.{Words}
 use Rattle.rules.specs.Limits.{limit_results, limit_tree_nodes}
 use Rattle.rules.specs.Layout.{tree_def}
@@ -11,31 +12,36 @@ use Rattle.rules.specs.Search.{Trees, end, tree, tree_size, leaf, before, Result
 use Rattle.table.specs.Packing.{types_of}
 use Rattle.trees.specs.Forests.{Held, Single}
 use Rattle.trees.specs.Changes.{Copies, Appends, Wraps, size-before, holds-apart}
-use Rattle.slots.specs.declared.Adding.{Adding}
-use Rattle.slots.specs.declared.Adding.TheVariants.{Added, Refused}
+use Rattle.refusals.specs.declared.Refusal.{Refusal}
+use Rattle.refusals.specs.declared.Refusal.TheVariants.{ResultsFull, TreesFull}
+use Rattle.refusals.specs.Numbers.{number_of}
 use Rattle.slots.specs.Slots.{slot_length, Slot, Slots, Written, table_move, slots_kept, slots_more}
 use Rattle.slots.specs.Copies.{Beside, Filled, Tabled, Doubles, trees_apart, trees_few, trees_kept, with_trees}
+
+-- A result is added, or refused.
+abbrev pub Verdict : Type 0
+Verdict = Outcome (Unit {0}) Refusal
 
 -- Where a question's results end: its part has slots 0 to 4 for itself.
 abbrev pub results_end : ℕ
 results_end = 6410
 
 -- A result g is added behind fs, or refused: what the rule says, whatever comes behind it, and where they stand.
-pub record Enters (fs : List Result) (g : Result) (us : Words) (o : Adding) : Type 0 where
-  pub goes : o ≡ Added → (gs : List Result) → add_results fs (g ∷ gs) ≡ add_results (fs ++ (g ∷ [])) gs
-  pub stops : (m : ℕ) → o ≡ Refused m → (gs : List Result) → add_results fs (g ∷ gs) ≡ stop m
-  pub stand : o ≡ Added → Slots us slot_length (fs ++ (g ∷ []))
+pub record Enters (fs : List Result) (g : Result) (us : Words) (o : Verdict) : Type 0 where
+  pub goes : o ≡ Ok tt → (gs : List Result) → add_results fs (g ∷ gs) ≡ add_results (fs ++ (g ∷ [])) gs
+  pub stops : (refusal : Refusal) → o ≡ Err refusal → (gs : List Result) → add_results fs (g ∷ gs) ≡ stop (number_of refusal)
+  pub stand : o ≡ Ok tt → Slots us slot_length (fs ++ (g ∷ []))
 
 -- A result is added behind n; slot 0 and what lies behind slot 4 is as it was.
-pub record Adds (ws us : Words) (n : ℕ) (g : Result) (o : Adding) : Type 0 where
+pub record Adds (ws us : Words) (n : ℕ) (g : Result) (o : Verdict) : Type 0 where
   pub len : length us ≡ length ws
-  pub few : o ≡ Added → n < limit_results
+  pub few : o ≡ Ok tt → n < limit_results
   pub low : (i : ℕ) → i < slot_length → at us i ≡ at ws i
   pub high : (i : ℕ) → results_end ≤ i → at us i ≡ at ws i
   pub at : (fs : List Result) → length fs ≡ n → Slots ws slot_length fs → Enters fs g us o
 
 -- What is made of the result in the slot at `from` is added behind n.
-pub record Gives (give : Result → Result) (ws us : Words) (n from : ℕ) (o : Adding) : Type 0 where
+pub record Gives (give : Result → Result) (ws us : Words) (n from : ℕ) (o : Verdict) : Type 0 where
   pub at : (r : Result) → Slot ws from r → Adds ws us n (give r) o
 
 -- The forms: as it stands, under a Def, and behind the tree of another.
@@ -58,7 +64,7 @@ pub record Element (ws : Words) (a : ℕ) : Type 0 where
 pub record Joined (ws us : Words) (e from b : ℕ) : Type 0 where
   pub at : (r u : Result) → Slot ws e r → Single r.1 → Slot ws from u → Written ws us b (behind r.1 u)
 
-pub record Joins (ws us : Words) (n e from : ℕ) (o : Adding) : Type 0 where
+pub record Joins (ws us : Words) (n e from : ℕ) (o : Verdict) : Type 0 where
   pub at : (r : Result) → Slot ws e r → Single r.1 → Gives (behind r.1) ws us n from o
 
 -- The rule: 16, then 17, then one more.
@@ -75,40 +81,37 @@ unfolding add_results
 add_one_more fs g gs l h = rw (lt-ltb (length fs) limit_results l, le-ltb limit_tree_nodes (tree_size g.1) h, add_results)
 
 -- What the answer says.
-not_added : (m : ℕ) → Refused m ≡ Added → ⊥
-not_added m e = let z : ◌≡◌ {A = ℕ} 0 1 = cc in omega arith
+not_added : (refusal : Refusal) → ◌≡◌ {A = Verdict} (Err refusal) (Ok tt) → ⊥
+not_added refusal e = cc
 
-enters_stop : (fs : List Result) (g : Result) (us : Words) (m : ℕ) → ((gs : List Result) → add_results fs (g ∷ gs) ≡ stop m) → Enters fs g us (Refused m)
-enters_stop fs g us m h = record {
-  goes = λ e. absurd (not_added m e);
-  stops = λ k e gs. h gs ∙ ap stop (number k e);
-  stand = λ e. absurd (not_added m e);
+enters_stop : (fs : List Result) (g : Result) (us : Words) (refusal : Refusal) → ((gs : List Result) → add_results fs (g ∷ gs) ≡ stop (number_of refusal)) → Enters fs g us (Err refusal)
+enters_stop fs g us refusal h = record {
+  goes = λ e. absurd (not_added refusal e);
+  stops = λ k e gs. h gs ∙ ap (λ r. stop (number_of r)) (same k e);
+  stand = λ e. absurd (not_added refusal e);
 }
   where
-    number : (k : ℕ) → Refused m ≡ Refused k → m ≡ k
-    number k e = cc
+    same : (k : Refusal) → ◌≡◌ {A = Verdict} (Err refusal) (Err k) → refusal ≡ k
+    same k e = cc
 
-enters_added : (fs : List Result) (g : Result) (us : Words) → ((gs : List Result) → add_results fs (g ∷ gs) ≡ add_results (fs ++ (g ∷ [])) gs) → Slots us slot_length (fs ++ (g ∷ [])) → Enters fs g us Added
+enters_added : (fs : List Result) (g : Result) (us : Words) → ((gs : List Result) → add_results fs (g ∷ gs) ≡ add_results (fs ++ (g ∷ [])) gs) → Slots us slot_length (fs ++ (g ∷ [])) → Enters fs g us (Ok tt)
 enters_added fs g us h s = record {
   goes = λ e. h;
-  stops = λ k e. absurd (no k e);
+  stops = λ k e. absurd (not_added k (sym e));
   stand = λ e. s;
 }
-  where
-    no : (k : ℕ) → Added ≡ Refused k → ⊥
-    no k e = let z : ◌≡◌ {A = ℕ} 0 1 = cc in omega arith
 
-adds_same : (ws : Words) (n : ℕ) (g : Result) (m : ℕ) → ((fs gs : List Result) → length fs ≡ n → add_results fs (g ∷ gs) ≡ stop m) → Adds ws ws n g (Refused m)
-adds_same ws n g m h = record { len = refl; few = λ e. absurd (not_added m e); low = λ i l. refl; high = λ i l. refl; at = λ fs e s. enters_stop fs g ws m (λ gs. h fs gs e) }
+adds_same : (ws : Words) (n : ℕ) (g : Result) (refusal : Refusal) → ((fs gs : List Result) → length fs ≡ n → add_results fs (g ∷ gs) ≡ stop (number_of refusal)) → Adds ws ws n g (Err refusal)
+adds_same ws n g refusal h = record { len = refl; few = λ e. absurd (not_added refusal e); low = λ i l. refl; high = λ i l. refl; at = λ fs e s. enters_stop fs g ws refusal (λ gs. h fs gs e) }
 
-pub adds_full : (ws : Words) (n : ℕ) (g : Result) → n ≡ 4 → Adds ws ws n g (Refused 16)
-adds_full ws n g e = adds_same ws n g 16 (λ fs gs l. add_full fs g gs (l ∙ e))
+pub adds_full : (ws : Words) (n : ℕ) (g : Result) → n ≡ 4 → Adds ws ws n g (Err ResultsFull)
+adds_full ws n g e = adds_same ws n g ResultsFull (λ fs gs l. add_full fs g gs (l ∙ e))
 
-adds_big : (ws : Words) (n : ℕ) (g : Result) → n < 4 → 256 < tree_size g.1 → Adds ws ws n g (Refused 17)
-adds_big ws n g h b = adds_same ws n g 17 (λ fs gs l. add_big fs g gs (omega arith) b)
+adds_big : (ws : Words) (n : ℕ) (g : Result) → n < 4 → 256 < tree_size g.1 → Adds ws ws n g (Err TreesFull)
+adds_big ws n g h b = adds_same ws n g TreesFull (λ fs gs l. add_big fs g gs (omega arith) b)
 
 -- The slot behind n is written.
-pub adds_written : (ws us : Words) (n : ℕ) (g : Result) → n < 4 → Written ws us (1282 + 1282 * n) g → Adds ws us n g Added
+pub adds_written : (ws us : Words) (n : ℕ) (g : Result) → n < 4 → Written ws us (1282 + 1282 * n) g → Adds ws us n g (Ok tt)
 adds_written ws us n g h w = record {
   len = w.len;
   few = λ e. h;
@@ -136,17 +139,17 @@ pub aside_behind : (a n : ℕ) → 6410 ≤ a → n ≤ 4 → Aside a n
 aside_behind a n h l = record { at = beside_result a n h l }
 
 -- As it stands.
-pub plain_full : (ws : Words) (n from : ℕ) → n ≡ 4 → Gives plain ws ws n from (Refused 16)
+pub plain_full : (ws : Words) (n from : ℕ) → n ≡ 4 → Gives plain ws ws n from (Err ResultsFull)
 plain_full ws n from e = record { at = λ r s. adds_full ws n r e }
 
-pub plain_added : (ws us : Words) (n from : ℕ) → n ≤ 4 → n ≢ 4 → Doubles ws us from (1282 + 1282 * n) → Gives plain ws us n from Added
+pub plain_added : (ws us : Words) (n from : ℕ) → n ≤ 4 → n ≢ 4 → Doubles ws us from (1282 + 1282 * n) → Gives plain ws us n from (Ok tt)
 plain_added ws us n from l e d = record { at = λ r s. adds_written ws us n r (omega arith) (d.at r s) }
 
 -- Under a Def.
-pub under_full : (ws : Words) (n from i : ℕ) → n ≡ 4 → Gives (under i) ws ws n from (Refused 16)
+pub under_full : (ws : Words) (n from i : ℕ) → n ≡ 4 → Gives (under i) ws ws n from (Err ResultsFull)
 under_full ws n from i e = record { at = λ r s. adds_full ws n (under i r) e }
 
-pub under_big : (ws : Words) (n from i s : ℕ) → n ≤ 4 → n ≢ 4 → s ≡ at ws (from + 1025) → 256 ≤ s → Gives (under i) ws ws n from (Refused 17)
+pub under_big : (ws : Words) (n from i s : ℕ) → n ≤ 4 → n ≢ 4 → s ≡ at ws (from + 1025) → 256 ≤ s → Gives (under i) ws ws n from (Err TreesFull)
 unfolding tree_size
 under_big ws n from i s l e c h = record { at = λ r t. adds_big ws n (under i r) (omega arith) (omega (arith, t.trees.count)) }
 
@@ -166,7 +169,7 @@ rewritten ws us vs b ts x y w h = record {
   high = λ i l. h.high i (omega arith) ∙ w.high i l;
 }
 
-pub under_added : (ws us vs : Words) (n from i : ℕ) → n ≤ 4 → n ≢ 4 → Doubles ws us from (1282 + 1282 * n) → Wraps us vs (1282 + 1282 * n + 1025) i → Gives (under i) ws vs n from Added
+pub under_added : (ws us vs : Words) (n from i : ℕ) → n ≤ 4 → n ≢ 4 → Doubles ws us from (1282 + 1282 * n) → Wraps us vs (1282 + 1282 * n + 1025) i → Gives (under i) ws vs n from (Ok tt)
 under_added ws us vs n from i l e d w = record {
   at = λ r s. let t = d.at r s in adds_written ws vs n (under i r) (omega arith) (rewritten ws us vs (1282 + 1282 * n) r.0 r.1 (tree tree_def i r.1 end) t (w.trees r.1 t.slot.trees));
 }
@@ -195,15 +198,15 @@ joined ws us vs xs e from b pe pf room t c a = record { at = λ r u s o v. one r
         subst (λ (ts : Types). Written ws xs b (ts, before r.1 u.1)) v.table.is
         (rewritten ws vs xs b (types_of (drop from ws)) r.1 (before r.1 u.1) (with_trees ws us vs from b r.1 t room held) (a.trees r.1 u.1 o held.holds rest))
 
-pub join_full : (ws : Words) (n e from : ℕ) → n ≡ 4 → Joins ws ws n e from (Refused 16)
+pub join_full : (ws : Words) (n e from : ℕ) → n ≡ 4 → Joins ws ws n e from (Err ResultsFull)
 join_full ws n e from h = record { at = λ r s o. record { at = λ u v. adds_full ws n (behind r.1 u) h } }
 
-pub join_big : (ws : Words) (n e from s t : ℕ) → n ≤ 4 → n ≢ 4 → s ≡ at ws (e + 1025) → t ≡ at ws (from + 1025) → 256 < s + t → Joins ws ws n e from (Refused 17)
+pub join_big : (ws : Words) (n e from s t : ℕ) → n ≤ 4 → n ≢ 4 → s ≡ at ws (e + 1025) → t ≡ at ws (from + 1025) → 256 < s + t → Joins ws ws n e from (Err TreesFull)
 join_big ws n e from s t l h p q b = record { at = λ r x o. record { at = λ u v. adds_big ws n (behind r.1 u) (omega arith) (omega (arith, x.trees.count, v.trees.count, size-before r.1 u.1 o)) } }
 
-pub join_added : (ws us : Words) (n e from : ℕ) → n ≤ 4 → n ≢ 4 → Joined ws us e from (1282 + 1282 * n) → Joins ws us n e from Added
+pub join_added : (ws us : Words) (n e from : ℕ) → n ≤ 4 → n ≢ 4 → Joined ws us e from (1282 + 1282 * n) → Joins ws us n e from (Ok tt)
 join_added ws us n e from l h j = record { at = λ r s o. record { at = λ u v. adds_written ws us n (behind r.1 u) (omega arith) (j.at r u s o v) } }
 
 -- The table with a leaf: it has one node.
-pub leaf_added : (ws us vs : Words) (n from k i : ℕ) → n ≤ 4 → n ≢ 4 → 6410 ≤ length ws → Tabled ws us from (1282 + 1282 * n) → Held us vs (1282 + 1282 * n + 1025) (leaf k i) → Adds ws vs n (types_of (drop from ws), leaf k i) Added
+pub leaf_added : (ws us vs : Words) (n from k i : ℕ) → n ≤ 4 → n ≢ 4 → 6410 ≤ length ws → Tabled ws us from (1282 + 1282 * n) → Held us vs (1282 + 1282 * n + 1025) (leaf k i) → Adds ws vs n (types_of (drop from ws), leaf k i) (Ok tt)
 leaf_added ws us vs n from k i l e room t h = adds_written ws vs n (types_of (drop from ws), leaf k i) (omega arith) (with_trees ws us vs from (1282 + 1282 * n) (leaf k i) t (omega arith) h)

@@ -7,7 +7,7 @@ use Rattle.rules.specs.Types.{Types}
 use Rattle.rules.specs.Search.{Trees, Result}
 use Rattle.table.specs.Packing.{types_of, Packed}
 use Rattle.trees.specs.Forests.{Holds, Held, Apart}
-use Rattle.trees.specs.Carries.{Carries, Clear}
+use Rattle.trees.specs.Carries.{Carries}
 use Rattle.trees.specs.Changes.{Copies, holds_same}
 use Rattle.slots.specs.Slots.{slot_length, slot_trees, Table, Slot, Written, table_move}
 
@@ -37,9 +37,6 @@ count_few ws a r p e = omega (arith, e, get_or-drop a ws 0 0 ∙ ap (at ws) (let
 
 pub table_room : (ws : Words) (a : ℕ) → Packed (drop a ws) → a + 1025 ≤ length ws
 table_room ws a p = omega (arith, length-drop a ws, p.long)
-
-pub clear_table : (a b n : ℕ) → Beside a b → n ≤ 256 → Clear a b (4 * n + 1)
-clear_table a b n p h = record { either = ⊎_elim (λ q. inl (omega arith)) (λ q. inr (omega arith)) p.either }
 
 -- The words of n nodes are the whole table.
 pub tabled : (ws us : Words) (a b n : ℕ) → n ≡ at ws a → n ≤ 256 → Packed (drop a ws) → b + 1282 ≤ length ws → Carries ws ws us a b (4 * n + 1) → Tabled ws us a b

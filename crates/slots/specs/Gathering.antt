@@ -1,20 +1,20 @@
 -- Results of a sub-search added behind those of a search, one by one: `add_results` of the rules.
-use Rattle.std.specs.Prelude.{ℕ, ◌+◌, ◌*◌, ◌≤◌, ◌<◌, ◌≡◌, refl, Bool, List, [], ◌∷◌, ◌++◌, map, length, drop}
+use Rattle.std.specs.Prelude.{ℕ, ◌+◌, ◌*◌, ◌≤◌, ◌<◌, ◌≡◌, refl, Bool, List, [], ◌∷◌, ◌++◌, map, length, drop, Ok, Err}
 use Rattle.std.proofs.Common.{sym, ◌∙◌, add-one, arith, length-append, length-drop, drop-cons}
 use Rattle.std.proofs.Math.Path.{ap}
 use Rattle.std.proofs.Math.ListN.{get_or}
 use Rattle.rules.specs.Lists.{Words}
 use Rattle.rules.specs.Sheet.{at}
-use Rattle.rules.specs.Run.{within}
+use Rattle.rules.specs.Run.{stop, within}
 use Rattle.rules.specs.Search.{end, Result, add_results}
 use Rattle.trees.specs.Forests.{Single}
-use Rattle.slots.specs.declared.Adding.{Adding}
-use Rattle.slots.specs.declared.Adding.TheVariants.{Added, Refused as Denied}
+use Rattle.refusals.specs.declared.Refusal.{Refusal}
+use Rattle.refusals.specs.Numbers.{number_of}
 use Rattle.slots.specs.declared.Asked.{Asked}
 use Rattle.slots.specs.declared.Asked.TheVariants.{Found, Refused}
 use Rattle.slots.specs.Slots.{slot_length, Slot, Slots, slot_kept, slots_kept}
 use Rattle.slots.specs.Copies.{Filled}
-use Rattle.slots.specs.Adding.{results_end, Adds, Gives, behind, Element, Joins}
+use Rattle.slots.specs.Adding.{Verdict, results_end, Adds, Gives, behind, Element, Joins}
 use Rattle.slots.specs.Turns.{Answers, answers_refused, answers_found}
 
 -- Some m results stand from a place on.
@@ -72,11 +72,11 @@ module _ (give : Result → Result) (ws us : Words) (from n₀ n m k : ℕ) (beh
   next : (gs : List Result) → length gs ≡ m → map give (drop k gs) ≡ give (get_or gs k ([], end)) ∷ map give (drop (k + 1) gs)
   next gs d = ap (map give) (drop-cons gs k ([], end) (omega arith)) ∙ ap (λ i. give (get_or gs k ([], end)) ∷ map give (drop i gs)) (sym (add-one k))
 
-  module _ (vs : Words) (o : Adding) (a : Gives give us vs n (from + 1282 * k) o) where
+  module _ (vs : Words) (o : Verdict) (a : Gives give us vs n (from + 1282 * k) o) where
     frame : Adds us vs n (give (get_or row.results k ([], end))) o
     frame = a.at (get_or row.results k ([], end)) (still row.results row.size row.slots)
 
-    pub gathering_more : o ≡ Added → Gathering give ws vs from n₀ (n + 1) m (k + 1)
+    pub gathering_more : o ≡ Ok tt → Gathering give ws vs from n₀ (n + 1) m (k + 1)
     gathering_more e = record {
       len = frame.len ∙ g.len;
       few = omega (arith, frame.few e);
@@ -97,9 +97,9 @@ module _ (give : Result → Result) (ws us : Words) (from n₀ n m k : ℕ) (beh
               same = q.same ∙ ap (add_results q.results) (next gs d) ∙ h.goes e (map give (drop (k + 1) gs));
             }
 
-    pub gathering_stops : (number count : ℕ) → o ≡ Denied number → Gathers give ws vs n₀ from m count (Refused number count)
+    pub gathering_stops : (refusal : Refusal) (number count : ℕ) → o ≡ Err refusal → number ≡ number_of refusal → Gathers give ws vs n₀ from m count (Refused number count)
     unfolding within
-    gathering_stops number count e = record {
+    gathering_stops refusal number count e z = record {
       len = frame.len ∙ g.len;
       low = λ i l. frame.low i l ∙ g.low i l;
       high = λ i l. frame.high i l ∙ g.high i l;
@@ -107,7 +107,7 @@ module _ (give : Result → Result) (ws us : Words) (from n₀ n m k : ℕ) (beh
           let q = g.at fs gs p d s t in
           let x = get_or gs k ([], end) in
           let h = (a.at x (still gs d t)).at q.results q.size q.stand in
-          answers_refused _ number count vs (ap (λ r. within over r count) (q.same ∙ ap (add_results q.results) (next gs d) ∙ h.stops number e (map give (drop (k + 1) gs))));
+          answers_refused _ number count vs (ap (λ r. within over r count) (q.same ∙ ap (add_results q.results) (next gs d) ∙ h.stops refusal e (map give (drop (k + 1) gs)) ∙ ap stop (sym z)));
     }
 
 drop_all : (k : ℕ) (gs : List Result) → length gs ≤ k → drop k gs ≡ []
@@ -141,17 +141,17 @@ module _ (ws us : Words) (e from n₀ n m k : ℕ) (el : Element ws e) (behind-a
   step : (x : Result) → Slot ws e x → Gathering (behind x.1) ws us from n₀ n m k → Slot us e x
   step x s h = slot_kept ws us e x h.len (λ i p q. h.high i (omega arith)) s
 
-  pub joining_more : (vs : Words) (o : Adding) → 6410 ≤ from → Row ws from m → k < m → Joins us vs n e (from + 1282 * k) o → o ≡ Added → JoinGathering ws vs e from n₀ (n + 1) m (k + 1)
+  pub joining_more : (vs : Words) (o : Verdict) → 6410 ≤ from → Row ws from m → k < m → Joins us vs n e (from + 1282 * k) o → o ≡ Ok tt → JoinGathering ws vs e from n₀ (n + 1) m (k + 1)
   joining_more vs o b row more j d = record {
     at = λ x s one. let h = g.at x s one in gathering_more (behind x.1) ws us from n₀ n m k b row h more vs o (j.at x (step x s h) one) d;
   }
 
-  pub joining_few : (vs : Words) (o : Adding) → 6410 ≤ from → Row ws from m → k < m → Joins us vs n e (from + 1282 * k) o → o ≡ Added → n + 1 ≤ 4
+  pub joining_few : (vs : Words) (o : Verdict) → 6410 ≤ from → Row ws from m → k < m → Joins us vs n e (from + 1282 * k) o → o ≡ Ok tt → n + 1 ≤ 4
   joining_few vs o b row more j d = ((joining_more vs o b row more j d).at el.result el.slot el.one).few
 
-  pub joining_stops : (vs : Words) (o : Adding) (number count : ℕ) → 6410 ≤ from → Row ws from m → k < m → Joins us vs n e (from + 1282 * k) o → o ≡ Denied number → JoinGathers ws vs n₀ e from m count (Refused number count)
-  joining_stops vs o number count b row more j d = record {
-    at = λ x s one. let h = g.at x s one in gathering_stops (behind x.1) ws us from n₀ n m k b row h more vs o (j.at x (step x s h) one) number count d;
+  pub joining_stops : (vs : Words) (o : Verdict) (refusal : Refusal) (number count : ℕ) → 6410 ≤ from → Row ws from m → k < m → Joins us vs n e (from + 1282 * k) o → o ≡ Err refusal → number ≡ number_of refusal → JoinGathers ws vs n₀ e from m count (Refused number count)
+  joining_stops vs o refusal number count b row more j d z = record {
+    at = λ x s one. let h = g.at x s one in gathering_stops (behind x.1) ws us from n₀ n m k b row h more vs o (j.at x (step x s h) one) refusal number count d z;
   }
 
 pub joining_none : (ws : Words) (e from n m : ℕ) → n ≤ 4 → JoinGathering ws ws e from n n m 0

@@ -6,12 +6,13 @@ ghost use Rattle.std.specs.Prelude.{◌≡◌, ◌+◌, ◌*◌, ◌<◌, ◌≤
 ghost use Rattle.rules.specs.Sheet.{at};
 ghost use Rattle.rules.specs.Search.{end, leaf};
 ghost use Rattle.table.specs.Packing.{types_of, Packed};
-ghost use Rattle.trees.specs.Carries.{Carries, Clear};
 ghost use Rattle.slots.specs.Slots.{Slot, Slots, Written};
 ghost use Rattle.slots.specs.Copies.{Beside, Filled, Tabled, Doubles};
 ghost use Rattle.slots.specs.Adding.{Aside, Adds, Gives, plain, under, Element, Joined, Joins};
 ghost use Rattle.slots.specs.Gathering.{Row, Gathers, JoinGathers};
 ghost use Rattle.slots.specs.Settling.{Sub, Settles, JoinSettles};
+
+use refusals::Refusal;
 
 // The words of a slot, and where its trees stand in it.
 pub const SLOT: usize = 1282;
@@ -23,32 +24,11 @@ const NODES: usize = 256;
 
 const RESULTS: usize = 4;
 
-// A result is added to those of a question, or refused with 16 or 17.
-#[derive(Clone, Copy)]
-pub enum Adding {
-    Added,
-    Refused { number: u32 },
-}
-
 // What a search answers: so many results, or a refusal; with the count of steps.
 #[derive(Clone, Copy)]
 pub enum Asked {
     Found { count: u32, n: usize },
     Refused { number: u32, count: u32 },
-}
-
-// Carries n words, upwards or to a place apart.
-fn carry(ws: &mut [u32], a: usize, b: usize, n: usize)
-    requires n_in_bounds { a + n ≤ length ws.old }
-    requires n_in_bounds_2 { b + n ≤ length ws.old }
-    requires clear { Clear a b n }
-    ensures { Carries ws.old ws.old ws.new a b n }
-{
-    let mut i = n;
-    while i != 0 {
-        i -= 1;
-        ws[b + i] = ws[a + i];
-    }
 }
 
 // How many nodes the table at a place has.
@@ -69,7 +49,7 @@ fn copy_table(ws: &mut [u32], from: usize, to: usize)
     ensures { Tabled ws.old ws.new from to }
 {
     let n = nodes(ws, from);
-    carry(ws, from, to, 4 * n + 1)
+    trees::carry_within(ws, from, to, 4 * n + 1)
 }
 
 // Copies a table to another slot, without trees.
@@ -104,21 +84,21 @@ fn trees_size(ws: &[u32], a: usize) -> usize
 }
 
 // Adds a result, as it stands in a slot, behind n.
-pub fn add_result(ws: &mut [u32], n: usize, from: usize) -> Adding
+pub fn add_result(ws: &mut [u32], n: usize, from: usize) -> Result<(), Refusal>
     requires n_bound { n ≤ 4 }
     requires le_from { 6410 ≤ from }
     requires filled { Filled ws.old from }
     ensures { Gives plain ws.old ws.new n from result }
 {
     if n == RESULTS {
-        return Adding::Refused { number: 16 };
+        return Err(Refusal::ResultsFull);
     }
     copy_slot(ws, from, SLOT + SLOT * n);
-    Adding::Added
+    Ok(())
 }
 
 // Adds a result of sub-questions behind n, under the Def of an impl.
-pub fn add_wrapped(ws: &mut [u32], n: usize, from: usize, id: u32) -> Adding
+pub fn add_wrapped(ws: &mut [u32], n: usize, from: usize, id: u32) -> Result<(), Refusal>
     requires n_bound { n ≤ 4 }
     requires le_from { 6410 ≤ from }
     requires filled { Filled ws.old from }
@@ -126,15 +106,15 @@ pub fn add_wrapped(ws: &mut [u32], n: usize, from: usize, id: u32) -> Adding
     ensures { Gives (under id) ws.old ws.new n from result }
 {
     if n == RESULTS {
-        return Adding::Refused { number: 16 };
+        return Err(Refusal::ResultsFull);
     }
     if NODES <= trees_size(ws, from) {
-        return Adding::Refused { number: 17 };
+        return Err(Refusal::TreesFull);
     }
     let to = SLOT + SLOT * n;
     copy_slot(ws, from, to);
     trees::wrap(ws, to + TREES, id);
-    Adding::Added
+    Ok(())
 }
 
 // Writes to a slot the types of one result and its trees behind the tree of another.
@@ -153,7 +133,7 @@ fn join(ws: &mut [u32], element: usize, from: usize, to: usize)
 }
 
 // Adds a result of the sub-questions that are left behind n: its trees behind the tree of the element that they were asked of.
-pub fn add_joined(ws: &mut [u32], n: usize, element: usize, from: usize) -> Adding
+pub fn add_joined(ws: &mut [u32], n: usize, element: usize, from: usize) -> Result<(), Refusal>
     requires n_bound { n ≤ 4 }
     requires le_element { 6410 ≤ element }
     requires le_from { 6410 ≤ from }
@@ -162,19 +142,19 @@ pub fn add_joined(ws: &mut [u32], n: usize, element: usize, from: usize) -> Addi
     ensures { Joins ws.old ws.new n element from result }
 {
     if n == RESULTS {
-        return Adding::Refused { number: 16 };
+        return Err(Refusal::ResultsFull);
     }
     let first = trees_size(ws, element);
     let rest = trees_size(ws, from);
     if NODES < first + rest {
-        return Adding::Refused { number: 17 };
+        return Err(Refusal::TreesFull);
     }
     join(ws, element, from, SLOT + SLOT * n);
-    Adding::Added
+    Ok(())
 }
 
 // Adds the types that stand in a slot with a leaf behind n.
-pub fn add_leaf(ws: &mut [u32], n: usize, from: usize, kind: u32, id: u32) -> Adding
+pub fn add_leaf(ws: &mut [u32], n: usize, from: usize, kind: u32, id: u32) -> Result<(), Refusal>
     requires n_bound { n ≤ 4 }
     requires packed { Packed (drop from ws.old) }
     requires aside { Aside from n }
@@ -184,12 +164,12 @@ pub fn add_leaf(ws: &mut [u32], n: usize, from: usize, kind: u32, id: u32) -> Ad
     ensures { Adds ws.old ws.new n (types_of (drop from ws.old), leaf kind id) result }
 {
     if n == RESULTS {
-        return Adding::Refused { number: 16 };
+        return Err(Refusal::ResultsFull);
     }
     let to = SLOT + SLOT * n;
     copy_table(ws, from, to);
     trees::put_leaf(ws, to + TREES, kind, id);
-    Adding::Added
+    Ok(())
 }
 
 // Adds m results of sub-questions behind n, each under the Def of an impl.
@@ -204,23 +184,18 @@ fn gather_wrapped(ws: &mut [u32], n: usize, from: usize, m: usize, count: u32, i
     ensures { Gathers (under id) ws.old ws.new n from m count result }
 {
     let mut found = n;
-    let mut k = 0;
-    while k < m {
-        let one = add_wrapped(ws, found, from + SLOT * k, id);
-        match one {
-            Adding::Refused { number } => {
-                return Asked::Refused { number, count };
-            }
-            Adding::Added => {
-                found += 1;
-            }
+    for k in 0..m {
+        if let Err(refusal) = add_wrapped(ws, found, from + SLOT * k, id) {
+            let number = refusal.number();
+            return Asked::Refused { number, count };
         }
-        k += 1;
+        found += 1;
     }
     Asked::Found { count, n: found }
 }
 
 // Adds m results of the sub-questions that are left behind n, each behind the tree of the element that they were asked of.
+// (One function for both ways to add, with a closure, would have to say that the element still stands at each call: no plainer.)
 fn gather_joined(
     ws: &mut [u32],
     n: usize,
@@ -240,18 +215,12 @@ fn gather_joined(
     ensures { JoinGathers ws.old ws.new n element from m count result }
 {
     let mut found = n;
-    let mut k = 0;
-    while k < m {
-        let one = add_joined(ws, found, element, from + SLOT * k);
-        match one {
-            Adding::Refused { number } => {
-                return Asked::Refused { number, count };
-            }
-            Adding::Added => {
-                found += 1;
-            }
+    for k in 0..m {
+        if let Err(refusal) = add_joined(ws, found, element, from + SLOT * k) {
+            let number = refusal.number();
+            return Asked::Refused { number, count };
         }
-        k += 1;
+        found += 1;
     }
     Asked::Found { count, n: found }
 }

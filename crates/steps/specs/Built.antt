@@ -1,5 +1,5 @@
 -- Where no sub-questions are left, and built-in fork and drop: what the code leaves.
-use Rattle.std.specs.Prelude.{ℕ, ◌+◌, ◌*◌, ◌≤◌, ◌<◌, ◌≡◌, refl, ltb, length, take, drop}
+use Rattle.std.specs.Prelude.{ℕ, ◌+◌, ◌*◌, ◌≤◌, ◌<◌, ◌≡◌, refl, ltb, length, take, drop, Option, Some, None, Ok, Err}
 use Rattle.std.proofs.Common.{sym, ◌∙◌, inl, arith, length-append, length-take-le}
 use Rattle.std.proofs.Math.Path.{ap, subst}
 use mathlib.Core.List.{List, [], ◌∷◌, ◌++◌, map}
@@ -9,20 +9,19 @@ use Rattle.rules.specs.Layout.{header_duplicate, header_erase}
 use Rattle.rules.specs.Types.{Types, ImplType}
 use Rattle.rules.specs.Slim.{Slim}
 use Rattle.rules.specs.Transfer.{type_of_word}
-use Rattle.rules.specs.Run.{Run, done, within}
+use Rattle.rules.specs.Run.{Run, done, stop, within}
 use Rattle.rules.specs.Search.{Trees, end, leaf, Result, add_results, find_subimpls, find_auto_impls}
 use Rattle.table.specs.Packing.{types_of}
-use Rattle.auto.specs.declared.Auto.{Auto}
-use Rattle.auto.specs.declared.Auto.TheVariants.{Nothing, Leaf}
+use Rattle.auto.specs.declared.Leaf.{Leaf}
 use Rattle.auto.specs.Built.{leaves}
 use Rattle.auto.specs.Fits.{leaf_fits}
-use Rattle.slots.specs.declared.Adding.{Adding}
-use Rattle.slots.specs.declared.Adding.TheVariants.{Added, Refused as Denied}
+use Rattle.refusals.specs.declared.Refusal.{Refusal}
+use Rattle.refusals.specs.Numbers.{number_of}
 use Rattle.slots.specs.declared.Asked.{Asked}
 use Rattle.slots.specs.declared.Asked.TheVariants.{Found, Refused}
 use Rattle.slots.specs.Slots.{Slot, Written, slots_none, slots_more}
 use Rattle.slots.specs.Copies.{Beside}
-use Rattle.slots.specs.Adding.{Adds}
+use Rattle.slots.specs.Adding.{Verdict, Adds}
 use Rattle.slots.specs.Turns.{Answers, answers_refused, answers_found, Stepped}
 use Rattle.queries.specs.declared.Query.{Query}
 use Rattle.queries.specs.Queries.{four, query_of}
@@ -53,7 +52,7 @@ pub record LeafStep (ws : Words) (n from k i count : ℕ) (r : Asked) (out : Wor
   pub high : (j : ℕ) → 6410 ≤ j → at out j ≡ at ws j
   pub at : (L : ℕ) → Stepped L (λ fs. add_results fs ((types_of (drop from ws), leaf k i) ∷ [])) n count ws r out
 
-pub leaf_added : (ws out : Words) (n from k i count : ℕ) (o : Adding) → Adds ws out n (types_of (drop from ws), leaf k i) o → o ≡ Added → count ≤ 4000000000 → LeafStep ws n from k i count (Found count (n + 1)) out
+pub leaf_added : (ws out : Words) (n from k i count : ℕ) (o : Verdict) → Adds ws out n (types_of (drop from ws), leaf k i) o → o ≡ Ok tt → count ≤ 4000000000 → LeafStep ws n from k i count (Found count (n + 1)) out
 unfolding within add_results
 leaf_added ws out n from k i count o a e low = record {
   len = a.len;
@@ -67,13 +66,13 @@ leaf_added ws out n from k i count o a e low = record {
   };
 }
 
-pub leaf_refused : (ws out : Words) (n from k i count m : ℕ) (o : Adding) → Adds ws out n (types_of (drop from ws), leaf k i) o → o ≡ Denied m → LeafStep ws n from k i count (Refused m count) out
+pub leaf_refused : (ws out : Words) (n from k i count m : ℕ) (o : Verdict) (refusal : Refusal) → Adds ws out n (types_of (drop from ws), leaf k i) o → o ≡ Err refusal → m ≡ number_of refusal → LeafStep ws n from k i count (Refused m count) out
 unfolding within
-leaf_refused ws out n from k i count m o a e = record {
+leaf_refused ws out n from k i count m o refusal a e z = record {
   len = a.len;
   low = a.low;
   high = a.high;
-  at = λ L. record { at = λ fs p s. answers_refused _ m count out (ap (λ r. within (ltb L) r count) ((a.at fs p s).stops m e [])) };
+  at = λ L. record { at = λ fs p s. answers_refused _ m count out (ap (λ r. within (ltb L) r count) ((a.at fs p s).stops refusal e [] ∙ ap stop (sym z))) };
 }
 
 -- Built-in fork and drop are added behind no results; slot 0 and what lies behind slot 4 is as it was.
@@ -93,16 +92,16 @@ pub record SmallIds (s : Words) (ts : Types) : Type 0 where
 pub four-length : (xs : Words) (n : ℕ) → n ≤ 4 → n ≡ length (take n (four xs))
 four-length xs n h = sym (length-take-le n (four xs) h)
 
-module _ (s ws : Words) (q : Query) (o : Auto) (e : leaves o ≡ find_auto_impls s (types_of ws) (q.tr, map type_of_word (take q.n (four q.args)))) where
-  pub auto_fits_kind : (k i : ℕ) → o ≡ Leaf k i → SmallIds s (types_of ws) → k < 8
+module _ (s ws : Words) (q : Query) (o : Option Leaf) (e : leaves o ≡ find_auto_impls s (types_of ws) (q.tr, map type_of_word (take q.n (four q.args)))) where
+  pub auto_fits_kind : (l : Leaf) → o ≡ Some l → SmallIds s (types_of ws) → l.kind < 8
   unfolding query_of
-  auto_fits_kind k i l h = (leaf_fits s (types_of ws) (query_of q) k i (ap leaves (sym l) ∙ e) h.duplicate h.erase h.closures).0
+  auto_fits_kind l p h = (leaf_fits s (types_of ws) (query_of q) l (ap leaves (sym p) ∙ e) h.duplicate h.erase h.closures).0
 
-  pub auto_fits_id : (k i : ℕ) → o ≡ Leaf k i → SmallIds s (types_of ws) → i < 4096
+  pub auto_fits_id : (l : Leaf) → o ≡ Some l → SmallIds s (types_of ws) → l.id < 4096
   unfolding query_of
-  auto_fits_id k i l h = (leaf_fits s (types_of ws) (query_of q) k i (ap leaves (sym l) ∙ e) h.duplicate h.erase h.closures).1
+  auto_fits_id l p h = (leaf_fits s (types_of ws) (query_of q) l (ap leaves (sym p) ∙ e) h.duplicate h.erase h.closures).1
 
-  pub auto_none : (count : ℕ) → o ≡ Nothing → count ≤ 4000000000 → Autos s ws (query_of q) count (Found count 0) ws
+  pub auto_none : (count : ℕ) → o ≡ None → count ≤ 4000000000 → Autos s ws (query_of q) count (Found count 0) ws
   unfolding query_of leaves within add_results
   auto_none count n low = record {
     len = refl;
@@ -113,11 +112,11 @@ module _ (s ws : Words) (q : Query) (o : Auto) (e : leaves o ≡ find_auto_impls
     };
   }
 
-  pub auto_one : (k i count : ℕ) (r : Asked) (out : Words) → o ≡ Leaf k i → LeafStep ws 0 0 k i count r out → Autos s ws (query_of q) count r out
+  pub auto_one : (l : Leaf) (count : ℕ) (r : Asked) (out : Words) → o ≡ Some l → LeafStep ws 0 0 l.kind l.id count r out → Autos s ws (query_of q) count r out
   unfolding query_of leaves
-  auto_one k i count r out l a = record {
+  auto_one l count r out p a = record {
     len = a.len;
     low = a.low;
     high = a.high;
-    at = λ L. subst (λ (ts : List Trees). Stepped L (λ fs. add_results fs (map (λ (t : Trees). (types_of ws, t)) ts)) 0 count ws r out) (ap leaves (sym l) ∙ e) (a.at L);
+    at = λ L. subst (λ (ts : List Trees). Stepped L (λ fs. add_results fs (map (λ (t : Trees). (types_of ws, t)) ts)) 0 count ws r out) (ap leaves (sym p) ∙ e) (a.at L);
   }

@@ -23,11 +23,11 @@ ghost use Rattle.steps.specs.Params.{ParamStep, ParamsStep};
 ghost use Rattle.steps.specs.Candidate.{Fitted, NoneNeeded, Seeks, PartOpens};
 ghost use Rattle.steps.specs.Next.{NextId};
 
-use admitted::{Candidate, Found};
-use auto::Auto;
+use admitted::Found;
 use opening::Signed;
 use queries::{Queries, Query};
-use slots::{Adding, Asked};
+use refusals::Refusal;
+use slots::Asked;
 
 // What a search keeps: its source and generics, and the step limit.
 #[derive(Clone, Copy)]
@@ -87,11 +87,11 @@ fn leaf_step(ws: &mut [u32], n: usize, from: usize, kind: u32, id: u32, count: u
     requires count_bound { count ≤ 4000000000 }
     ensures { LeafStep ws.old n from kind id count result ws.new }
 {
-    let one = slots::add_leaf(ws, n, from, kind, id);
-    match one {
-        Adding::Refused { number } => Asked::Refused { number, count },
-        Adding::Added => Asked::Found { count, n: n + 1 },
+    if let Err(refusal) = slots::add_leaf(ws, n, from, kind, id) {
+        let number = refusal.number();
+        return Asked::Refused { number, count };
     }
+    Asked::Found { count, n: n + 1 }
 }
 
 // Built-in fork and drop: adds what `find_auto_impls` finds.
@@ -107,8 +107,8 @@ fn add_autos(sheet: &[u32], ws: &mut [u32], q: Query, count: u32) -> Asked
     let n = q.n;
     let found = auto::find_auto_impls(sheet, ws, q.tr, &args[..n]);
     match found {
-        Auto::Nothing => Asked::Found { count, n: 0 },
-        Auto::Leaf { kind, id } => leaf_step(ws, 0, 0, kind, id, count),
+        None => Asked::Found { count, n: 0 },
+        Some(leaf) => leaf_step(ws, 0, 0, leaf.kind, leaf.id, count),
     }
 }
 
@@ -486,7 +486,7 @@ pub fn find_candidates(
     f: Finder,
     basic: u32,
     q: Query,
-) -> Found
+) -> Result<Found, Refusal>
     requires stands { Stands sheet.now f.source (sets_of sets.now) }
     requires in_bounds { 34948 ≤ length sets.now }
     requires n_bound { q.n ≤ 4 }
@@ -502,13 +502,8 @@ pub fn next_id(s: &[u32], sets: &[u32], f: Found, from: usize) -> usize
     requires indexes { Indexes s.now (sets_of sets.now) }
     requires in_bounds { 34948 ≤ length sets.now }
     requires header_impls_bound { many s.now header_impls ≤ 384 }
-    requires n_bound { f.n ≤ 6 }
-    requires basic_bound { f.basic < 2 }
+    requires n_bound { f.nodes.n ≤ 6 }
     ensures { NextId s.now (sets_of sets.now) f from result }
 {
-    let one = admitted::next(s, &sets[..SETS], f, from);
-    match one {
-        Candidate::Impl { id } => id,
-        Candidate::End => NONE,
-    }
+    admitted::next(s, &sets[..SETS], f, from).unwrap_or(NONE)
 }

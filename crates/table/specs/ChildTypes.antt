@@ -160,6 +160,10 @@ known_in ws n known = inside ws n (kind_at (types_of ws) n) refl known
 pub known_place : (ws : Words) (n m w k : ℕ) → Packed ws → kind_at (types_of ws) n ≢ 0 → m ≡ n → w ≡ 4 * m → k ≤ 4 → w + k < length ws
 known_place ws n m w k p known e ew h = omega (arith, p.long, known_in ws n known, types_few ws)
 
+-- Its four words are there.
+pub known_words : (ws : Words) (n : ℕ) → Packed ws → kind_at (types_of ws) n ≢ 0 → 4 * n + 4 < length ws
+known_words ws n p known = known_place ws n n (4 * n) 4 p known refl refl (omega arith)
+
 -- h is the head of known node n.
 pub own_row : (ws : Words) (n m h v : ℕ) → kind_at (types_of ws) n ≢ 0 → m ≡ n → h ≡ at ws (4 * m + 1) → OwnArity h n v → ChildTypes ws n (row_at ws n v)
 unfolding types_at

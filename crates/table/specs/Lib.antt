@@ -7,3 +7,4 @@ pub mod Copies
 pub mod Joins
 pub mod ChildTypes
 pub mod Alike
+pub mod Pushed

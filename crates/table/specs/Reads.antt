@@ -8,6 +8,8 @@ use Rattle.std.proofs.Math.Logic.{⊎_elim}
 use Rattle.std.proofs.Math.Decide.{ℕ_discrete}
 use native.Mathlib.Omega.{arith}
 use Rattle.std.proofs.Math.ListN.{length, get_or, take, length-take, get_or-eq_default}
+use Rattle.std.specs.Int.Bits.{bit_xor, xor_add_and, xor_zero_r}
+use Rattle.std.proofs.lemmas.Nat.{and_mask}
 use Rattle.rules.specs.Lists.{Words, bit}
 use Rattle.rules.specs.Sheet.{at}
 use Rattle.rules.specs.Types.{Ty, unknown, known, Types, new_node, node_at, xor, state_at, size_at, invert_if, find}
@@ -30,6 +32,9 @@ count_low ws n e h = omega (arith, types_length ws)
 
 pub count_high : (ws : Words) (n : ℕ) → n ≡ at ws 0 → 256 ≤ n → 256 ≡ length (types_of ws)
 count_high ws n e h = omega (arith, types_length ws)
+
+pub count_min : (ws : Words) (n : ℕ) → n ≡ at ws 0 → min n 256 ≡ length (types_of ws)
+count_min ws n e = ap (λ k. min k 256) e ∙ sym (types_length ws)
 
 -- c is the count, and w the head of node n.
 module _ (ws : Words) (n c w : ℕ) (ec : c ≡ length (types_of ws)) (h : n < c) (e : w ≡ at ws (4 * n + 1)) where
@@ -151,6 +156,10 @@ module _ (ws : Words) (n k : ℕ) (ek : k ≡ kind_at (types_of ws) n) where
     pub arity-most : (m : ℕ) → w ≡ at ws (4 * n + 1) → m ≡ w / 32 % 16 → 8 ≤ m → 8 ≡ length (children_at (types_of ws) n)
     arity-most m e q l = omega (arith, arity_is e)
 
+-- So the lower of the two is its count.
+pub arity_min : (ws : Words) (n k w : ℕ) → k ≡ kind_at (types_of ws) n → k ≢ 0 → w ≡ at ws (4 * n + 1) → min 8 (w / 32 % 16) ≡ length (children_at (types_of ws) n)
+arity_min ws n k w ek z e = omega (arith, arity_is ws n k ek z w e)
+
 -- No node has more children than eight.
 pub children-most : (ws : Words) (n : ℕ) → length (children_at (types_of ws) n) ≤ 8
 children-most ws n = elim (ℕ_discrete (kind_at (types_of ws) n) 0) [
@@ -236,6 +245,14 @@ module _ (b : Bool) (t : ℕ) where
   pub invert_not : b ≡ false → t ≡ word_of_type (invert_if b (type_of_word t))
   unfolding invert_if
   invert_not e = sym (ap (λ c. word_of_type (invert_if c (type_of_word t))) e ∙ word_type t)
+
+-- The lowest bit of a type word is its inversion.
+pub invert_bit : (b : Bool) (t : ℕ) → bit_xor t (bit b) ≡ word_of_type (invert_if b (type_of_word t))
+invert_bit true t = elim (ℕ_discrete (t % 2) 1) [
+  | yes o ↦ (let q : bit_xor t 1 ≡ t - 1 = omega (arith, xor_add_and t 1, and_mask t 1) in q ∙ invert_odd true t refl o)
+  | no o ↦ (let q : bit_xor t 1 ≡ t + 1 = omega (arith, xor_add_and t 1, and_mask t 1) in q ∙ invert_even true t refl o)
+]
+invert_bit false t = xor_zero_r t ∙ invert_not false t refl
 
 pub root_half : (ts : Types) (n u : ℕ) → u ≡ word_of_type (up_at ts n) → u / 2 ≡ rep ts n
 unfolding up_at rep word_of_type

@@ -2,7 +2,7 @@
 // Types cross functions as type words: 2 * node, plus 1 if inverted.
 #![tactic(auto)]
 
-ghost use Rattle.std.specs.Prelude.{◌≡◌, false, ◌+◌, ◌*◌, ◌/◌, ◌%◌, ◌<◌, ◌≤◌, length, get_or, set, [], map, ◌≢◌, eqb};
+ghost use Rattle.std.specs.Prelude.{◌≡◌, false, ◌+◌, ◌*◌, ◌/◌, ◌%◌, ◌<◌, ◌≤◌, length, get_or, set, [], map, ◌≢◌, eqb, MatchResult};
 ghost use Rattle.rules.specs.Sheet.{at};
 ghost use Rattle.rules.specs.Lists.{bit};
 ghost use Rattle.rules.specs.Types.{unknown, known, new_node, node_at, xor as xor_of, invert_if, invert_state, find as find_in, state_at, size_at, relabel, or_else, hang as hang_in, join as join_in};
@@ -16,7 +16,10 @@ ghost use Rattle.table.specs.Packing.{table_length, types_of, node_from, with_he
 ghost use Rattle.table.specs.Writes.{triple, last};
 ghost use Rattle.table.specs.Joins.{moved, root_node};
 ghost use Rattle.table.specs.Alike.{Matched, Alike};
+ghost use Rattle.table.specs.Pushed.{pushed_number};
 ghost use Rattle.table.specs.ChildTypes.{type_in, types_row, types_at, row_at, OwnArity, ChildTypes};
+
+use refusals::Refusal;
 
 // The words of a table of the most nodes, and its most nodes.
 pub const TABLE: usize = 1025;
@@ -37,25 +40,18 @@ const MORE_CHILDREN: usize = 3;
 
 const LAST_CHILDREN: usize = 4;
 
-fn wide(w: u32) -> usize
-    ensures { result ≡ w }
-{
-    w as usize
-}
-
 // Word k of node n.
 fn field(ws: &[u32], n: u32, k: usize) -> u32
     ensures { result ≡ at ws.now (4 * n + k) }
 {
-    words::offset(ws, NODE * wide(n), k)
+    words::offset(ws, NODE * n as usize, k)
 }
 
 // How many nodes there are.
 pub fn count(ws: &[u32]) -> u32
     ensures { result ≡ length (types_of ws.now) }
 {
-    let n = words::word(ws, 0);
-    if n < NODES { n } else { NODES }
+    words::word(ws, 0).min(NODES)
 }
 
 // Which type of its root node n is.
@@ -103,11 +99,7 @@ pub fn kind_of(ws: &[u32], n: u32) -> u32
 pub fn inverted_of(ws: &[u32], n: u32) -> bool
     ensures { result ≡ inverted_at (types_of ws.now) n }
 {
-    if kind_of(ws, n) == 0 {
-        false
-    } else {
-        field(ws, n, HEAD) / 16 % 2 == 1
-    }
+    kind_of(ws, n) != 0 && field(ws, n, HEAD) / 16 % 2 == 1
 }
 
 // The id of node n; 0 where it is unknown.
@@ -115,14 +107,13 @@ pub fn id_of(ws: &[u32], n: u32) -> u32
     ensures { result ≡ id_at (types_of ws.now) n }
 {
     if kind_of(ws, n) == 0 {
-        0
+        return 0;
+    }
+    let z = field(ws, n, LAST_CHILDREN);
+    if field(ws, n, HEAD) / 32 % 16 == 0 {
+        z
     } else {
-        let z = field(ws, n, LAST_CHILDREN);
-        if field(ws, n, HEAD) / 32 % 16 == 0 {
-            z
-        } else {
-            z / 262144
-        }
+        z / 262144
     }
 }
 
@@ -131,25 +122,20 @@ pub fn child_count(ws: &[u32], n: u32) -> usize
     ensures { result ≡ length (children_at (types_of ws.now) n) }
 {
     if kind_of(ws, n) == 0 {
-        0
-    } else {
-        let m = wide(field(ws, n, HEAD) / 32 % 16);
-        if m < MOST { m } else { MOST }
+        return 0;
     }
+    let m = field(ws, n, HEAD) / 32 % 16;
+    MOST.min(m as usize)
 }
 
 // The j-th of three type words in a word.
 fn digit_of(j: usize, w: u32) -> u32
     ensures { result ≡ digit j w }
 {
-    if j == 0 {
-        w % 512
-    } else {
-        if j == 1 {
-            w / 512 % 512
-        } else {
-            w / 262144 % 512
-        }
+    match j {
+        0 => w % 512,
+        1 => w / 512 % 512,
+        _ => w / 262144 % 512,
     }
 }
 
@@ -177,7 +163,7 @@ fn type_read(ws: &[u32], t: u32) -> u32
     requires t_bound { t < 512 }
     ensures { result ≡ word_of_type (type_in ws.now (type_of_word t)) }
 {
-    let u = ws[NODE * wide(t / 2) + HEAD] / 512 % 512;
+    let u = ws[NODE * (t / 2) as usize + HEAD] / 512 % 512;
     u / 2 * 2 + (u + t) % 2
 }
 
@@ -206,17 +192,18 @@ fn own_arity(h: u32, n: u32) -> usize
     if h / 1024 % 256 != n {
         return 9;
     }
-    let m = wide(h / 32 % 16);
+    let m = (h / 32 % 16) as usize;
     if m <= MOST { m } else { 9 }
 }
 
 // The types of roots that the children of known node n are, read without tests; not told where the node is not its own root.
+#[tactic(auto, using(crate::specs::ChildTypes::known_words))]
 pub fn child_types(ws: &[u32], n: u32) -> Row
     requires packed { Packed ws.now }
     requires n_nonzero { kind_at (types_of ws.now) n ≢ 0 }
     ensures { ChildTypes ws.now n result }
 {
-    let w = NODE * wide(n);
+    let w = NODE * n as usize;
     let m = own_arity(ws[w + HEAD], n);
     types_read(
         ws,
@@ -228,12 +215,13 @@ pub fn child_types(ws: &[u32], n: u32) -> Row
 }
 
 // How many children known node n has; 9 where it is not its own root.
+#[tactic(auto, using(crate::specs::ChildTypes::known_words))]
 pub fn own_children(ws: &[u32], n: u32) -> usize
     requires packed { Packed ws.now }
     requires n_nonzero { kind_at (types_of ws.now) n ≢ 0 }
     ensures { ChildTypes ws.now n (row_at ws.now n result) }
 {
-    own_arity(ws[NODE * wide(n) + HEAD], n)
+    own_arity(ws[NODE * n as usize + HEAD], n)
 }
 
 // The type of a root that child j of node n is, read without tests.
@@ -243,7 +231,7 @@ pub fn child_type(ws: &[u32], n: u32, j: usize) -> u32
     requires j_bound { j < 8 }
     ensures { result ≡ at (types_at ws.now n) j }
 {
-    let w = ws[NODE * wide(n) + (CHILDREN + j / 3)];
+    let w = ws[NODE * n as usize + (CHILDREN + j / 3)];
     type_read(ws, digit_of(j % 3, w))
 }
 
@@ -256,14 +244,9 @@ pub fn is_inverted(t: u32) -> bool
 
 // `invert_if`.
 pub fn invert_if(inverted: bool, t: u32) -> u32
-    requires { t < 4294967294 }
     ensures { result ≡ word_of_type (invert_if inverted (type_of_word t)) }
 {
-    if inverted {
-        if t % 2 == 1 { t - 1 } else { t + 1 }
-    } else {
-        t
-    }
+    t ^ u32::from(inverted)
 }
 
 // Whether children j of nodes x and y are of one root and side, that of y inverted or not, read without tests.
@@ -285,14 +268,12 @@ pub fn next_apart(ws: &[u32], x: u32, y: u32, i: usize, m: usize, inverted: bool
     requires cases { Matched (types_of ws.now) x y m }
     ensures { Alike (types_of ws.now) x y inverted i m result }
 {
-    let mut j = i;
-    while j < m {
+    for j in i..m {
         if !are_alike(ws, x, y, j, inverted) {
             return j;
         }
-        j += 1;
     }
-    j
+    i.max(m)
 }
 
 // `find`: the type of a root that a type is.
@@ -308,7 +289,7 @@ fn put(ws: &mut [u32], n: u32, h: u32, x: u32, y: u32, z: u32)
     requires table_length_in_bounds { table_length ≤ length ws.old }
     ensures { Put ws.old ws.new n (node_from h x y z) }
 {
-    let w = wide(n);
+    let w = n as usize;
     ws[NODE * w + HEAD] = h;
     ws[NODE * w + CHILDREN] = x;
     ws[NODE * w + MORE_CHILDREN] = y;
@@ -321,8 +302,7 @@ fn put_head(ws: &mut [u32], n: u32, h: u32)
     requires table_length_in_bounds { table_length ≤ length ws.old }
     ensures { Put ws.old ws.new n (with_head h ws.old n) }
 {
-    let w = wide(n);
-    ws[NODE * w + HEAD] = h;
+    ws[NODE * n as usize + HEAD] = h;
 }
 
 // A head from its fields: the kind, inverted or not, how many children, which type of its root a node is, the size of its class.
@@ -335,13 +315,6 @@ fn head(kind: u32, inverted: u32, arity: u32, up: u32, size: u32) -> u32
     ensures { Head result kind up size arity (eqb inverted 1) }
 {
     kind + 16 * inverted + (32 * arity + 512 * (up + 512 * size))
-}
-
-fn bit_of(b: bool) -> u32
-    ensures is { result ≡ bit b }
-    ensures small { result ≤ 1 }
-{
-    if b { 1 } else { 0 }
 }
 
 // The type word at a place.
@@ -371,7 +344,7 @@ fn last_of(cs: &[u32], id: u32) -> u32
     requires above { Above id (length cs.now) }
     ensures { result ≡ last cs.now id }
 {
-    if cs.len() == 0 {
+    if cs.is_empty() {
         return id;
     }
     let a = type_word(cs, 6);
@@ -400,7 +373,7 @@ fn write_known(ws: &mut [u32], n: u32, inverted: bool, kind: u32, id: u32, cs: &
     requires type_words { TypeWords cs.now }
     ensures { Put ws.old ws.new n (new_node n (known inverted kind id (map type_of_word cs.now))) }
 {
-    let i = bit_of(inverted);
+    let i = u32::from(inverted);
     let h = head(kind, i, cs.len() as u32, 2 * n, 1);
     let x = triple_of(cs, 0);
     let y = triple_of(cs, 3);
@@ -408,37 +381,53 @@ fn write_known(ws: &mut [u32], n: u32, inverted: bool, kind: u32, id: u32, cs: &
     put(ws, n, h, x, y, z)
 }
 
-// `new_var`: pushes an unknown and gives its number. At the limit the number is NODES, and nothing changes.
-pub fn new_var(ws: &mut [u32]) -> u32
-    requires { Packed ws.old }
-    ensures { Pushes ws.old ws.new unknown result }
+// The number of the next node, where there is room for it.
+#[tactic(auto, using(crate::specs::Nodes::types_few))]
+fn next_number(ws: &[u32]) -> Result<u32, Refusal>
+    ensures number { pushed_number result ≡ length (types_of ws.now) }
+    ensures room { MatchResult result (λ n. n < limit_nodes) (λ refusal. refusal ≡ Refusal.TypesFull) }
 {
     let n = count(ws);
     if n < NODES {
-        write_unknown(ws, n);
-        ws[0] = n + 1;
-        return n;
+        Ok(n)
+    } else {
+        Err(Refusal::TypesFull)
     }
-    n
 }
 
-// Pushes a known type and gives its number. At the limit the number is NODES, and nothing changes.
-pub fn new_known(ws: &mut [u32], inverted: bool, kind: u32, id: u32, cs: &[u32]) -> u32
+// `new_var`: pushes an unknown and gives its number. At the limit nothing changes.
+pub fn new_var(ws: &mut [u32]) -> Result<u32, Refusal>
+    requires { Packed ws.old }
+    ensures pushes { Pushes ws.old ws.new unknown (pushed_number result) }
+    ensures room { MatchResult result (λ n. n < limit_nodes) (λ refusal. refusal ≡ Refusal.TypesFull) }
+{
+    let n = next_number(ws)?;
+    write_unknown(ws, n);
+    ws[0] = n + 1;
+    Ok(n)
+}
+
+// Pushes a known type and gives its number. At the limit nothing changes.
+pub fn new_known(
+    ws: &mut [u32],
+    inverted: bool,
+    kind: u32,
+    id: u32,
+    cs: &[u32],
+) -> Result<u32, Refusal>
     requires packed { Packed ws.old }
     requires kind_nonzero { kind ≢ 0 }
     requires kind_bound { kind < 16 }
     requires above { Above id (length cs.now) }
     requires cs_len_bound { length cs.now ≤ 8 }
     requires type_words { TypeWords cs.now }
-    ensures { Pushes ws.old ws.new (known inverted kind id (map type_of_word cs.now)) result }
+    ensures pushes { Pushes ws.old ws.new (known inverted kind id (map type_of_word cs.now)) (pushed_number result) }
+    ensures room { MatchResult result (λ n. n < limit_nodes) (λ refusal. refusal ≡ Refusal.TypesFull) }
 {
-    let n = count(ws);
-    if n < NODES {
-        write_known(ws, n, inverted, kind, id, cs);
-        ws[0] = n + 1;
-        return n;
-    }
-    n
+    let n = next_number(ws)?;
+    write_known(ws, n, inverted, kind, id, cs);
+    ws[0] = n + 1;
+    Ok(n)
 }
 
 // Makes root n, a class of its own, known.
@@ -463,7 +452,7 @@ pub fn copy_table(from: &[u32], to: &mut [u32])
     requires table_length_in_bounds { table_length ≤ length to.old }
     ensures { Becomes to.new (types_of from.now) }
 {
-    words::copy(from, to, NODE * wide(count(from)) + 1)
+    words::copy(from, to, NODE * count(from) as usize + 1)
 }
 
 // Makes a table without nodes.
@@ -474,19 +463,13 @@ pub fn clear_table(ws: &mut [u32])
     ws[0] = 0;
 }
 
-pub fn xor(a: bool, b: bool) -> bool
-    ensures { result ≡ xor_of a b }
-{
-    if a { !b } else { b }
-}
-
 // The type word of node n, inverted or not.
 pub fn type_of(inverted: bool, n: u32) -> u32
     requires { n < limit_nodes }
     ensures is { result ≡ word_of_type (inverted, n) }
     ensures small { result < 512 }
 {
-    2 * n + bit_of(inverted)
+    2 * n + u32::from(inverted)
 }
 
 // The head of a node.
@@ -495,8 +478,7 @@ fn head_at(ws: &[u32], n: u32) -> u32
     requires n_lt_limit_nodes { n < limit_nodes }
     ensures { result ≡ at ws.now (4 * n + 1) }
 {
-    let w = wide(n);
-    ws[NODE * w + HEAD]
+    ws[NODE * n as usize + HEAD]
 }
 
 // Which type of its root node n is, where there is such a node.
@@ -540,11 +522,8 @@ fn relabel_class(ws: &mut [u32], lo: u32, t: u32)
     requires t_bound { t < 512 }
     ensures { Rewritten ws.old ws.new (map (relabel lo (type_of_word t)) (types_of ws.old)) }
 {
-    let n = count(ws);
-    let mut i = 0;
-    while i < n {
+    for i in 0..count(ws) {
         relabel_node(ws, i, lo, t);
-        i += 1;
     }
 }
 
@@ -569,7 +548,7 @@ fn root_head(h: u32, n: u32, size: u32, inverted: bool) -> u32
     requires size_bound { size < 512 }
     ensures { Head result (h % 16) (2 * n) size (h / 32 % 16) (xor_of inverted (eqb (h / 16 % 2) 1)) }
 {
-    let i = bit_of(xor(inverted, h / 16 % 2 == 1));
+    let i = u32::from(inverted ^ (h / 16 % 2 == 1));
     head(h % 16, i, h / 32 % 16, 2 * n, size)
 }
 
@@ -626,7 +605,7 @@ fn sizes(ws: &[u32], lo: u32, hi: u32) -> u32
 pub fn opposed(a: u32, b: u32) -> bool
     ensures { result ≡ xor_of (type_of_word a).0 (type_of_word b).0 }
 {
-    xor(is_inverted(a), is_inverted(b))
+    is_inverted(a) != is_inverted(b)
 }
 
 // The class of root lo goes under that of root hi.

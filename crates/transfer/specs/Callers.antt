@@ -12,7 +12,7 @@ use Rattle.rules.specs.TransferCount.{export_most}
 use Rattle.rules.specs.Neat.{Neat, Brought, Low, types_brought, types_exported}
 use Rattle.table.specs.Packing.{types_of}
 use Rattle.table.specs.Nodes.{types_few}
-use Rattle.transfer.specs.Source.{indexed, source, table-indexed}
+use Rattle.transfer.specs.Source.{indexed, table-indexed}
 use Rattle.transfer.specs.Records.{mapped-length}
 use Rattle.transfer.specs.Leaves.{type_at}
 use Rattle.transfer.specs.Imports.{types_in, Inside, Imports}
@@ -29,8 +29,7 @@ places-chain s h us b n e f l = ext_get_or 0 (take n (drop b us)) (chain s h) (o
     size : length (take n (drop b us)) ≡ n
     size = omega (arith, length-take n (drop b us), length-drop b us)
 
-pub places-table : (s : Words) (h : ℕ) (places : Words) → places ≡ chain s h → source false s places ≡ table s h
-unfolding source
+pub places-table : (s : Words) (h : ℕ) (places : Words) → places ≡ chain s h → indexed s places ≡ table s h
 places-table s h places e = ap (indexed s) e ∙ table-indexed s h
 
 all_in : (N : ℕ) (xs : List Ty) → ((j : ℕ) → j < length xs → (get_or xs j (false, 0)).1 < N) → AllIn N xs

@@ -1,14 +1,12 @@
 -- Types of records that went already: each is its own root.
-use Rattle.std.specs.Prelude.{ℕ, suc, ◌+◌, ◌-◌, ◌/◌, ◌≤◌, ◌<◌, ◌≡◌, refl, ◌≢◌, Bool, true, false, List, length, set, take}
-use Rattle.std.proofs.Common.{◌∙◌, ap, arith}
+use Rattle.std.specs.Prelude.{ℕ, suc, ◌+◌, ◌-◌, ◌/◌, ◌≤◌, ◌<◌, ◌≡◌, refl, ◌≢◌, Bool, true, false, not, List, length, set, take}
+use Rattle.std.proofs.Common.{ap, arith}
 use Rattle.std.proofs.Math.Option.{Option}
 use Rattle.rules.specs.Lists.{Words}
 use Rattle.rules.specs.Sheet.{at}
-use Rattle.rules.specs.Types.{Ty, Types, find}
+use Rattle.rules.specs.Types.{Ty, Types}
 use Rattle.rules.specs.Transfer.{Transfer, transfer_in, type_of_word}
-use Rattle.rules.specs.Answer.{word_of_type}
-use Rattle.transfer.specs.Source.{source, source-records}
-use Rattle.transfer.specs.Records.{indexed-count, find_own}
+use Rattle.transfer.specs.Sources.{OwnRoots}
 use Rattle.transfer.specs.Moving.{Levels, Gone, GoneRecord, Transfers}
 use Rattle.transfer.specs.Leaves.{settles_there}
 use Rattle.transfer.specs.Ways.{Going, going_level, going_next, type_settled}
@@ -31,15 +29,8 @@ module _ (src : Types) (f : Ty → Transfer → Ty × Transfer) (ws ms us ns ts 
   pub next_small : at ns (at vs i / 2) ≤ 512
   next_small = g.mapping.small (at vs i / 2) next_inside
 
--- A record is its own root.
-record_root : (b : Bool) (s places : Words) (t : ℕ) → b ≡ false → t / 2 < length (source b s places) → t ≡ word_of_type (find (source b s places) (type_of_word t))
-record_root b s places t e h = find_own s places t (t / 2) refl (omega (arith, h, indexed-count s places, ap (λ (ts : Types). length ts) (source-records b s places e))) ∙ ap (λ (ts : Types). word_of_type (find ts (type_of_word t))) (source-records b s places e)
-
--- The type at i went already, and stands where it went.
-module _ (b : Bool) (s places : Words) (ps : Option (List Ty)) (left : ℕ) (ws ms us ns ts vs : Words) (m i : ℕ) where
-  abbrev src : Types
-  src = source b s places
-
+-- The type at i went already, and stands where it went: b says that nothing is told of the roots of the source.
+module _ (src : Types) (b : Bool) (roots : not b ≡ true → OwnRoots src) (ps : Option (List Ty)) (left : ℕ) (ws ms us ns ts vs : Words) (m i : ℕ) where
   pub going_gone : (q : ℕ) → q ≢ 0 → Going src (transfer_in left src ps) ws ms us ns ts vs m i → i < m → Levels src (take m ts) left → GoneRecord b ns (at vs i) q → Going src (transfer_in left src ps) ws ms us ns ts (set vs i (q - 1)) m (i + 1)
   going_gone q z g h d r = going_next src ps left ws ms us ns ts vs m i g h d us ns q same z
     where
@@ -47,4 +38,4 @@ module _ (b : Bool) (s places : Words) (ps : Option (List Ty)) (left : ℕ) (ws 
       inside = next_inside src (transfer_in left src ps) ws ms us ns ts vs m i left g h d
 
       same : Transfers src (transfer_in (suc (left - 1)) src ps (type_of_word (at vs i))) us ns us ns q
-      same = type_settled src (at vs i) (at vs i) (record_root b s places (at vs i) (r.records z) inside) ps ns q (settles_there src ps ns (at vs i) g.mapping inside q (r.gone z) z) (left - 1) us g.packed g.mapping z
+      same = type_settled src (at vs i) (at vs i) ((roots (ap not (r.records z))).each (at vs i) inside) ps ns q (settles_there src ps ns (at vs i) g.mapping inside q (r.gone z) z) (left - 1) us g.packed g.mapping z

@@ -8,3 +8,5 @@ pub mod Ways
 pub mod Gone
 pub mod Imports
 pub mod Callers
+pub mod Sources
+pub mod Outcomes

@@ -18,8 +18,7 @@ use Rattle.rules.specs.Transfer.{type_of_word, cell_types, node_state, new_nodes
 use Rattle.rules.specs.Answer.{word_of_type}
 use Rattle.table.specs.Packing.{kind_in, inverted_in, id_in, kind_at, inverted_at, id_at}
 use Rattle.table.specs.Nodes.{word_type, node_past}
-use Rattle.table.specs.Reads.{unknown_here as packed_unknown}
-use Rattle.transfer.specs.Source.{indexed, source}
+use Rattle.transfer.specs.Source.{indexed}
 
 pub mapped-length : {A B : Type 0} (f : A → B) (l : List A) → length (map f l) ≡ length l
 mapped-length f [] = refl
@@ -126,7 +125,7 @@ module _ (s places : Words) (n : ℕ) where
     known_here : k ≢ 0 → state_at (indexed s places) n ≡ known (eqb (at s (at places n + 2)) 1) (at s (at places n + 1)) (at s (at places n + 3)) (cell_types s (at s (at places n + 4)))
     known_here z = state_in s places n (inside z) ∙ record_known s (at places n) (λ q. z (ek ∙ sym (kind_here n (at places n) (at s (at places n + 1)) refl (inside z) refl refl) ∙ q))
 
-    unknown_here : k ≡ 0 → state_at (indexed s places) n ≡ unknown
+    pub unknown_here : k ≡ 0 → state_at (indexed s places) n ≡ unknown
     unknown_here z = ⊎_elim
         (λ h. state_in s places n h ∙ record_unknown s (at places n) (kind_here n (at places n) (at s (at places n + 1)) refl h refl refl ∙ sym ek ∙ z))
         (λ l. state_past s places n l)
@@ -176,9 +175,3 @@ module _ (s places : Words) (n : ℕ) where
     pub child_past : m ≤ j → 0 ≡ word_of_type (get_or (children_at (indexed s places) n) j (false, 0))
     unfolding word_of_type
     child_past l = sym (ap word_of_type (get_or-eq_default (children_at (indexed s places) n) (false, 0) (omega arith)))
-
--- A node of either source whose kind is 0 is unknown.
-pub source_unknown : (b : Bool) (s places : Words) (n k : ℕ) → k ≡ kind_at (source b s places) n → k ≡ 0 → state_at (source b s places) n ≡ unknown
-unfolding source
-source_unknown true s places n k e z = packed_unknown s n k e z
-source_unknown false s places n k e z = unknown_here s places n k e z

@@ -1,6 +1,6 @@
 -- Laws of the changes of a buffer of trees: what it holds after each, and that what lies outside it is as it was.
 use Rattle.std.specs.Prelude.{ℕ, zero, suc, ◌+◌, ◌-◌, ◌≤◌, ◌<◌, ◌≡◌, refl, ◌∷◌, ◌++◌, ◌≢◌, length, set, drop}
-use Rattle.std.proofs.Common.{sym, ◌∙◌, ap, append-nil, inl, inr, ⊎_elim, arith, length-set, length-append, get_or-set_same, get_or-set_other, get_or-append-add, get_or-drop}
+use Rattle.std.proofs.Common.{sym, ◌∙◌, ap, append-nil, ⊎_elim, arith, length-set, length-append, get_or-set_same, get_or-set_other, get_or-append-add, get_or-drop}
 use Rattle.std.proofs.Math.ListN.{get_or-append}
 use Rattle.rules.specs.Lists.{Words}
 use Rattle.rules.specs.Layout.{tree_def}
@@ -8,7 +8,7 @@ use Rattle.rules.specs.Sheet.{at}
 use Rattle.rules.specs.Search.{Trees, end, tree, tree_size, leaf, before}
 use Rattle.rules.specs.Pigeonholes.{lt_or}
 use Rattle.trees.specs.Forests.{trees_length, node_word, tree_words, Fit, Lies, Holds, Held, Single, Apart}
-use Rattle.trees.specs.Carries.{Carries, Clear}
+use Rattle.trees.specs.Carries.{Carries}
 
 -- The trees of a buffer at a are copied to b.
 pub record Copies (src ws us : Words) (a b : ℕ) : Type 0 where
@@ -112,9 +112,6 @@ copied src ws us a b n e few c = record {
   };
 }
 
-pub clear_copy : (ws : Words) (a b n : ℕ) → Apart a b → n ≡ at ws a → at ws a ≤ 256 → Clear a b (n + 1)
-clear_copy ws a b n p e h = record { either = ⊎_elim (λ q. inl (omega arith)) (λ q. inr (omega arith)) p.either }
-
 -- A node over the trees: n of them.
 pub wrapped : (ws us : Words) (b n i w : ℕ) → n ≡ at ws b → at ws b < 256 → i < 4096 → b + 257 ≤ length ws → Carries ws ws us (b + 1) (b + 2) n → w ≡ node_word 2 i n → Wraps ws (set (set us b (n + 1)) (b + 1) w) b i
 unfolding tree_size tree_words Fit
@@ -179,9 +176,3 @@ appended src ws us a b n m en em few room c = record {
                 ∙ c.there k (omega (arith, hu.count, hr.count, words_size r, size-before r u s))
                 ∙ hu.lies.there k (omega (arith, words_size r, size-before r u s))
                 ∙ sym (ap (at (tree_words r ++ tree_words u)) e ∙ get_or-append-add (tree_words r) (tree_words u) k 0)
-
-pub clear_append : (ws : Words) (a b n m : ℕ) → Apart a b → n ≡ at ws b → m ≡ at ws a → at ws b + at ws a ≤ 256 → Clear (a + 1) (b + 1 + n) m
-clear_append ws a b n m p en em h = record { either = ⊎_elim (λ q. inl (omega arith)) (λ q. inr (omega arith)) p.either }
-
-pub clear_wrap : (b n : ℕ) → Clear (b + 1) (b + 2) n
-clear_wrap b n = record { either = inl (omega arith) }

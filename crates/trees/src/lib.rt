@@ -7,14 +7,19 @@ ghost use Rattle.rules.specs.Sheet.{at};
 ghost use Rattle.rules.specs.Limits.{limit_tree_nodes};
 ghost use Rattle.rules.specs.Search.{end, leaf};
 ghost use Rattle.trees.specs.Forests.{trees_length, node_word, word_kind, word_id, word_below, Held, Apart};
-ghost use Rattle.trees.specs.Carries.{Carries, Clear};
+ghost use Rattle.trees.specs.Carries.{Carries};
 ghost use Rattle.trees.specs.Changes.{Copies, Appends, Wraps};
 
 // The words of a buffer: the count, and room for 256 nodes.
 pub const TREES: usize = 257;
 
-// The kind of a Def.
+// The kind of a Def. (A leaf's kind may be any number below 8, so kinds stay numbers here.)
 const DEF: u32 = 2;
+
+// How many kinds and ids there is room for in a node's word.
+const KINDS: u32 = 8;
+
+const IDS: u32 = 4096;
 
 // Carries n words from one slice into another.
 pub fn carry(from: &[u32], a: usize, to: &mut [u32], b: usize, n: usize)
@@ -22,25 +27,16 @@ pub fn carry(from: &[u32], a: usize, to: &mut [u32], b: usize, n: usize)
     requires n_in_bounds_2 { b + n ≤ length to.old }
     ensures { Carries from.now to.old to.new a b n }
 {
-    let mut i = 0;
-    while i < n {
-        to[b + i] = from[a + i];
-        i += 1;
-    }
+    to[b..b + n].copy_from_slice(&from[a..a + n]);
 }
 
-// Carries n words within a slice, upwards or to a place apart.
+// Carries n words within a slice.
 pub fn carry_within(ws: &mut [u32], a: usize, b: usize, n: usize)
     requires n_in_bounds { a + n ≤ length ws.old }
     requires n_in_bounds_2 { b + n ≤ length ws.old }
-    requires clear { Clear a b n }
     ensures { Carries ws.old ws.old ws.new a b n }
 {
-    let mut i = n;
-    while i != 0 {
-        i -= 1;
-        ws[b + i] = ws[a + i];
-    }
+    ws.copy_within(a..a + n, b);
 }
 
 // How many nodes the trees of the buffer at b have.
@@ -57,7 +53,7 @@ fn node(kind: u32, id: u32, below: u32) -> u32
     requires below_le_limit_tree_nodes { below ≤ limit_tree_nodes }
     ensures { result ≡ node_word kind id below }
 {
-    kind + 8 * (id + 4096 * below)
+    kind + KINDS * (id + IDS * below)
 }
 
 // Makes a buffer without trees.
@@ -148,19 +144,19 @@ pub fn wrap(ws: &mut [u32], b: usize, id: u32)
 pub fn kind(ws: &[u32], i: usize) -> u32
     ensures { result ≡ word_kind (at ws.now i) }
 {
-    words::word(ws, i) % 8
+    words::word(ws, i) % KINDS
 }
 
 // its id,
 pub fn id(ws: &[u32], i: usize) -> u32
     ensures { result ≡ word_id (at ws.now i) }
 {
-    words::word(ws, i) / 8 % 4096
+    words::word(ws, i) / KINDS % IDS
 }
 
 // and how many nodes the trees below it have.
 pub fn below(ws: &[u32], i: usize) -> usize
     ensures { result ≡ word_below (at ws.now i) }
 {
-    words::next(ws, i) / 32768
+    (words::word(ws, i) / (KINDS * IDS)) as usize
 }

@@ -1,3 +1,4 @@
+pub mod Given
 pub mod Pushed
 pub mod Sound
 pub mod Steps

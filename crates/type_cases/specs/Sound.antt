@@ -18,10 +18,9 @@ use Rattle.rules.specs.Slim.{SlimKnown, Slim}
 use Rattle.rules.specs.Neat.{Neat, Low, low_none, unify_neat, unify_query_neat}
 use Rattle.table.specs.Packing.{types_of, Packed, Pushes, Becomes, TypeWords, Good}
 use Rattle.table.specs.Nodes.{types_few}
-use Rattle.unify.specs.declared.UnifyResult.{UnifyResult}
+use Rattle.memo.specs.declared.verdict.UnifyResult.{UnifyResult}
 use Rattle.unify.specs.Results.{Unifies}
 use Rattle.unify.specs.Lists.{Nodes}
-use Rattle.transfer.specs.Source.{source}
 use Rattle.transfer.specs.Moving.{params_of}
 use Rattle.transfer.specs.Imports.{Inside}
 use Rattle.type_cases.specs.Pushed.{pushed_neat}
@@ -62,9 +61,9 @@ module _ (ws xs : Words) (c : ℕ) (e : c ≡ length (types_of ws)) (b : Below c
   pub below_nodes : Nodes (types_of ws) xs
   below_nodes = record { there = there }
 
-  pub below_inside : (places : Words) → Inside (source true ws places) xs
-  unfolding source type_of_word
-  below_inside places = record { each = λ j l. subst (λ n. at xs j / 2 < n) e (b.each j l) }
+  pub below_inside : Inside (types_of ws) xs
+  unfolding type_of_word
+  below_inside = record { each = λ j l. subst (λ n. at xs j / 2 < n) e (b.each j l) }
 
   pub below_words : TypeWords xs
   below_words = record { small = λ j. ⊎_elim (λ l. omega (arith, b.each j l, types_few ws)) (λ l. omega (arith, past xs j l)) (lt_or j (length xs)) }
@@ -105,13 +104,11 @@ pub sound_impl_types : (s ws us xs ys : Words) (a b c : ℕ) (v : UnifyResult) �
 sound_impl_types s ws us xs ys a b c v g e hx hy u = record { packed = u.good.packed; neat = subst Neat (sym (ap (λ o. o.1) u.is)) (unify_query_neat s (types_of ws) (a, map type_of_word xs) (b, map type_of_word ys) g.neat (there ws xs c e hx) (there ws ys c e hy)).neat }
 
 -- Moves: ws is the table that types are moved from.
-module _ (ws places : Words) (g : Sound ws) where
-  pub sound_source : Neat (source true ws places)
-  unfolding source
+module _ (ws : Words) (g : Sound ws) where
+  pub sound_source : Neat (types_of ws)
   sound_source = g.neat
 
-  pub source_room : (ms : Words) → 256 ≤ length ms → length (source true ws places) ≤ length ms
-  unfolding source
+  pub source_room : (ms : Words) → 256 ≤ length ms → length (types_of ws) ≤ length ms
   source_room ms h = omega (arith, types_few ws)
 
 -- What stands for a Param is a node: c is the count of the table ds that is filled.

@@ -8,10 +8,9 @@ use Rattle.rules.specs.Transfer.{type_of_word, import_types, export_types}
 use Rattle.words.specs.Buffers.{copied, copied-length}
 use Rattle.table.specs.Packing.{types_of, Pushes, Above, TypeWords}
 use Rattle.table.specs.Nodes.{types_few}
-use Rattle.unify.specs.declared.UnifyResult.{UnifyResult}
+use Rattle.memo.specs.declared.verdict.UnifyResult.{UnifyResult}
 use Rattle.unify.specs.Results.{Unifies}
 use Rattle.unify.specs.Lists.{Nodes}
-use Rattle.transfer.specs.Source.{source}
 use Rattle.transfer.specs.Moving.{params_of}
 use Rattle.transfer.specs.Imports.{types_in, Inside, Imports}
 use Rattle.transfer.specs.Callers.{imports_brought, exports_brought, export_fits}
@@ -119,20 +118,19 @@ loaded ws ts m c r e t = record { below = λ z. subst (λ n. Below n (take m ts)
 pub loaded_passed : (ws ts : Words) (m : ℕ) (q : Bool) → Loaded ws m ts q → not q ≡ false → Loaded ws m ts true
 loaded_passed ws ts m q f p = subst (Loaded ws m ts) (passed q p) f
 
-pub loaded_inside : (ws places ts : Words) (m : ℕ) → Loaded ws m ts true → Inside (source true ws places) (take m ts)
-loaded_inside ws places ts m l = below_inside ws (take m ts) (length (types_of ws)) refl (l.below refl) places
+pub loaded_inside : (ws ts : Words) (m : ℕ) → Loaded ws m ts true → Inside (types_of ws) (take m ts)
+loaded_inside ws ts m l = below_inside ws (take m ts) (length (types_of ws)) refl (l.below refl)
 
 -- Moves from table ws: types ts are moved, and stand then in vs.
-module _ (ws places ts : Words) (m : ℕ) (g : Sound ws) (l : Loaded ws m ts true) where
-  pub sound_import : (ds us ps vs : Words) (b r : Bool) → Sound ds → Fitting b ps ds true → r ≡ true → Imports (import_types (source true ws places) (params_of b ps) (types_in m ts) (types_of ds)) us ts vs m r → Sound us
+module _ (ws ts : Words) (m : ℕ) (g : Sound ws) (l : Loaded ws m ts true) where
+  pub sound_import : (ds us ps vs : Words) (b r : Bool) → Sound ds → Fitting b ps ds true → r ≡ true → Imports (import_types (types_of ws) (params_of b ps) (types_in m ts) (types_of ds)) us ts vs m r → Sound us
   sound_import ds us ps vs b r k f e i = record {
     packed = i.replaces.packed;
-    neat = (imports_brought (source true ws places) (params_of b ps) (types_of ds) us ts vs m r (sound_source ws places g) k.neat (low ds ps (length (types_of ds)) refl (f.below refl) b (f.room refl)) (loaded_inside ws places ts m l) e i).neat;
+    neat = (imports_brought (types_of ws) (params_of b ps) (types_of ds) us ts vs m r (sound_source ws g) k.neat (low ds ps (length (types_of ds)) refl (f.below refl) b (f.room refl)) (loaded_inside ws ts m l) e i).neat;
   }
 
-  pub sound_export : (us vs : Words) (r : Bool) → Imports (export_types (source true ws places) (types_in m ts)) us ts vs m r → Sound us
-  unfolding source
+  pub sound_export : (us vs : Words) (r : Bool) → Imports (export_types (types_of ws) (types_in m ts)) us ts vs m r → Sound us
   sound_export us vs r i = record {
     packed = i.replaces.packed;
-    neat = (exports_brought (types_of ws) us ts vs m r g.neat (loaded_inside ws places ts m l) (export_fits ws us ts vs m r g.neat (loaded_inside ws places ts m l) i) i).neat;
+    neat = (exports_brought (types_of ws) us ts vs m r g.neat (loaded_inside ws ts m l) (export_fits ws us ts vs m r g.neat (loaded_inside ws ts m l) i) i).neat;
   }

@@ -1,36 +1,20 @@
-// A stored step: what is done to a type table, and whether it gives what is stored. Its words are read as they are, and tested before they are used: a step whose types
-// are no nodes is not made, and is wrong. oracle/stored/README.md says how it is laid out.
+// A stored step: what is done to a type table, and whether it gives what is stored. Its words are read as they are, and tested before they are used: a step that is laid out
+// otherwise, or whose types are no nodes, is not made, and is wrong. oracle/stored/README.md says how it is laid out.
 ghost use Rattle.std.specs.Prelude.{◌≡◌, true, ◌≢◌, ◌<◌, ◌≤◌, length, take};
 ghost use Rattle.table.specs.Packing.{types_of};
 ghost use Rattle.type_cases.specs.Steps.{IdFits};
 ghost use Rattle.type_cases.specs.Sound.{Sound, Tested, BothTested, Fitting, Loaded};
+ghost use Rattle.type_cases.specs.Given.{FittingIn};
 
+use refusals::Refusal;
+use transfer::PackedTable;
 use unify::UnifyResult;
-use walks::Module;
-
-// The numbers of steps.
-const UNKNOWN: u32 = 0;
-
-const KNOWN: u32 = 1;
-
-const UNIFY: u32 = 2;
-
-const OCCURS: u32 = 3;
-
-const SELF_INVERSE: u32 = 4;
-
-const GET_MOD: u32 = 5;
-
-const UNIFY_IMPL_TYPE: u32 = 6;
-
-const IMPORT: u32 = 7;
-
-const EXPORT: u32 = 8;
-
-const NODES: u32 = 9;
 
 // The most types in a row.
 const ROW: usize = 8;
+
+// The number of a node for which there is no room.
+const FULL: u32 = 256;
 
 // Kinds are below this.
 const KINDS: u32 = 16;
@@ -40,69 +24,183 @@ const CLOSURE: u32 = 8;
 
 const IDS: u32 = 4096;
 
-// The smaller of two lengths.
-pub fn at_most(n: usize, most: usize) -> usize
-    ensures { result ≤ most }
-{
-    if n < most { n } else { most }
+/// What a step does, and what the Rust gives for it.
+#[derive(Clone, Copy, Debug)]
+enum Operation<'a> {
+    Unknown {
+        node: u32,
+    },
+    Known {
+        kind: u32,
+        inverted: bool,
+        id: u32,
+        children: &'a [u32],
+        node: u32,
+    },
+    Unify {
+        a: u32,
+        b: u32,
+        verdict: UnifyResult,
+    },
+    Occurs {
+        v: u32,
+        t: u32,
+        found: bool,
+    },
+    SelfInverse {
+        t: u32,
+        found: bool,
+    },
+    GetMod {
+        t: u32,
+        module: Result<Option<usize>, Refusal>,
+    },
+    UnifyImplTypes {
+        a: u32,
+        xs: &'a [u32],
+        b: u32,
+        ys: &'a [u32],
+        verdict: UnifyResult,
+    },
+    Import {
+        params: Option<&'a [u32]>,
+        types: &'a [u32],
+        moved: Option<&'a [u32]>,
+    },
+    Export {
+        types: &'a [u32],
+        moved: &'a [u32],
+    },
+    Nodes {
+        count: u32,
+        nodes: &'a [u32],
+    },
 }
 
-// How many types are in a row, by the word at a place.
-fn row(o: &[u32], p: usize) -> usize
-    ensures { result ≤ 8 }
-{
-    at_most(words::next(o, p), ROW)
+fn verdict(n: u32) -> Option<UnifyResult> {
+    match n {
+        0 => Some(UnifyResult::Success),
+        1 => Some(UnifyResult::Failure),
+        2 => Some(UnifyResult::Indeterminate),
+        _ => None,
+    }
+}
+
+// A module as it is stored: none, an Error type's, or that of a definition.
+fn module(n: u32) -> Result<Option<usize>, Refusal> {
+    match n {
+        0 => Ok(None),
+        1 => Err(Refusal::ErrorType),
+        _ => Ok(Some(n as usize - 2)),
+    }
+}
+
+// The first m words, and those behind them.
+fn row(words: &[u32], m: u32) -> Option<(&[u32], &[u32])> {
+    words.split_at_checked(m as usize)
+}
+
+impl<'a> Operation<'a> {
+    fn parse_known(kind: u32, inverted: u32, id: u32, m: u32, rest: &'a [u32]) -> Option<Self> {
+        let (children, rest) = row(rest, m)?;
+        let [node] = rest else { return None };
+        Some(Operation::Known {
+            kind,
+            inverted: inverted == 1,
+            id,
+            children,
+            node: *node,
+        })
+    }
+
+    fn parse_impl_types(a: u32, b: u32, n: u32, m: u32, rest: &'a [u32]) -> Option<Self> {
+        let (xs, rest) = row(rest, n)?;
+        let (ys, rest) = row(rest, m)?;
+        let [v] = rest else { return None };
+        Some(Operation::UnifyImplTypes {
+            a,
+            xs,
+            b,
+            ys,
+            verdict: verdict(*v)?,
+        })
+    }
+
+    fn parse_import(with: u32, n: u32, m: u32, rest: &'a [u32]) -> Option<Self> {
+        let (params, rest) = row(rest, n)?;
+        let (types, rest) = row(rest, m)?;
+        let moved = match rest {
+            [0] => None,
+            [1, moved @ ..] => Some(moved),
+            _ => return None,
+        };
+        Some(Operation::Import {
+            params: if with == 1 { Some(params) } else { None },
+            types,
+            moved,
+        })
+    }
+
+    // A step by its number, its table, and the words behind these.
+    fn parse(o: &'a [u32]) -> Option<Self> {
+        match o {
+            [0, _, node] => Some(Operation::Unknown { node: *node }),
+            [1, _, kind, inverted, id, m, rest @ ..] => {
+                Operation::parse_known(*kind, *inverted, *id, *m, rest)
+            }
+            [2, _, a, b, v] => {
+                let verdict = verdict(*v)?;
+                Some(Operation::Unify {
+                    a: *a,
+                    b: *b,
+                    verdict,
+                })
+            }
+            [3, _, v, t, found] => {
+                let found = *found == 1;
+                Some(Operation::Occurs {
+                    v: *v,
+                    t: *t,
+                    found,
+                })
+            }
+            [4, _, t, found] => {
+                let found = *found == 1;
+                Some(Operation::SelfInverse { t: *t, found })
+            }
+            [5, _, t, d] => {
+                let module = module(*d);
+                Some(Operation::GetMod { t: *t, module })
+            }
+            [6, _, a, b, n, m, rest @ ..] => Operation::parse_impl_types(*a, *b, *n, *m, rest),
+            [7, _, with, n, m, rest @ ..] => Operation::parse_import(*with, *n, *m, rest),
+            [8, _, m, rest @ ..] => {
+                let (types, moved) = row(rest, *m)?;
+                Some(Operation::Export { types, moved })
+            }
+            [9, _, count, nodes @ ..] => {
+                let count = *count;
+                Some(Operation::Nodes { count, nodes })
+            }
+            _ => None,
+        }
+    }
 }
 
 // Whether some types are nodes of a table of n.
 fn below(xs: &[u32], n: u32) -> bool
     ensures { Tested n xs.now result }
 {
-    let mut i = 0;
-    while i < xs.len() {
-        if xs[i] / 2 >= n {
-            return false;
-        }
-        i += 1;
-    }
-    true
-}
-
-// Whether the words from a place on are the first m of some.
-fn same(o: &[u32], p: usize, ts: &[u32], m: usize) -> bool {
-    let mut i = 0;
-    while i < m {
-        if words::offset(o, p, i) != words::word(ts, i) {
-            return false;
-        }
-        i += 1;
-    }
-    true
-}
-
-fn verdict(v: UnifyResult) -> u32 {
-    match v {
-        UnifyResult::Success => 0,
-        UnifyResult::Failure => 1,
-        UnifyResult::Indeterminate => 2,
-    }
-}
-
-fn module_word(m: Module) -> usize {
-    match m {
-        Module::Nowhere => 0,
-        Module::Error => 1,
-        Module::Within(d) => if d < 4096 { d + 2 } else { 0 },
-    }
+    xs.iter().all(|t| t / 2 < n)
 }
 
 // Adds an unknown.
-fn unknown(o: &[u32], ws: &mut [u32]) -> bool
+#[tactic(auto, using(crate::specs::Sound::sound_unknown))]
+fn unknown(ws: &mut [u32], node: u32) -> bool
     requires { Sound ws.old }
     ensures { Sound ws.new }
 {
-    let n = table::new_var(ws);
-    n == words::word(o, 2)
+    table::new_var(ws).unwrap_or(FULL) == node
 }
 
 // Whether a kind, and the id of a type with n children, are such as a sheet has: a closure's id, and that of a type with children, is that of a record.
@@ -121,60 +219,36 @@ fn id_fits(kind: u32, id: u32, n: usize) -> bool
     n == 0
 }
 
-// Adds a type of a kind with m children.
-fn add_known(o: &[u32], ws: &mut [u32], kind: u32, m: usize, cs: &[u32]) -> bool
-    requires sound { Sound ws.old }
-    requires kind_nonzero { kind ≢ 0 }
-    requires m_bound { m ≤ 8 }
-    requires cs_len_bound { length cs.now ≤ 8 }
-    ensures { Sound ws.new }
-{
-    let id = words::word(o, 4);
-    if !id_fits(kind, id, cs.len()) {
-        return false;
-    }
-    let c = table::count(ws);
-    if !below(cs, c) {
-        return false;
-    }
-    let inverted = words::word(o, 3) == 1;
-    let n = table::new_known(ws, inverted, kind, id, cs);
-    n == words::word(o, 6 + m)
-}
-
-fn known(o: &[u32], ws: &mut [u32]) -> bool
+// Adds a type of a kind with some children.
+fn known(ws: &mut [u32], kind: u32, inverted: bool, id: u32, children: &[u32], node: u32) -> bool
     requires { Sound ws.old }
     ensures { Sound ws.new }
 {
-    let kind = words::word(o, 2);
-    if kind == 0 {
+    if kind == 0 || ROW < children.len() {
         return false;
     }
-    let m = row(o, 5);
-    let cs = words::record(o, 6, m);
-    if ROW < cs.len() {
+    if !id_fits(kind, id, children.len()) {
         return false;
     }
-    add_known(o, ws, kind, m, cs)
+    let c = table::count(ws);
+    if !below(children, c) {
+        return false;
+    }
+    table::new_known(ws, inverted, kind, id, children).unwrap_or(FULL) == node
 }
 
-// Joins two types.
-fn unify_two(s: &[u32], o: &[u32], ws: &mut [u32], marks: &mut [u32]) -> bool
+// Joins two types, where they are nodes.
+#[tactic(auto, using(crate::specs::Sound::sound_good, crate::specs::Steps::marks_room))]
+fn unify_two(s: &[u32], ws: &mut [u32], marks: &mut [u32], a: u32, b: u32) -> Option<UnifyResult>
     requires sound { Sound ws.old }
     requires in_bounds { 256 ≤ length marks.old }
     ensures { Sound ws.new }
 {
     let c = table::count(ws);
-    let a = words::word(o, 2);
-    let b = words::word(o, 3);
-    if a / 2 >= c {
-        return false;
+    if a / 2 >= c || b / 2 >= c {
+        return None;
     }
-    if b / 2 >= c {
-        return false;
-    }
-    let v = unify::unify(s, ws, marks, a, b);
-    verdict(v) == words::word(o, 4)
+    Some(unify::unify(s, ws, marks, a, b))
 }
 
 // Whether the types of two rows are nodes of a table.
@@ -182,13 +256,11 @@ fn both_below(xs: &[u32], ys: &[u32], ws: &[u32]) -> bool
     ensures { BothTested ws.now xs.now ys.now result }
 {
     let c = table::count(ws);
-    if below(xs, c) {
-        return below(ys, c);
-    }
-    false
+    below(xs, c) && below(ys, c)
 }
 
-// Joins two of trait? and arguments; 3 where these are no nodes.
+// Joins two of trait? and arguments, where these are nodes.
+#[tactic(auto, using(crate::specs::Sound::sound_good, crate::specs::Steps::marks_room, crate::specs::Steps::left_nodes, crate::specs::Steps::right_nodes))]
 fn unify_rows(
     s: &[u32],
     ws: &mut [u32],
@@ -197,122 +269,60 @@ fn unify_rows(
     xs: &[u32],
     b: u32,
     ys: &[u32],
-) -> u32
+) -> Option<UnifyResult>
     requires sound { Sound ws.old }
     requires in_bounds { 256 ≤ length marks.old }
     ensures { Sound ws.new }
 {
     if !both_below(xs, ys, ws) {
-        return 3;
+        return None;
     }
-    let v = unify::unify_impl_type(s, ws, marks, a, xs, b, ys);
-    verdict(v)
+    Some(unify::unify_impl_type(s, ws, marks, a, xs, b, ys))
 }
 
-fn unify_impl_types(s: &[u32], o: &[u32], ws: &mut [u32], marks: &mut [u32]) -> bool
-    requires sound { Sound ws.old }
-    requires in_bounds { 256 ≤ length marks.old }
-    ensures { Sound ws.new }
-{
-    let n = row(o, 4);
-    let m = row(o, 5);
-    let xs = words::record(o, 6, n);
-    let ys = words::record(o, 6 + n, m);
-    let v = unify_rows(s, ws, marks, words::word(o, 2), xs, words::word(o, 3), ys);
-    v == words::word(o, 6 + n + m)
-}
-
-// Whether a type occurs in another.
-fn occurs(o: &[u32], ws: &[u32], marks: &mut [u32]) -> bool
+// Whether a type occurs in another, where that is a node.
+#[tactic(auto, using(crate::specs::Sound::sound_good, crate::specs::Steps::marks_room))]
+fn occurs(ws: &[u32], marks: &mut [u32], v: u32, t: u32) -> Option<bool>
     requires sound { Sound ws.now }
     requires in_bounds { 256 ≤ length marks.old }
 {
-    let t = words::word(o, 3);
     if t / 2 >= table::count(ws) {
-        return false;
+        return None;
     }
-    let v = table::root_of(ws, words::word(o, 2) / 2);
-    let found = walks::occurs(ws, marks, v, t);
-    found == (words::word(o, 4) == 1)
+    let v = table::root_of(ws, v / 2);
+    Some(walks::occurs(ws, marks, v, t))
 }
 
-// Whether every type in a type is its own inverse.
-fn self_inverse(s: &[u32], o: &[u32], ws: &[u32], marks: &mut [u32]) -> bool
+// Whether every type in a type is its own inverse, where that is a node.
+#[tactic(auto, using(crate::specs::Sound::sound_good, crate::specs::Steps::marks_room))]
+fn self_inverse(s: &[u32], ws: &[u32], marks: &mut [u32], t: u32) -> Option<bool>
     requires sound { Sound ws.now }
     requires in_bounds { 256 ≤ length marks.old }
 {
-    let t = words::word(o, 2);
     if t / 2 >= table::count(ws) {
-        return false;
+        return None;
     }
-    let found = walks::self_inverse(s, ws, marks, t);
-    found == (words::word(o, 3) == 1)
-}
-
-// The module of a type.
-fn get_mod(s: &[u32], o: &[u32], ws: &[u32]) -> bool {
-    let m = walks::get_mod(s, ws, words::word(o, 2));
-    module_word(m) == words::next(o, 3)
-}
-
-// A question about a table.
-fn ask(s: &[u32], o: &[u32], ws: &[u32], marks: &mut [u32], k: u32) -> bool
-    requires sound { Sound ws.now }
-    requires in_bounds { 256 ≤ length marks.old }
-{
-    if k == OCCURS {
-        return occurs(o, ws, marks);
-    }
-    if k == SELF_INVERSE {
-        return self_inverse(s, o, ws, marks);
-    }
-    if k == GET_MOD {
-        return get_mod(s, o, ws);
-    }
-    false
-}
-
-// A step on one table alone.
-fn own_step(s: &[u32], o: &[u32], ws: &mut [u32], marks: &mut [u32], k: u32) -> bool
-    requires sound { Sound ws.old }
-    requires in_bounds { 256 ≤ length marks.old }
-    ensures { Sound ws.new }
-{
-    if k == UNKNOWN {
-        return unknown(o, ws);
-    }
-    if k == KNOWN {
-        return known(o, ws);
-    }
-    if k == UNIFY {
-        return unify_two(s, o, ws, marks);
-    }
-    if k == UNIFY_IMPL_TYPE {
-        return unify_impl_types(s, o, ws, marks);
-    }
-    ask(s, o, ws, marks, k)
+    Some(walks::self_inverse(s, ws, marks, t))
 }
 
 // Whether parameters are nodes of a table, and there is a node for a Param that has none.
-fn params_fit(with: bool, ps: &[u32], ws: &[u32]) -> bool
-    ensures { Fitting with ps.now ws.now result }
+fn params_fit(params: Option<&[u32]>, ws: &[u32]) -> bool
+    ensures { FittingIn params.entry ws.now result }
 {
     let c = table::count(ws);
-    if with {
-        if c == 0 {
-            return false;
-        }
-        return below(ps, c);
+    match params {
+        Some(ps) => c != 0 && below(ps, c),
+        None => true,
     }
-    below(ps, c)
 }
 
-// Reads m types from a place on; whether they are nodes of a table.
-fn load(o: &[u32], p: usize, m: usize, ws: &[u32], ts: &mut [u32]) -> bool
-    requires { m ≤ length ts.old }
-    ensures { Loaded ws.now m ts.new result }
+// Takes types to the front of a buffer; whether they are nodes of a table.
+fn load(types: &[u32], ws: &[u32], ts: &mut [u32]) -> bool
+    requires { length types.now ≤ length ts.old }
+    ensures { Loaded ws.now (length types.now) ts.new result }
 {
-    words::copy(words::record(o, p, m), ts, m);
+    let m = types.len();
+    words::copy(types, ts, m);
     below(&ts[..m], table::count(ws))
 }
 
@@ -321,175 +331,106 @@ fn move_types(
     own: &[u32],
     other: &mut [u32],
     map: &mut [u32],
-    with: bool,
-    ps: &[u32],
+    params: Option<&[u32]>,
     ts: &mut [u32],
     m: usize,
-) -> bool
+) -> Result<(), Refusal>
     requires sound { Sound own.now }
     requires sound_2 { Sound other.old }
     requires in_bounds { 256 ≤ length map.old }
     requires m_in_bounds { m ≤ length ts.old }
     requires loaded { Loaded own.now m ts.old true }
-    requires fitting { Fitting with ps.now other.old true }
+    requires fitting { FittingIn params other.old true }
     ensures { Sound other.new }
 {
-    let done = transfer::import_types(true, own, &own[..0], other, map, with, ps, ts, m);
-    if done {
-        return true;
+    if let Err(refusal) = transfer::import_types(&PackedTable(own), other, map, params, ts, m) {
+        table::clear_table(other);
+        return Err(refusal);
     }
-    table::clear_table(other);
-    false
+    Ok(())
 }
 
-// Whether a move came to what is stored from a place on: whether there was room, and the types.
-fn moved(o: &[u32], p: usize, done: bool, ts: &[u32], m: usize) -> bool
-    requires { p ≤ 100 }
-{
-    if done {
-        if words::word(o, p) == 1 {
-            return same(o, p + 1, ts, m);
-        }
-        return false;
-    }
-    words::word(o, p) == 0
-}
-
-// Moves the m types from a place on to the other table, with parameters or without.
-fn import_row(
-    o: &[u32],
-    p: usize,
-    m: usize,
+// Moves types to the other table, with parameters or without; whether there was room, and what they became.
+fn import(
     own: &[u32],
     other: &mut [u32],
     map: &mut [u32],
-    with: bool,
-    ps: &[u32],
+    params: Option<&[u32]>,
+    types: &[u32],
+    moved: Option<&[u32]>,
 ) -> bool
-    requires p_bound { p ≤ 13 }
-    requires m_bound { m ≤ 8 }
-    requires sound { Sound own.now }
-    requires sound_2 { Sound other.old }
-    requires in_bounds { 256 ≤ length map.old }
-    requires fitting { Fitting with ps.now other.old true }
-    ensures { Sound other.new }
-{
-    let mut ts = [0u32; 8];
-    if !load(o, p, m, own, &mut ts) {
-        return false;
-    }
-    let done = move_types(own, other, map, with, ps, &mut ts, m);
-    moved(o, p + m, done, &ts, m)
-}
-
-fn import(o: &[u32], own: &[u32], other: &mut [u32], map: &mut [u32]) -> bool
     requires sound { Sound own.now }
     requires sound_2 { Sound other.old }
     requires in_bounds { 256 ≤ length map.old }
     ensures { Sound other.new }
 {
-    let with = words::word(o, 2) == 1;
-    let n = row(o, 3);
-    let ps = words::record(o, 5, n);
-    if !params_fit(with, ps, other) {
+    let mut ts = [0u32; ROW];
+    let m = types.len();
+    if ROW < m || !params_fit(params, other) || !load(types, own, &mut ts) {
         return false;
     }
-    let m = row(o, 4);
-    import_row(o, 5 + n, m, own, other, map, with, ps)
+    match move_types(own, other, map, params, &mut ts, m) {
+        Ok(()) => moved == Some(&ts[..m]),
+        Err(_) => moved.is_none(),
+    }
 }
 
 // Makes the other table anew of types of this one.
-fn export(o: &[u32], own: &[u32], other: &mut [u32], map: &mut [u32]) -> bool
+fn export(own: &[u32], other: &mut [u32], map: &mut [u32], types: &[u32], moved: &[u32]) -> bool
     requires sound { Sound own.now }
     requires sound_2 { Sound other.old }
     requires in_bounds { 256 ≤ length map.old }
     ensures { Sound other.new }
 {
-    let m = row(o, 2);
-    let mut ts = [0u32; 8];
-    if !load(o, 3, m, own, &mut ts) {
+    let mut ts = [0u32; ROW];
+    let m = types.len();
+    if ROW < m || !load(types, own, &mut ts) {
         return false;
     }
-    transfer::export_types(true, own, &own[..0], other, map, &mut ts, m);
-    same(o, 3 + m, &ts, m)
+    let done = transfer::export_types(&PackedTable(own), other, map, &mut ts, m);
+    done.is_ok() && &ts[..m] == moved
 }
 
-// Whether size, kind, inversion and id of root n are as stored from a place on.
-fn state_as(o: &[u32], p: usize, ws: &[u32], n: u32) -> bool {
-    if words::offset(o, p, 1) != table::size_of(ws, n) {
-        return false;
-    }
-    if words::offset(o, p, 2) != table::kind_of(ws, n) {
-        return false;
-    }
-    let inverted = words::offset(o, p, 3) == 1;
-    if inverted != table::inverted_of(ws, n) {
-        return false;
-    }
-    words::offset(o, p, 4) == table::id_of(ws, n)
+// What is behind the words of root n, where they are size, kind, inversion, id and children.
+fn behind_root<'a>(stored: &'a [u32], ws: &[u32], n: u32) -> Option<&'a [u32]> {
+    let [size, kind, inverted, id, m, rest @ ..] = stored else {
+        return None;
+    };
+    let (children, rest) = row(rest, *m)?;
+    let same = *size == table::size_of(ws, n)
+        && *kind == table::kind_of(ws, n)
+        && (*inverted == 1) == table::inverted_of(ws, n)
+        && *id == table::id_of(ws, n)
+        && *m as usize == table::child_count(ws, n)
+        && children
+            .iter()
+            .enumerate()
+            .all(|(j, t)| *t == table::child(ws, n, j));
+    if same { Some(rest) } else { None }
 }
 
-// Whether the children of node n are.
-fn children_as(o: &[u32], p: usize, ws: &[u32], n: u32, m: usize) -> bool {
-    let mut i = 0;
-    while i < m {
-        if words::offset(o, p, i) != table::child(ws, n, i) {
-            return false;
-        }
-        i += 1;
-    }
-    true
-}
-
-// The place behind what is stored of root n from a place on; 0 where it is something else.
-fn root_as(o: &[u32], p: usize, ws: &[u32], n: u32) -> usize {
-    if p >= 100000 {
-        return 0;
-    }
-    if !state_as(o, p, ws, n) {
-        return 0;
-    }
-    let m = at_most(table::child_count(ws, n), ROW);
-    if words::next(o, p + 5) != m {
-        return 0;
-    }
-    if children_as(o, p + 6, ws, n, m) {
-        return p + 6 + m;
-    }
-    0
-}
-
-// The same of any node: which type of its root it is, and what that is if it is itself.
-fn node_as(o: &[u32], p: usize, ws: &[u32], n: u32) -> usize {
-    let up = table::up_of(ws, n);
-    if words::word(o, p) != up {
-        return 0;
+// What is behind the words of node n, where they are which type of its root it is, and what that is if it is itself.
+fn behind_node<'a>(stored: &'a [u32], ws: &[u32], n: u32) -> Option<&'a [u32]> {
+    let (up, rest) = stored.split_first()?;
+    if *up != table::up_of(ws, n) {
+        return None;
     }
     if up / 2 == n {
-        return root_as(o, p, ws, n);
+        return behind_root(rest, ws, n);
     }
-    if p >= 100000 {
-        return 0;
-    }
-    p + 1
+    Some(rest)
 }
 
 // Whether all nodes of a table are as stored.
-fn nodes(o: &[u32], ws: &[u32]) -> bool {
-    let n = table::count(ws);
-    if words::word(o, 2) != n {
-        return false;
-    }
-    let mut p = 3;
-    let mut i = 0;
-    while i < n {
-        p = node_as(o, p, ws, i);
-        if p == 0 {
+fn nodes_as(ws: &[u32], count: u32, stored: &[u32]) -> bool {
+    let mut rest = stored;
+    for n in 0..table::count(ws) {
+        let Some(behind) = behind_node(rest, ws, n) else {
             return false;
-        }
-        i += 1;
+        };
+        rest = behind;
     }
-    p == o.len()
+    count == table::count(ws) && rest.is_empty()
 }
 
 // Makes a step on the first of two tables; whether it gives what is stored.
@@ -500,15 +441,35 @@ pub fn step(s: &[u32], o: &[u32], own: &mut [u32], other: &mut [u32], marks: &mu
     ensures own { Sound own.new }
     ensures other { Sound other.new }
 {
-    let k = words::word(o, 0);
-    if k == IMPORT {
-        return import(o, own, other, marks);
+    let Some(operation) = Operation::parse(o) else {
+        return false;
+    };
+    match operation {
+        Operation::Unknown { node } => unknown(own, node),
+        Operation::Known {
+            kind,
+            inverted,
+            id,
+            children,
+            node,
+        } => known(own, kind, inverted, id, children, node),
+        Operation::Unify { a, b, verdict } => unify_two(s, own, marks, a, b) == Some(verdict),
+        Operation::Occurs { v, t, found } => occurs(own, marks, v, t) == Some(found),
+        Operation::SelfInverse { t, found } => self_inverse(s, own, marks, t) == Some(found),
+        Operation::GetMod { t, module } => walks::get_mod(s, own, t) == module,
+        Operation::UnifyImplTypes {
+            a,
+            xs,
+            b,
+            ys,
+            verdict,
+        } => unify_rows(s, own, marks, a, xs, b, ys) == Some(verdict),
+        Operation::Import {
+            params,
+            types,
+            moved,
+        } => import(own, other, marks, params, types, moved),
+        Operation::Export { types, moved } => export(own, other, marks, types, moved),
+        Operation::Nodes { count, nodes } => nodes_as(own, count, nodes),
     }
-    if k == EXPORT {
-        return export(o, own, other, marks);
-    }
-    if k == NODES {
-        return nodes(o, own);
-    }
-    own_step(s, o, own, marks, k)
 }

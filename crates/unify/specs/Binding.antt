@@ -8,9 +8,10 @@ use Rattle.rules.specs.Types.{Types, xor, occurs, and, from_bool, success, join,
 use Rattle.rules.specs.Transfer.{type_of_word}
 use Rattle.table.specs.Packing.{types_of, kind_at, inverted_at, id_at, Packed, Becomes, Roots, Good}
 use Rattle.memo.specs.Memo.{Forgets, Aside, forgets_aside}
-use Rattle.unify.specs.declared.UnifyResult.{UnifyResult}
-use Rattle.unify.specs.declared.UnifyResult.TheVariants.{Success, Failure, Indeterminate}
-use Rattle.unify.specs.Results.{result_of, Meets, met_inverted}
+use Rattle.memo.specs.declared.verdict.UnifyResult.{UnifyResult}
+use Rattle.memo.specs.declared.verdict.UnifyResult.TheVariants.{Success, Failure, Indeterminate}
+use Rattle.memo.specs.Verdicts.{result_of}
+use Rattle.unify.specs.Results.{Meets, met_inverted}
 use Rattle.unify.specs.Trying.{Binds}
 
 module _ (a b : UnifyResult) where

@@ -17,9 +17,10 @@ use Rattle.rules.specs.UnifyEnds.{Enough, child_enough}
 use Rattle.table.specs.Packing.{types_of, kind_at, Good}
 use Rattle.table.specs.Nodes.{type_word}
 use Rattle.table.specs.Reads.{digit, child_here, child_past}
-use Rattle.unify.specs.declared.UnifyResult.{UnifyResult}
-use Rattle.unify.specs.declared.UnifyResult.TheVariants.{Failure}
-use Rattle.unify.specs.Results.{result_of, Unifies, Exact, KnownRoots}
+use Rattle.memo.specs.declared.verdict.UnifyResult.{UnifyResult}
+use Rattle.memo.specs.declared.verdict.UnifyResult.TheVariants.{Failure}
+use Rattle.memo.specs.Verdicts.{result_of}
+use Rattle.unify.specs.Results.{Unifies, Exact, KnownRoots}
 use Rattle.unify.specs.Trying.{Ready, Fuelled, Went, Left, went_as, went_still, left_still, failure_not}
 use Rattle.unify.specs.Known.{children_there}
 

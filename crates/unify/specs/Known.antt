@@ -20,9 +20,10 @@ use Rattle.rules.specs.OwnInverse.{Later}
 use Rattle.rules.specs.UnifyEnds.{below_enough}
 use Rattle.rules.specs.MostGeneral.{Won, AfterAll, tailT, known_right, states_right, unify_in_right}
 use Rattle.table.specs.Packing.{types_of, kind_in, inverted_in, id_in, kind_at, inverted_at, id_at, Roots, Good}
-use Rattle.unify.specs.declared.UnifyResult.{UnifyResult}
-use Rattle.unify.specs.declared.UnifyResult.TheVariants.{Failure, Indeterminate}
-use Rattle.unify.specs.Results.{result_of, KnownRoots, met_inverted, unify_fields}
+use Rattle.memo.specs.declared.verdict.UnifyResult.{UnifyResult}
+use Rattle.memo.specs.declared.verdict.UnifyResult.TheVariants.{Failure, Indeterminate}
+use Rattle.memo.specs.Verdicts.{result_of}
+use Rattle.unify.specs.Results.{KnownRoots, met_inverted, unify_fields}
 use Rattle.unify.specs.Trying.{Ready, Fuelled, Went, went_as, went_still}
 
 known_parts : (st : TypeState) → kind_in st ≢ 0 → st ≡ known (inverted_in st) (kind_in st) (id_in st) (children st)

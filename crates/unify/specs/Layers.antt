@@ -24,9 +24,10 @@ use Rattle.rules.specs.MostGeneral.{Won, unify_in_right, states_right as rules_r
 use Rattle.table.specs.Packing.{types_of, kind_in, inverted_in, id_in, kind_at, inverted_at, id_at, Roots, Good}
 use Rattle.table.specs.Nodes.{type_word}
 use Rattle.table.specs.Reads.{unknown_here}
-use Rattle.unify.specs.declared.UnifyResult.{UnifyResult}
-use Rattle.unify.specs.declared.UnifyResult.TheVariants.{Success, Failure}
-use Rattle.unify.specs.Results.{result_of, Unifies, Exact, TwoRoots, KnownRoots, met_inverted, unify_fields}
+use Rattle.memo.specs.declared.verdict.UnifyResult.{UnifyResult}
+use Rattle.memo.specs.declared.verdict.UnifyResult.TheVariants.{Success, Failure}
+use Rattle.memo.specs.Verdicts.{result_of}
+use Rattle.unify.specs.Results.{Unifies, Exact, TwoRoots, KnownRoots, met_inverted, unify_fields}
 use Rattle.unify.specs.Trying.{Ready, Fuelled, Noted, Binds, Met, Went, noted_then, moves_noted, met_as, met-moved, met_still, met_noted, went_still}
 
 -- `unify` with no fuel left, and with some.

@@ -16,9 +16,10 @@ use Rattle.rules.specs.UnifyKeeps.{unify-acyclic}
 use Rattle.rules.specs.UnifyEnds.{Enough, full_enough}
 use Rattle.table.specs.Packing.{types_of, Good}
 use Rattle.table.specs.Nodes.{types_few}
-use Rattle.unify.specs.declared.UnifyResult.{UnifyResult}
-use Rattle.unify.specs.declared.UnifyResult.TheVariants.{Success, Failure, Indeterminate}
-use Rattle.unify.specs.Results.{result_of, Unifies, Joined, Stops}
+use Rattle.memo.specs.declared.verdict.UnifyResult.{UnifyResult}
+use Rattle.memo.specs.declared.verdict.UnifyResult.TheVariants.{Success, Failure, Indeterminate}
+use Rattle.memo.specs.Verdicts.{result_of}
+use Rattle.unify.specs.Results.{Unifies, Joined, Stops}
 use Rattle.unify.specs.Trying.{Fuelled, Went, exact_fails}
 use Rattle.unify.specs.Pairs.{before, before_twice, each_step, and_last, not_exact, stopped, later_exact}
 

@@ -1,5 +1,5 @@
 -- Two roots met through the memo: what is kept, and what may be kept.
-use Rattle.std.specs.Prelude.{ℕ, suc, ◌+◌, ◌<◌, ◌≡◌, refl, true, [], ◌∷◌, ◌≢◌, set}
+use Rattle.std.specs.Prelude.{ℕ, suc, ◌+◌, ◌<◌, ◌≡◌, refl, true, [], ◌∷◌, ◌≢◌, set, Option, Some}
 use Rattle.std.proofs.Common.{sym, ◌∙◌, ap, subst, inl, arith, length-set, get_or-set_other}
 use Rattle.rules.specs.Lists.{Words}
 use Rattle.rules.specs.Sheet.{at}
@@ -10,9 +10,10 @@ use Rattle.rules.specs.UnifyEnds.{roots_any}
 use Rattle.table.specs.Packing.{types_of, Good}
 use Rattle.table.specs.Nodes.{types_few}
 use Rattle.memo.specs.Memo.{verdict, Settled, Recalls, Ends, recalled, memo_begun, memo_ends}
-use Rattle.unify.specs.declared.UnifyResult.{UnifyResult}
-use Rattle.unify.specs.declared.UnifyResult.TheVariants.{Success, Failure, Indeterminate}
-use Rattle.unify.specs.Results.{result_of, code_of, TwoRoots}
+use Rattle.memo.specs.declared.verdict.UnifyResult.{UnifyResult}
+use Rattle.memo.specs.declared.verdict.UnifyResult.TheVariants.{Success, Failure, Indeterminate}
+use Rattle.memo.specs.Verdicts.{result_of, code_of, kept_code}
+use Rattle.unify.specs.Results.{TwoRoots}
 use Rattle.unify.specs.Trying.{Ready, Fuelled, Met, noted_still}
 
 pub root_small : (ws : Words) (x y : ℕ) → TwoRoots (types_of ws) (type_of_word x) (type_of_word y) → x < 512
@@ -24,7 +25,6 @@ unfolding type_of_word
 root_small_2 ws x y r = omega (arith, types_few ws, r.right_in)
 
 pub code_small : (v : UnifyResult) (c : ℕ) → c ≡ code_of v → c < 3
-unfolding code_of
 code_small v c e = go v e
   where
     go : (v : UnifyResult) → c ≡ code_of v → c < 3
@@ -56,10 +56,17 @@ module _ (s ws ms : Words) (x y left r : ℕ) (g : Good ws) (two : TwoRoots (typ
   unfolding verdict result_of
   kept_indeterminate e = kept_is Indeterminate (omega arith) (ap verdict e)
 
+-- So is a verdict that is recalled, which is no success.
+pub kept_again : (s ws ms : Words) (x y left : ℕ) (o : Option UnifyResult) (v : UnifyResult) → Good ws → TwoRoots (types_of ws) (type_of_word x) (type_of_word y) → Ready s (types_of ws) ms → Fuelled (suc left) (types_of ws) (type_of_word x ∷ []) → Recalls ms x y (kept_code o) → o ≢ Some Success → o ≡ Some v
+    → Met true s (types_of ws) ms ws ms v (unify_roots (unify_in left s) s (types_of ws) (type_of_word x) (type_of_word y))
+kept_again s ws ms x y left o Success g two rd f k n e = absurd (n e)
+kept_again s ws ms x y left o Failure g two rd f k n e = kept_failure s ws ms x y left (kept_code o) g two rd f k (ap kept_code e)
+kept_again s ws ms x y left o Indeterminate g two rd f k n e = kept_indeterminate s ws ms x y left (kept_code o) g two rd f k (ap kept_code e)
+
 -- What may be kept: ms is the memo before, ns as it is begun, os after the roots were met, ps at the end.
 pub kept_on : (s ws ms ns us os ps : Words) (x y left before c : ℕ) (v : UnifyResult) → Good ws → TwoRoots (types_of ws) (type_of_word x) (type_of_word y) → Fuelled (suc left) (types_of ws) (type_of_word x ∷ []) → before ≡ at ms 513 → c ≡ code_of v
     → Met true s (types_of ws) ns us os v (unify_roots (unify_in left s) s (types_of ws) (type_of_word x) (type_of_word y)) → Ends os ps before x y c → Met true s (types_of ws) ms us ps v (unify_roots (unify_in left s) s (types_of ws) (type_of_word x) (type_of_word y))
-unfolding type_of_word code_of verdict result_of
+unfolding type_of_word verdict result_of
 kept_on s ws ms ns us os ps x y left before c v g two f eb ec m e = record {
   packed = m.packed;
   is = m.is;

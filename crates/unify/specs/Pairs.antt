@@ -17,9 +17,10 @@ use Rattle.rules.specs.UnifyKeeps.{unify_in-acyclic, unify_in_narrows}
 use Rattle.rules.specs.UnifyEnds.{Enough, later_enough}
 use Rattle.table.specs.Packing.{types_of, kind_in, kind_at, Good}
 use Rattle.table.specs.Nodes.{type_word}
-use Rattle.unify.specs.declared.UnifyResult.{UnifyResult}
-use Rattle.unify.specs.declared.UnifyResult.TheVariants.{Success}
-use Rattle.unify.specs.Results.{result_of, Unifies, Exact, Stops, KnownRoots}
+use Rattle.memo.specs.declared.verdict.UnifyResult.{UnifyResult}
+use Rattle.memo.specs.declared.verdict.UnifyResult.TheVariants.{Success}
+use Rattle.memo.specs.Verdicts.{result_of}
+use Rattle.unify.specs.Results.{Unifies, Exact, Stops, KnownRoots}
 use Rattle.unify.specs.Trying.{Ready, Fuelled, Noted, Went, noted_still, noted_then, exact_fails, ready-after, failure_not, indeterminate_not}
 use Rattle.unify.specs.Kept.{Kept, same, after, unify-kept}
 use Rattle.unify.specs.Children.{map_at, child_fuelled, left-child, right_child}

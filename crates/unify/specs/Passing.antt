@@ -10,8 +10,9 @@ use Rattle.rules.specs.AcyclicLaws.{children_at}
 use Rattle.rules.specs.Solutions.{AllIn}
 use Rattle.table.specs.Packing.{types_of, Good}
 use Rattle.table.specs.Alike.{Matched, Alike, alike_none}
-use Rattle.unify.specs.declared.UnifyResult.{UnifyResult}
-use Rattle.unify.specs.Results.{result_of, KnownRoots}
+use Rattle.memo.specs.declared.verdict.UnifyResult.{UnifyResult}
+use Rattle.memo.specs.Verdicts.{result_of}
+use Rattle.unify.specs.Results.{KnownRoots}
 use Rattle.unify.specs.Known.{children_there}
 use Rattle.unify.specs.Children.{map_at}
 use Rattle.unify.specs.Pairs.{before, each_step, Pairs, same-children}

@@ -1,19 +1,12 @@
 -- What the functions of `unify` come to, in the words of the rules: a verdict, and the table that the words are.
 use Rattle.std.specs.Prelude.{ℕ, ◌<◌, ◌≡◌, Bool, true, false, ◌≢◌, ◌⊎◌, length}
 use Rattle.rules.specs.Lists.{Words}
-use Rattle.rules.specs.Types.{Ty, Types, xor, success, failure, indeterminate, Unified, unify_known}
-use Rattle.rules.specs.Types as rules
+use Rattle.rules.specs.Types.{Ty, Types, xor, success, Unified, unify_known}
 use Rattle.rules.specs.AcyclicLaws.{children_at}
 use Rattle.rules.specs.Solutions.{rep}
 use Rattle.table.specs.Packing.{types_of, kind_at, inverted_at, id_at, Packed, Good}
-use Rattle.unify.specs.declared.UnifyResult.{UnifyResult}
-use Rattle.unify.specs.declared.UnifyResult.TheVariants.{Success, Failure, Indeterminate}
-
--- The verdict that a value of the code is.
-unfoldable pub result_of : UnifyResult → rules.UnifyResult
-result_of Success = success
-result_of Failure = failure
-result_of Indeterminate = indeterminate
+use Rattle.memo.specs.declared.verdict.UnifyResult.{UnifyResult}
+use Rattle.memo.specs.Verdicts.{result_of}
 
 -- A verdict and a table: the words are packed, or good, still.
 pub record Meets (us : Words) (v : UnifyResult) (m : Unified) : Type 0 where
@@ -69,12 +62,6 @@ pub record Joins (m : Unified) (out : Words) (r : Bool) : Type 0 where
   pub failed : r ≡ false → m.0 ≢ success
   pub met : r ≡ true → m.0 ≡ success
   pub types : r ≡ true → types_of out ≡ m.1
-
--- The code that a verdict is kept with.
-unfoldable pub code_of : UnifyResult → ℕ
-code_of Success = 0
-code_of Failure = 1
-code_of Indeterminate = 2
 
 -- Whether no further pair is tried after verdict v.
 pub record Stops (w : Bool) (v : UnifyResult) (r : Bool) : Type 0 where

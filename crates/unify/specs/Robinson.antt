@@ -8,9 +8,10 @@ use Rattle.rules.specs.Transfer.{type_of_word}
 use Rattle.rules.specs.Robinson.{Sol, Solves, sub, reading, Plain, PlainType, IsMostGeneral, robinson}
 use Rattle.rules.specs.Robinson as theorem
 use Rattle.table.specs.Packing.{types_of}
-use Rattle.unify.specs.declared.UnifyResult.{UnifyResult}
-use Rattle.unify.specs.declared.UnifyResult.TheVariants.{Success, Failure, Indeterminate}
-use Rattle.unify.specs.Results.{result_of, Unifies}
+use Rattle.memo.specs.declared.verdict.UnifyResult.{UnifyResult}
+use Rattle.memo.specs.declared.verdict.UnifyResult.TheVariants.{Success, Failure, Indeterminate}
+use Rattle.memo.specs.Verdicts.{result_of}
+use Rattle.unify.specs.Results.{Unifies}
 
 -- ws are the words before, us after, v the verdict, for type words a and b.
 pub record Robinson (ws us : Words) (v : UnifyResult) (a b : ℕ) : Type 0 where

@@ -16,9 +16,10 @@ use Rattle.table.specs.Nodes.{types_few}
 use Rattle.walks.specs.Marking.{is_marked}
 use Rattle.walks.specs.SelfInverse.{Own, Inverted}
 use Rattle.memo.specs.Memo.{Memo, Forgets, Starts, Past, Aside, memo_none, memo_starts, memo_past, aside_past}
-use Rattle.unify.specs.declared.UnifyResult.{UnifyResult}
-use Rattle.unify.specs.declared.UnifyResult.TheVariants.{Success, Failure, Indeterminate}
-use Rattle.unify.specs.Results.{result_of, Meets, Unifies, Leaves, Exact, Joined, Joins, code_of, Stops}
+use Rattle.memo.specs.declared.verdict.UnifyResult.{UnifyResult}
+use Rattle.memo.specs.declared.verdict.UnifyResult.TheVariants.{Success, Failure, Indeterminate}
+use Rattle.memo.specs.Verdicts.{result_of, code_of}
+use Rattle.unify.specs.Results.{Meets, Unifies, Leaves, Exact, Joined, Joins, Stops}
 
 -- Where there is room for all marks, words 256 to 511 mark nodes that are their own inverse.
 pub record OwnMarks (s : Words) (ts : Types) (ms : Words) : Type 0 where
@@ -219,15 +220,12 @@ module _ (w : Bool) (v : UnifyResult) where
 
 module _ (v : UnifyResult) where
   pub code_success : v ≡ Success → 0 ≡ code_of v
-  unfolding code_of
   code_success e = sym (ap code_of e)
 
   pub code_failure : v ≡ Failure → 1 ≡ code_of v
-  unfolding code_of
   code_failure e = sym (ap code_of e)
 
   pub code_indeterminate : v ≡ Indeterminate → 2 ≡ code_of v
-  unfolding code_of
   code_indeterminate e = sym (ap code_of e)
 
 -- `unify` itself, with all pairs tried, and whether it succeeds.

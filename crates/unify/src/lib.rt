@@ -4,86 +4,34 @@
 
 ghost use Rattle.std.specs.Prelude.{◌≡◌, true, false, not, ◌&&◌, ◌||◌, List, [], ◌∷◌, map, suc, ◌/◌, ◌<◌, ◌≤◌, eqb, length, get_or};
 ghost use Rattle.rules.specs.Sheet.{kind_flag, row_may_meet};
-ghost use Rattle.rules.specs.Types.{invert_if, occurs, self_inverse as inverse_of, success, last_of, state_at, and as and_of, from_bool, unify_each as each_of, unify_children as children_of, bind_unknown as bind_of, join_on_success as success_of, unify_states as states_of, unify_roots as roots_of, unify_in, unify_types as types_unified, unify as unify_of, unify_impl_type as impl_type_unified, approx_eq as approx_of, Ty};
+ghost use Rattle.rules.specs.Types.{invert_if, occurs, self_inverse as inverse_of, success, last_of, state_at, unify_each as each_of, unify_children as children_of, bind_unknown as bind_of, join_on_success as success_of, unify_states as states_of, unify_roots as roots_of, unify_in, unify_types as types_unified, unify as unify_of, unify_impl_type as impl_type_unified, approx_eq as approx_of, Ty};
 ghost use Rattle.rules.specs.AcyclicLaws.{children_at};
 ghost use Rattle.rules.specs.Transfer.{type_of_word};
 ghost use Rattle.rules.specs.Answer.{word_of_type};
 ghost use Rattle.table.specs.Packing.{types_of, kind_at, id_at, Packed, Good, Roots};
 ghost use Rattle.unify.specs.Lists.{Nodes};
 ghost use Rattle.memo.specs.Memo.{Aside};
-ghost use Rattle.unify.specs.Results.{result_of, code_of, Stops, Unifies, Joined, Joins, TwoRoots, KnownRoots, met_inverted, unify_fields};
+ghost use Rattle.memo.specs.Verdicts.{result_of};
+ghost use Rattle.unify.specs.Results.{Stops, Unifies, Joined, Joins, TwoRoots, KnownRoots, met_inverted, unify_fields};
 ghost use Rattle.table.specs.Alike.{Matched};
 ghost use Rattle.unify.specs.Passing.{Passes};
 ghost use Rattle.unify.specs.Trying.{Ready, Fuelled, Noted, Binds, Met, Went, Left};
 
 use chart::{kinds, layout};
-
-#[derive(Clone, Copy)]
-pub enum UnifyResult {
-    Success,
-    Failure,
-    Indeterminate,
-}
-
-fn wide(w: u32) -> usize
-    ensures { result ≡ w }
-{
-    w as usize
-}
+pub use memo::UnifyResult;
 
 // The kind of node n; 0 where it is unknown.
 fn kind(ws: &[u32], n: u32) -> usize
     ensures { result ≡ kind_at (types_of ws.now) n }
 {
-    wide(table::kind_of(ws, n))
-}
-
-// `UnifyResult::and`.
-fn and(a: UnifyResult, b: UnifyResult) -> UnifyResult
-    ensures { result_of result ≡ and_of (result_of a) (result_of b) }
-{
-    match a {
-        UnifyResult::Success => b,
-        UnifyResult::Failure => UnifyResult::Failure,
-        UnifyResult::Indeterminate => match b {
-            UnifyResult::Success => UnifyResult::Indeterminate,
-            UnifyResult::Failure => UnifyResult::Failure,
-            UnifyResult::Indeterminate => UnifyResult::Indeterminate,
-        },
-    }
-}
-
-// `UnifyResult::from_bool`.
-fn from_bool(b: bool) -> UnifyResult
-    ensures { result_of result ≡ from_bool b }
-{
-    if b {
-        UnifyResult::Success
-    } else {
-        UnifyResult::Failure
-    }
-}
-
-// A verdict that the memo keeps, as a code; 0 is success.
-fn code_of(v: UnifyResult) -> u32
-    ensures { result ≡ code_of v }
-{
-    match v {
-        UnifyResult::Success => 0,
-        UnifyResult::Failure => 1,
-        UnifyResult::Indeterminate => 2,
-    }
+    table::kind_of(ws, n) as usize
 }
 
 // Whether no further pair is tried.
 fn stops(whole: bool, v: UnifyResult) -> bool
     ensures { Stops whole v result }
 {
-    match v {
-        UnifyResult::Success => false,
-        UnifyResult::Failure => !whole,
-        UnifyResult::Indeterminate => !whole,
-    }
+    !whole && v != UnifyResult::Success
 }
 
 // `occurs`, with marks in front of the memo.
@@ -142,10 +90,7 @@ fn occurs_either(ws: &[u32], marks: &mut [u32], x: u32, y: u32) -> bool
     ensures is { result ≡ (occurs (types_of ws.now) (x / 2) (type_of_word y) || occurs (types_of ws.now) (y / 2) (type_of_word x)) }
     ensures aside { Aside marks.old marks.new }
 {
-    if occurs_at(ws, marks, x / 2, y) {
-        return true;
-    }
-    occurs_at(ws, marks, y / 2, x)
+    occurs_at(ws, marks, x / 2, y) || occurs_at(ws, marks, y / 2, x)
 }
 
 // An unknown and another root: an unknown never joins a type that contains it.
@@ -169,24 +114,20 @@ fn join_on_success(ws: &mut [u32], marks: &mut [u32], v: UnifyResult, x: u32, y:
     requires roots { result_of v ≡ success → Roots (types_of ws.old) (type_of_word x) (type_of_word y) }
     ensures { Binds (types_of ws.old) marks.old ws.new marks.new result (success_of (result_of v, types_of ws.old) (type_of_word x) (type_of_word y)) }
 {
-    match v {
-        UnifyResult::Success => {
-            table::join(ws, x, y);
-            memo::forget(marks);
-            UnifyResult::Success
-        }
-        UnifyResult::Failure => UnifyResult::Failure,
-        UnifyResult::Indeterminate => UnifyResult::Indeterminate,
+    if v == UnifyResult::Success {
+        table::join(ws, x, y);
+        memo::forget(marks);
     }
+    v
 }
 
 // Whether two known roots meet inverted.
 fn inverted_to(ws: &[u32], x: u32, y: u32) -> bool
     ensures { result ≡ met_inverted (types_of ws.now) (type_of_word x) (type_of_word y) }
 {
-    let a = table::xor(table::inverted_of(ws, x / 2), table::is_inverted(x));
-    let b = table::xor(table::inverted_of(ws, y / 2), table::is_inverted(y));
-    table::xor(a, b)
+    let a = table::inverted_of(ws, x / 2) ^ table::is_inverted(x);
+    let b = table::inverted_of(ws, y / 2) ^ table::is_inverted(y);
+    a ^ b
 }
 
 // Whether nodes x and y are of one kind and id, and may meet, inverted or not.
@@ -195,16 +136,9 @@ fn may_meet(s: &[u32], ws: &[u32], x: u32, y: u32, inverted: bool) -> bool
 {
     let k = table::kind_of(ws, x);
     let d = table::id_of(ws, x);
-    if k != table::kind_of(ws, y) {
-        return false;
-    }
-    if d != table::id_of(ws, y) {
-        return false;
-    }
-    if inverted {
-        return kinds::kind_flag(s, layout::ROW_MAY_MEET, wide(k), wide(d));
-    }
-    true
+    k == table::kind_of(ws, y)
+        && d == table::id_of(ws, y)
+        && (!inverted || kinds::kind_flag(s, layout::ROW_MAY_MEET, k as usize, d as usize))
 }
 
 // Child j of node n, inverted or not.
@@ -259,17 +193,12 @@ fn unify_noted(
     requires fuelled { Fuelled (suc left) (types_of ws.old) (type_of_word x ∷ []) }
     ensures { Met true s.now (types_of ws.old) marks.old ws.new marks.new result (roots_of (unify_in left s.now) s.now (types_of ws.old) (type_of_word x) (type_of_word y)) }
 {
-    let kept = memo::recall(marks, x, y);
-    if kept == 1 {
-        return UnifyResult::Failure;
-    }
-    if kept == 2 {
-        return UnifyResult::Indeterminate;
+    if let Some(kept) = memo::recall(marks, x, y) {
+        return kept;
     }
     let before = memo::begin(marks);
     let r = unify_roots(s, ws, marks, true, x, y, left);
-    let code = code_of(r);
-    memo::end(marks, before, x, y, code);
+    memo::end(marks, before, x, y, r);
     r
 }
 
@@ -296,7 +225,7 @@ fn unify_roots(
     if x == y {
         return UnifyResult::Success;
     }
-    from_bool(own_inverse(s, ws, marks, x))
+    UnifyResult::from(own_inverse(s, ws, marks, x))
 }
 
 // Two different roots, by what they are. An unknown joins Error.
@@ -316,10 +245,7 @@ fn unify_states(
     requires fuelled { Fuelled (suc left) (types_of ws.old) (type_of_word x ∷ []) }
     ensures { Met whole s.now (types_of ws.old) marks.old ws.new marks.new result (states_of (unify_in left s.now) s.now (types_of ws.old) (type_of_word x) (type_of_word y) (state_at (types_of ws.old) (x / 2)) (state_at (types_of ws.old) (y / 2))) }
 {
-    if kind(ws, x / 2) == layout::KIND_UNKNOWN {
-        return bind_unknown(ws, marks, x, y);
-    }
-    if kind(ws, y / 2) == layout::KIND_UNKNOWN {
+    if kind(ws, x / 2) == layout::KIND_UNKNOWN || kind(ws, y / 2) == layout::KIND_UNKNOWN {
         return bind_unknown(ws, marks, x, y);
     }
     let v = unify_known(s, ws, marks, whole, x, y, left);
@@ -343,10 +269,7 @@ fn unify_known(
     requires fuelled { Fuelled (suc left) (types_of ws.old) (type_of_word x ∷ []) }
     ensures { Went whole s.now (types_of ws.old) marks.old ws.new marks.new result (unify_fields (unify_in left s.now) s.now (types_of ws.old) (type_of_word x) (type_of_word y)) }
 {
-    if kind(ws, x / 2) == layout::KIND_ERROR {
-        return UnifyResult::Indeterminate;
-    }
-    if kind(ws, y / 2) == layout::KIND_ERROR {
+    if kind(ws, x / 2) == layout::KIND_ERROR || kind(ws, y / 2) == layout::KIND_ERROR {
         return UnifyResult::Indeterminate;
     }
     let inverted = inverted_to(ws, x, y);
@@ -379,7 +302,6 @@ fn unify_children(
     }
     if kind(ws, x) == layout::KIND_CLOSURE {
         unify_last(s, ws, marks, whole, x, y, inverted, left);
-        return UnifyResult::Failure;
     }
     UnifyResult::Failure
 }
@@ -403,11 +325,8 @@ fn unify_last(
     ensures { Left whole s.now (types_of ws.old) marks.old ws.new marks.new (each_of (unify_in left s.now) (types_of ws.old) (last_of (children_at (types_of ws.old) x)) (last_of (map (invert_if inverted) (children_at (types_of ws.old) y)))) }
 {
     let m = table::child_count(ws, x);
-    if m == 0 {
-        return;
-    }
     let n = table::child_count(ws, y);
-    if n == 0 {
+    if m == 0 || n == 0 {
         return;
     }
     let a = table::child(ws, x, m - 1);
@@ -448,7 +367,8 @@ fn unify_each(
 {
     let m = table::child_count(ws, x);
     let mut v = UnifyResult::Success;
-    let mut i: usize = 0;
+    let mut i = 0;
+    // No `for`: a step passes over as many pairs as are alike in the table as it is then.
     loop {
         let j = next_pair(ws, x, y, inverted, left, i, m);
         if j >= m {
@@ -457,7 +377,7 @@ fn unify_each(
         let a = table::child(ws, x, j);
         let b = met_child(ws, y, j, inverted);
         let r = unify_in(s, ws, marks, whole, a, b, left);
-        v = and(v, r);
+        v = v.and(r);
         if stops(whole, v) {
             return v;
         }
@@ -515,16 +435,11 @@ fn unify_types(
         return UnifyResult::Failure;
     }
     let mut v = UnifyResult::Success;
-    let mut k: usize = 0;
-    while k < xs.len() {
-        let a = words::word(xs, k);
-        let b = words::word(ys, k);
-        let r = unify_one(s, ws, marks, whole, a, b);
-        v = and(v, r);
+    for (a, b) in xs.iter().zip(ys) {
+        v = v.and(unify_one(s, ws, marks, whole, *a, *b));
         if stops(whole, v) {
             return v;
         }
-        k += 1;
     }
     v
 }
@@ -546,10 +461,7 @@ fn unify_impl_types(
     requires in_bounds { 256 ≤ length marks.old }
     ensures { Joined whole ws.new result (impl_type_unified s.now (types_of ws.old) (a, map type_of_word xs.now) (b, map type_of_word ys.now)) }
 {
-    if a == 0 {
-        return UnifyResult::Indeterminate;
-    }
-    if b == 0 {
+    if a == 0 || b == 0 {
         return UnifyResult::Indeterminate;
     }
     if a != b {
@@ -593,20 +505,13 @@ pub fn join_impl_type(
     requires in_bounds { 256 ≤ length marks.old }
     ensures { Joins (impl_type_unified s.now (types_of ws.old) (a, map type_of_word xs.now) (b, map type_of_word ys.now)) ws.new result }
 {
-    let v = unify_impl_types(s, ws, marks, false, a, xs, b, ys);
-    match v {
-        UnifyResult::Success => true,
-        UnifyResult::Failure => false,
-        UnifyResult::Indeterminate => false,
-    }
+    unify_impl_types(s, ws, marks, false, a, xs, b, ys) == UnifyResult::Success
 }
 
 // `approx_eq`: the same trait, and none is Error. Arguments are not looked at.
+#[tactic(auto, unfolding(rules::specs::Types::approx_eq))]
 pub fn approx_eq(a: u32, b: u32) -> bool
     ensures { (xs ys : List Ty) → result ≡ approx_of (a, xs) (b, ys) }
 {
-    if a == 0 {
-        return false;
-    }
-    a == b
+    a != 0 && a == b
 }

@@ -1,6 +1,7 @@
 -- What is noted of a chain as a whole: its length, or the most that a record on it asks for. Chains that go forward, and the pass from the slice's end that notes this for every place.
-use Rattle.std.specs.Prelude.{ℕ, zero, suc, ◌+◌, ◌-◌, ◌≤◌, ◌<◌, ◌≡◌, refl, Bool, true, false, [], ◌∷◌, ◌≢◌, ◌⊎◌, ◌↔◌, T, leb, ltb, length, set}
+use Rattle.std.specs.Prelude.{ℕ, zero, suc, ◌+◌, ◌-◌, ◌≤◌, ◌<◌, ◌≡◌, refl, Bool, true, false, [], ◌∷◌, ◌≢◌, ◌⊎◌, ◌↔◌, T, leb, ltb, length, set, max}
 use Rattle.std.proofs.Common.{sym, ◌∙◌, ap, subst, inl, inr, ⊎_elim, not-suc-le-zero, arith, le-leb, lt-ltb, le-ltb, leb→le, le→leb, length-set, get_or-set_same, get_or-set_other}
+use denote.Ref.{Bor}
 use Rattle.std.proofs.Math.Decide.{ℕ_discrete, dec_le, dec_lt}
 use Rattle.std.proofs.lemmas.Bool.{lt-leb}
 use Rattle.rules.specs.Lists.{Words, all}
@@ -24,6 +25,14 @@ larger_right a b h = rw (le-leb a b h, larger)
 pub larger-left : (a b : ℕ) → b < a → a ≡ larger a b
 unfolding larger
 larger-left a b h = rw (lt-leb a b h, larger)
+
+-- It is the library's.
+pub larger_max : (a b : ℕ) → max a b ≡ larger a b
+larger_max a b = go (dec_le a b)
+  where
+    go : Dec (a ≤ b) → max a b ≡ larger a b
+    go (yes h) = omega (arith, larger_right a b h)
+    go (no h) = omega (arith, larger-left a b (omega arith))
 
 -- It is at most n if both are.
 pub larger_least : (a b n : ℕ) → (larger a b ≤ n) ↔ ((a ≤ n) × (b ≤ n))
@@ -140,6 +149,19 @@ mark-same ws us b to (suc h) l same = go (dec_lt (suc h) limit_sheet)
     go (yes k) = sym (mark-some us b (suc h) (at us (b + suc h)) (λ e. omega arith) k refl) ∙ same (b + suc h) (omega arith) ∙ mark-some ws b (suc h) (at ws (b + suc h)) (λ e. omega arith) k refl
     go (no k) = sym (mark_past us b (suc h) (omega arith)) ∙ mark_past ws b (suc h) (omega arith)
 
+-- Nothing below a place is changed.
+pub record Below (to : ℕ) (ws us : Words) : Type 0 where
+  pub same : (j : ℕ) → j < to → at us j ≡ at ws j
+  pub long : length us ≡ length ws
+
+-- What a pass asks of its step: it may be asked of each place, where nothing below the plane from b is changed,
+abbrev pub Runs : ℕ → Words → (Bor Words → ℕ → ℕ → Type 0) → Type 0
+Runs b ws pre = (us : Bor Words) (i m : ℕ) → Below b ws us.now → pre us i m
+
+-- and says of a place what g does, from what g says of its next.
+abbrev pub Right : Words → ℕ → Words → (ℕ → ℕ) → (Bor Words → ℕ → ℕ → ℕ → Type 0) → Type 0
+Right w b ws g post = (us : Bor Words) (i m r : ℕ) → Below b ws us.now → 0 < i → Forward w i → m ≡ g (at w i) → post us i m r → r ≡ g i
+
 -- In the plane from b is noted, from place lo on, what g says of each place from which a chain goes forward; nothing below the plane is changed.
 pub record Folded (s : Words) (b : ℕ) (g : ℕ → ℕ) (lo : ℕ) (ws us : Words) : Type 0 where
   pub long : length us ≡ length ws
@@ -187,6 +209,14 @@ module _ (s : Words) (b : ℕ) (g : ℕ → ℕ) (ws us : Words) where
       let k = (onward (omega arith) o).inside in
       sym (mark-some us b (suc h) (at us (b + suc h)) (λ e. omega arith) (omega arith) refl) ∙ n.is (suc h) (omega arith) k o
 
+  -- The pass: one place more, from what is noted of its next.
+  pub note_more : (i next r : ℕ) → length s ≤ limit_sheet → b + limit_sheet ≤ length ws → 1 < i → i ≤ length s → g 0 ≡ 0 → next ≡ chain_mark us b (at s (i - 1)) → (0 < i - 1 → Forward s (i - 1) → next ≡ g (at s (i - 1)) → r ≡ g (i - 1)) → Folded s b g i ws us → Folded s b g (i - 1) ws (set us (b + (i - 1)) r)
+  note_more i next r small room p l z e k n = fold_more i r p l (omega arith) n (λ f q o. k q o (e ∙ next_noted (i - 1) small z f q o))
+
+-- Nothing below the plane is changed by what is written in it.
+pub below_set : (b : ℕ) (ws us : Words) (i r : ℕ) → Below b ws us → Below b ws (set us (b + i) r)
+below_set b ws us i r k = record { same = λ j l. get_or-set_other us (b + i) j r 0 (λ q. absurd (omega arith)) ∙ k.same j l; long = length-set us (b + i) r ∙ k.long }
+
 -- How many records the chain from a place has.
 unfoldable pub chain_length : Words → ℕ → ℕ
 chain_length s i = length (chain s i)
@@ -197,16 +227,11 @@ unfolding chain_length
 length_none s = ap length (chain-none s)
 
 -- One more than from its next.
-length_right : (s : Words) (i m : ℕ) → length s ≤ limit_sheet → 0 < i → Forward s i → m ≡ chain_length s (at s i) → longer m ≡ chain_length s i
+pub length_right : (s : Words) (i m : ℕ) → length s ≤ limit_sheet → 0 < i → Forward s i → m ≡ chain_length s (at s i) → longer m ≡ chain_length s i
 unfolding chain_length
 length_right s i m small p o e =
     let q = ap length (forward_step s i p o) in
     sym (longer_up m (omega (arith, q, chain-within s i))) ∙ (let z : m + 1 ≡ length (chain s i) = omega (arith, q) in z)
-
--- The pass that notes lengths: one place more.
-pub lengths_more : (s ws us : Words) (b i r : ℕ) → length s ≤ limit_sheet → b + limit_sheet ≤ length ws → 1 < i → i ≤ length s → Folded s b (chain_length s) i ws us → r ≡ longer (chain_mark us b (at s (i - 1))) → Folded s b (chain_length s) (i - 1) ws (set us (b + (i - 1)) r)
-lengths_more s ws us b i r small room p l n e = fold_more s b (chain_length s) ws us i r p l (omega arith) n
-    (λ f q o. e ∙ length_right s (i - 1) (chain_mark us b (at s (i - 1))) small q o (next_noted s b (chain_length s) ws us (i - 1) small (length_none s) f q o))
 
 -- What f says of the chain from a place: the most that it says of one of its records.
 unfoldable pub chain_most : (ℕ → ℕ) → Words → ℕ → ℕ
@@ -218,11 +243,10 @@ unfolding chain_most most
 most-none f s = ap (most f) (chain-none s)
 
 -- The larger of what it says of the record and of the chain from its next.
-most_right : (f : ℕ → ℕ) (s : Words) (i : ℕ) → 0 < i → Forward s i → larger (f i) (chain_most f s (at s i)) ≡ chain_most f s i
+pub most_right : (f : ℕ → ℕ) (s : Words) (i : ℕ) → 0 < i → Forward s i → larger (f i) (chain_most f s (at s i)) ≡ chain_most f s i
 unfolding chain_most most
 most_right f s i p o = sym (ap (most f) (forward_step s i p o))
 
--- The pass that notes it: one place more.
-pub most_more : (s ws us : Words) (f : ℕ → ℕ) (b i v r : ℕ) → length s ≤ limit_sheet → b + limit_sheet ≤ length ws → 1 < i → i ≤ length s → Folded s b (chain_most f s) i ws us → v ≡ f (i - 1) → r ≡ larger v (chain_mark us b (at s (i - 1))) → Folded s b (chain_most f s) (i - 1) ws (set us (b + (i - 1)) r)
-most_more s ws us f b i v r small room p l n e k = fold_more s b (chain_most f s) ws us i r p l (omega arith) n
-    (λ g q o. k ∙ (λ t. larger (e t) (next_noted s b (chain_most f s) ws us (i - 1) small (most-none f s) g q o t)) ∙ most_right f s (i - 1) q o)
+-- A record and the chain from its next.
+pub most_step : (f : ℕ → ℕ) (s : Words) (i m v r : ℕ) → 0 < i → Forward s i → m ≡ chain_most f s (at s i) → v ≡ f i → r ≡ max v m → r ≡ chain_most f s i
+most_step f s i m v r p o e h k = k ∙ larger_max v m ∙ (λ t. larger (h t) (e t)) ∙ most_right f s i p o

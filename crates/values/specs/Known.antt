@@ -1,6 +1,6 @@
 -- What is known of a sheet, for one read each: the count of each kind of record, in words 0 to 15 of the workspace, and the place of each trait's record, in its second plane.
 use Prim.Native.Nat.{ℕ, zero, suc, ◌+◌, ◌*◌, ◌-◌, ◌≤◌, ◌<◌}
-use Rattle.std.specs.Prelude.{◌≡◌, Bool, true, false, [], ◌∷◌, ◌≢◌, eqb, length}
+use Rattle.std.specs.Prelude.{◌≡◌, Bool, true, false, [], ◌∷◌, ◌≢◌, eqb, length, Option, MatchOption}
 use Rattle.std.proofs.Math.Path.{refl, ap}
 use Rattle.std.proofs.Common.{sym, ◌∙◌}
 use native.Mathlib.Omega.{arith}
@@ -10,9 +10,11 @@ use Rattle.rules.specs.Lists.{Words, holds}
 use Rattle.rules.specs.Limits.{limit_sheet}
 use Rattle.rules.specs.Layout.{header_definitions, header_impls, header_traits, header_imports, header_length, binding_vis, binding_impl, member_vis, member_import, member_id, trait_arity_word, kind_param, kind_fn, kind_key}
 use Rattle.rules.specs.Sheet.{at, records, many, field, trait_arity}
-use Rattle.rules.specs.WordLaws.{word_past}
 use Rattle.rules.specs.Values.{is_id, is_optional, is_vis, binding_ok, member_ok, arity}
 use Rattle.chart.specs.Index.{many-within}
+use Rattle.chart.specs.Numbers.{number_of}
+use Rattle.chart.specs.declared.kinds.Kind.{Kind}
+use Rattle.chart.specs.declared.kinds.Kind.TheVariants.{Unknown, Param, Tuple, Opaque, Struct, Enum, Union, Fn, Closure, Ref, Key, Never, Default, Error}
 use Rattle.values.specs.NodeLaws.{owners, owner, id_fits, word_most, args_core}
 
 -- The id of a member, of a child or an import.
@@ -36,11 +38,6 @@ known_same s ws us to small l same k = record {
   trait = λ i m. same (limit_sheet + i) (omega (arith, many-within s header_traits)) ∙ k.trait i m;
 }
 
--- The header word that heads the records which a kind's id names, as a table has it.
-pub owner_past : (k : ℕ) → 9 ≤ k → 0 ≡ owner k
-unfolding owners
-owner_past k h = word_past owners k h
-
 owner_in : (k : ℕ) → owner k < header_length
 unfolding owners
 owner_in zero = omega arith
@@ -54,33 +51,62 @@ owner_in (suc (suc (suc (suc (suc (suc (suc zero))))))) = omega arith
 owner_in (suc (suc (suc (suc (suc (suc (suc (suc zero)))))))) = omega arith
 owner_in (suc (suc (suc (suc (suc (suc (suc (suc (suc k))))))))) = omega arith
 
-module _ (s ws : Words) (kn : Known s ws) (k id : ℕ) where
+-- Other kinds' ids name none.
+pub owner_none : (kind : Kind) → kind ≢ Opaque → kind ≢ Struct → kind ≢ Enum → kind ≢ Union → kind ≢ Closure → owner (number_of kind) ≡ 0
+unfolding owners
+owner_none Unknown a b c d e = refl
+owner_none Param a b c d e = refl
+owner_none Tuple a b c d e = refl
+owner_none Opaque a b c d e = absurd (a refl)
+owner_none Struct a b c d e = absurd (b refl)
+owner_none Enum a b c d e = absurd (c refl)
+owner_none Union a b c d e = absurd (d refl)
+owner_none Fn a b c d e = refl
+owner_none Closure a b c d e = absurd (e refl)
+owner_none Ref a b c d e = refl
+owner_none Key a b c d e = refl
+owner_none Never a b c d e = refl
+owner_none Default a b c d e = refl
+owner_none Error a b c d e = refl
+
+-- The header word that heads the records which ids of kind k name, where there is one.
+abbrev pub Owner : Option ℕ → ℕ → Type 0
+Owner o k = MatchOption o (owner k ≡ 0) (λ h. (h ≡ owner k) × (0 < h))
+
+-- An id names a record of its kind, or is 0 where the kind names none.
+unfoldable pub owned : Words → ℕ → ℕ → Bool
+owned s k id = elim (eqb (owner k) 0) [ true ↦ eqb id 0 | false ↦ ltb id (many s (owner k)) ]
+
+-- An unused id.
+pub owned_none : (s : Words) (k id : ℕ) → owner k ≡ 0 → eqb id 0 ≡ owned s k id
+unfolding owned
+owned_none s k id e = rw (eq-eqb (owner k) 0 e, owned) refl
+
+-- An id of a record.
+pub owned_some : (s ws : Words) (k id h c : ℕ) → Known s ws → (h ≡ owner k) × (0 < h) → c ≡ at ws h → ltb id c ≡ owned s k id
+unfolding owned
+owned_some s ws k id h c kn q g = rw (ne_eqb (owner k) 0 (λ z. absurd (omega (arith, q.0, q.1, z))), owned) (ap (ltb id) (g ∙ ap (at ws) q.0 ∙ kn.count (owner k) (owner_in k)))
+
+module _ (s : Words) (k id : ℕ) where
   -- The id of a Param.
   pub id_param : k ≡ kind_param → ltb id word_most ≡ id_fits s k id
   unfolding id_fits
-  id_param e = rw (eq-eqb k kind_param e, id_fits) refl
+  id_param e = sym (ap (λ x. id_fits s x id) e)
 
   -- The id of an Fn.
-  pub id_fn : k ≢ kind_param → k ≡ kind_fn → true ≡ id_fits s k id
+  pub id_fn : k ≡ kind_fn → true ≡ id_fits s k id
   unfolding id_fits
-  id_fn n e = rw (ne_eqb k kind_param n, eq-eqb k kind_fn e, id_fits) refl
+  id_fn e = sym (ap (λ x. id_fits s x id) e)
 
   -- The id of a Key.
-  pub id_key : k ≢ kind_param → k ≢ kind_fn → k ≡ kind_key → true ≡ id_fits s k id
+  pub id_key : k ≡ kind_key → true ≡ id_fits s k id
   unfolding id_fits
-  id_key n m e = rw (ne_eqb k kind_param n, ne_eqb k kind_fn m, eq-eqb k kind_key e, id_fits) refl
+  id_key e = sym (ap (λ x. id_fits s x id) e)
 
-  -- An unused id.
-  pub id_none : (h : ℕ) → k ≢ kind_param → k ≢ kind_fn → k ≢ kind_key → h ≡ owner k → h ≡ 0 → eqb id 0 ≡ id_fits s k id
-  unfolding id_fits
-  id_none h n m o e z = rw (ne_eqb k kind_param n, ne_eqb k kind_fn m, ne_eqb k kind_key o, eq-eqb (owner k) 0 (sym e ∙ z), id_fits) refl
-
-  -- An id of a record.
-  pub id_owned : (h c : ℕ) → k ≢ kind_param → k ≢ kind_fn → k ≢ kind_key → h ≡ owner k → h ≢ 0 → c ≡ at ws h → ltb id c ≡ id_fits s k id
-  unfolding id_fits
-  id_owned h c n m o e z f =
-      rw (ne_eqb k kind_param n, ne_eqb k kind_fn m, ne_eqb k kind_key o, ne_eqb (owner k) 0 (λ q. z (e ∙ q)), id_fits)
-      (ap (ltb id) (f ∙ ap (at ws) e ∙ kn.count (owner k) (owner_in k)))
+  -- Another.
+  pub id_owned : (r : Bool) → k ≢ kind_param → k ≢ kind_fn → k ≢ kind_key → r ≡ owned s k id → r ≡ id_fits s k id
+  unfolding id_fits owned
+  id_owned r n m o e = e ∙ rw (ne_eqb k kind_param n, ne_eqb k kind_fn m, ne_eqb k kind_key o, id_fits) refl
 
 module _ (s ws : Words) (kn : Known s ws) where
   -- A binding: vis and impl.

@@ -1,5 +1,5 @@
 -- The planes that 8 and 12 read, one word for each chain: how long it is, and the most that its cells, nodes, bindings, members or impl parameters ask for.
-use Rattle.std.specs.Prelude.{ℕ, ◌+◌, ◌-◌, ◌*◌, ◌≤◌, ◌<◌, ◌≡◌, not, length, set}
+use Rattle.std.specs.Prelude.{ℕ, ◌+◌, ◌*◌, ◌≤◌, ◌<◌, ◌≡◌, not, length, set}
 use Rattle.std.proofs.Common.{sym, ◌∙◌, subst, arith, get_or-set_same, get_or-set_other}
 use Rattle.std.proofs.Math.Path.{ap}
 use Rattle.std.proofs.Math.Decide.{ℕ_discrete}
@@ -10,10 +10,10 @@ use Rattle.rules.specs.Sheet.{at, chain, many}
 use Rattle.rules.specs.Members.{In}
 use Rattle.rules.specs.Values.{binding_ok, member_ok}
 use Rattle.chart.specs.Index.{Indexed, indexed_record, indexed-many, many-within}
-use Rattle.values.specs.Folds.{larger, Forward, chain_mark, mark-same, most, most-same, chain_length, length_none, Folded, fold_done, head_noted, chain_most, most-none, most_more}
+use Rattle.values.specs.Folds.{Forward, chain_mark, mark-same, most, most-same, chain_length, length_none, Below, Folded, fold_done, head_noted, chain_most, most-none}
 use Rattle.values.specs.NodeLaws.{bad, cell_need, bound, core, args_core, node_core, node_need, node_child, param_core, param_child}
 use Rattle.values.specs.Known.{Known, known_same}
-use Rattle.values.specs.Value.{node_mark, param_mark, inner_mark, node-same, param-same, inner_same}
+use Rattle.values.specs.Value.{node_mark, param_mark, inner_mark}
 
 -- Where the planes stand: behind what is known of the sheet, one behind the other. First, how long a chain is.
 abbrev pub plane_lengths : ℕ
@@ -124,32 +124,14 @@ module _ (s w ws us : Words) (q : Space s w ws) where
     space = space_fold (chain_most f w) to i l n;
   }
 
-  -- One place more.
-  pub values_more : (f : ℕ → ℕ) (to i v r : ℕ) → to + limit_sheet ≤ planes_room → 1 < i → i ≤ length w → Folded w to (chain_most f w) i ws us → v ≡ f (i - 1) → r ≡ larger v (chain_mark us to (at w (i - 1))) → Folded w to (chain_most f w) (i - 1) ws (set us (to + (i - 1)) r)
-  values_more f to i v r room p l n e k = most_more w ws us f to i v r q.part (omega (arith, q.room)) p l n e k
-
-  -- The same of what is read off the plane from b: it is as before the pass.
-  pub nodes_more : (b to i v r : ℕ) → b + limit_sheet ≤ to → to + limit_sheet ≤ planes_room → 1 < i → i ≤ length w → Folded w to (chain_most (node_mark s w ws b) w) i ws us → v ≡ node_mark s w us b (i - 1) → r ≡ larger v (chain_mark us to (at w (i - 1))) →
-      Folded w to (chain_most (node_mark s w ws b) w) (i - 1) ws (set us (to + (i - 1)) r)
-  nodes_more b to i v r apart room p l n e k = values_more (node_mark s w ws b) to i v r room p l n (e ∙ node-same ws us b to apart n.below s w (i - 1)) k
-
-  pub params_more : (b to i v r : ℕ) → b + limit_sheet ≤ to → to + limit_sheet ≤ planes_room → 1 < i → i ≤ length w → Folded w to (chain_most (param_mark s ws b) w) i ws us → v ≡ param_mark s us b (i - 1) → r ≡ larger v (chain_mark us to (at w (i - 1))) →
-      Folded w to (chain_most (param_mark s ws b) w) (i - 1) ws (set us (to + (i - 1)) r)
-  params_more b to i v r apart room p l n e k = values_more (param_mark s ws b) to i v r room p l n (e ∙ param-same ws us b to apart n.below s (i - 1)) k
-
-  pub inners_more : (b off to i v r : ℕ) → b + limit_sheet ≤ to → to + limit_sheet ≤ planes_room → 1 < i → i ≤ length w → Folded w to (chain_most (inner_mark w ws b off) w) i ws us → v ≡ inner_mark w us b off (i - 1) → r ≡ larger v (chain_mark us to (at w (i - 1))) →
-      Folded w to (chain_most (inner_mark w ws b off) w) (i - 1) ws (set us (to + (i - 1)) r)
-  inners_more b off to i v r apart room p l n e k = values_more (inner_mark w ws b off) to i v r room p l n (e ∙ inner_same ws us b to apart n.below w off (i - 1)) k
+-- It is known too where nothing below the plane is changed.
+pub known_below : (s w ws vs : Words) (to : ℕ) → Space s w ws → 2 * limit_sheet ≤ to → Below to ws vs → Known s vs
+known_below s w ws vs to q l k = known_same s ws vs to q.small l k.same q.known
 
 -- The lengths of chains, and what cells ask of the table.
 pub record Cells (w us : Words) : Type 0 where
   pub lengths : (h : ℕ) → Forward w h → chain_mark us plane_lengths h ≡ length (chain w h)
   pub bounds : (h : ℕ) → Forward w h → chain_mark us plane_bounds h ≡ bound w h
-
--- Nothing below a place is changed.
-pub record Below (to : ℕ) (ws us : Words) : Type 0 where
-  pub same : (j : ℕ) → j < to → at us j ≡ at ws j
-  pub long : length us ≡ length ws
 
 -- Both are noted, and nothing below them is changed.
 pub record CellsMade (w ws us : Words) : Type 0 where

@@ -1,6 +1,7 @@
 -- What is noted of a place by itself: what a cell, a node, a binding, a member or an impl parameter there asks for.
-use Rattle.std.specs.Prelude.{ℕ, ◌+◌, ◌/◌, ◌≤◌, ◌<◌, ◌≡◌, refl, Bool, true, false, not, ◌||◌, [], ◌∷◌, ◌≢◌, eqb, ltb, leb}
-use Rattle.std.proofs.Common.{sym, ◌∙◌, arith, eq-eqb, ne_eqb, lt-ltb, le-ltb}
+use Rattle.std.specs.Prelude.{ℕ, ◌+◌, ◌/◌, ◌≤◌, ◌<◌, ◌≡◌, refl, Bool, true, false, not, ◌||◌, [], ◌∷◌, ◌≢◌, eqb, ltb, leb, ◌^◌, Option, Some, None, SomeIff}
+use Rattle.std.specs.Option.{unwrap_or}
+use Rattle.std.proofs.Common.{sym, ◌∙◌, arith, ne_eqb, lt-ltb, le-ltb}
 use Rattle.std.proofs.Math.Path.{ap}
 use Rattle.rules.specs.Lists.{Words, bit, holds}
 use Rattle.rules.specs.Limits.{limit_sheet}
@@ -56,15 +57,14 @@ pub need_none : (w : Words) (p k : ℕ) → k ≡ at w (p + node_kind) → k ≢
 unfolding node_need param_need
 need_none w p k e n = rw (ne_eqb (at w (p + node_kind)) kind_param (λ q. n (e ∙ q)), param_need) refl
 
--- Of a Param.
-pub need_some : (w : Words) (p k id : ℕ) → k ≡ at w (p + node_kind) → id ≡ at w (p + node_id) → k ≡ kind_param → id < word_most → id + 1 ≡ node_need w p
+-- Of a Param: one more than its id, which may be the largest word.
+pub need_some : (w : Words) (p k id r : ℕ) (o : Option ℕ) → k ≡ at w (p + node_kind) → id ≡ at w (p + node_id) → k ≡ kind_param → SomeIff o (id + 1 < 2 ^ 32) (id + 1) → r ≡ unwrap_or o 0 → r ≡ node_need w p
 unfolding node_need param_need
-need_some w p k id e f g l = rw (eq-eqb (at w (p + node_kind)) kind_param (sym e ∙ g), lt-ltb (at w (p + node_id)) word_most (omega arith), param_need) (omega arith)
-
--- Of a Param whose id is the largest word.
-pub need_past : (w : Words) (p k id : ℕ) → k ≡ at w (p + node_kind) → id ≡ at w (p + node_id) → k ≡ kind_param → word_most ≤ id → 0 ≡ node_need w p
-unfolding node_need param_need
-need_past w p k id e f g l = rw (eq-eqb (at w (p + node_kind)) kind_param (sym e ∙ g), le-ltb (at w (p + node_id)) word_most (omega arith), param_need) refl
+need_some w p k id r o e f g h q = q ∙ go id (at w (p + node_id)) o f h ∙ ap (λ x. param_need x (at w (p + node_id))) (sym g ∙ e)
+  where
+    go : (i j : ℕ) (o : Option ℕ) → i ≡ j → SomeIff o (i + 1 < 2 ^ 32) (i + 1) → unwrap_or o 0 ≡ param_need kind_param j
+    go i j None e h = rw (le-ltb j word_most (omega arith), param_need) refl
+    go i j (Some x) e h = rw (lt-ltb j word_most (omega arith), param_need) (omega arith)
 
 -- Of a cell: its type word.
 pub cell_found : (w : Words) (p t : ℕ) → t ≡ at w (p + cell_type) → t / 2 + 1 ≡ cell_need w p

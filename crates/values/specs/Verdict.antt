@@ -1,8 +1,9 @@
 -- 8 and 12 as they are read off the planes: tables, arguments, each kind of record, the records of a chain, the chains of the header.
-use Prim.Native.Nat.{ℕ, zero, suc, ◌+◌, ◌-◌, ◌/◌, ◌≤◌}
+use Prim.Native.Nat.{ℕ, suc, ◌+◌, ◌/◌, ◌≤◌}
 use Rattle.std.specs.Prelude.{◌≡◌, refl, Bool, ◌&&◌, ◌||◌, List, [], ◌∷◌, ◌++◌, ◌≢◌, T, eqb}
+use Rattle.std.specs.List.{list_all, range_with_len}
 use Rattle.std.proofs.Math.Path.{sym, ap, subst}
-use Rattle.std.proofs.Common.{◌∙◌, zero-add, eqb→eq}
+use Rattle.std.proofs.Common.{◌∙◌, eqb→eq}
 use Rattle.std.proofs.Math.Bool.{true, false}
 use native.Mathlib.Omega.{arith}
 use borrow.Author.Tests.{eq-eqb, ne_eqb, le-leb}
@@ -11,9 +12,10 @@ use Rattle.std.proofs.Math.ListN.{length}
 use Rattle.rules.specs.Lists.{Words, all, holds, range}
 use Rattle.rules.specs.Limits.{limit_definitions, limit_impls, limit_type_params, limit_impl_params, limit_arity}
 use Rattle.rules.specs.Layout.{header_definitions, header_generics, header_traits, header_impls, header_opaques, header_structs, header_enums, header_unions, header_closures, header_imports, header_prelude, header_fork, header_drop, header_duplicate, header_erase, definition_parent, definition_trait_vis, definition_trait, definition_bindings, definition_named, definition_implicit, import_definition, generics_type_params, generics_table_word, generics_impl_params, impl_param_trait, impl_param_args, trait_definition, trait_arity_word, trait_inherent, impl_generics_word, impl_flags, impl_trait_word, impl_table_word, impl_args_word, flag_all, owner_definition, owner_self_dual, closure_flex, flex_both, node_children, question_table, question_trait, question_args, question_type, question_zero}
-use Rattle.rules.specs.Sheet.{at, chain, chain_of, records, many, field, type_params}
+use Rattle.rules.specs.Sheet.{at, chain, records, many, field, type_params}
 use Rattle.rules.specs.Members.{In, first, later, same_test}
 use Rattle.rules.specs.Values.{is_id, is_optional, is_vis, arity, binding_ok, member_ok, table_ok, args_ok, definition_ok, definitions_ok, generics_ok, trait_ok, impl_ok, opaque_ok, struct_ok, closure_ok, import_ok, flex_trait_ok, sheet_values, impl_question_values, flex_question_values}
+use Rattle.chart.specs.Tests.{all_listed}
 use Rattle.values.specs.Folds.{Forward, chain_mark}
 use Rattle.values.specs.NodeLaws.{word_most, all-bad, args_core, table-whole, args_whole, params-whole}
 use Rattle.values.specs.Known.{Known}
@@ -195,23 +197,23 @@ plain_ok s h p =
 module _ (s : Words) (h p : ℕ) (r : Bool) where
   pub plain_trait : h ≡ header_traits → r ≡ trait_ok s p → r ≡ plain_ok s h p
   unfolding plain_ok
-  plain_trait e f = rw (eq-eqb h header_traits e, plain_ok) f
+  plain_trait e f = f ∙ ap (λ x. plain_ok s x p) (sym e)
 
-  pub plain-closure : h ≢ header_traits → h ≡ header_closures → r ≡ closure_ok s p → r ≡ plain_ok s h p
+  pub plain-closure : h ≡ header_closures → r ≡ closure_ok s p → r ≡ plain_ok s h p
   unfolding plain_ok
-  plain-closure n e f = rw (ne_eqb h header_traits n, eq-eqb h header_closures e, plain_ok) f
+  plain-closure e f = f ∙ ap (λ x. plain_ok s x p) (sym e)
 
-  pub plain_import : h ≢ header_traits → h ≢ header_closures → h ≡ header_imports → r ≡ import_ok s p → r ≡ plain_ok s h p
+  pub plain_import : h ≡ header_imports → r ≡ import_ok s p → r ≡ plain_ok s h p
   unfolding plain_ok
-  plain_import n m e f = rw (ne_eqb h header_traits n, ne_eqb h header_closures m, eq-eqb h header_imports e, plain_ok) f
+  plain_import e f = f ∙ ap (λ x. plain_ok s x p) (sym e)
 
-  pub plain-struct : h ≢ header_traits → h ≢ header_closures → h ≢ header_imports → h ≡ header_structs → r ≡ struct_ok s p → r ≡ plain_ok s h p
+  pub plain-struct : h ≡ header_structs → r ≡ struct_ok s p → r ≡ plain_ok s h p
   unfolding plain_ok
-  plain-struct n m o e f = rw (ne_eqb h header_traits n, ne_eqb h header_closures m, ne_eqb h header_imports o, eq-eqb h header_structs e, plain_ok) f
+  plain-struct e f = f ∙ ap (λ x. plain_ok s x p) (sym e)
 
-  pub plain_union : h ≢ header_traits → h ≢ header_closures → h ≢ header_imports → h ≢ header_structs → h ≡ header_unions → r ≡ struct_ok s p → r ≡ plain_ok s h p
+  pub plain_union : h ≡ header_unions → r ≡ struct_ok s p → r ≡ plain_ok s h p
   unfolding plain_ok
-  plain_union n m o q e f = rw (ne_eqb h header_traits n, ne_eqb h header_closures m, ne_eqb h header_imports o, ne_eqb h header_structs q, eq-eqb h header_unions e, plain_ok) f
+  plain_union e f = f ∙ ap (λ x. plain_ok s x p) (sym e)
 
   pub plain_opaque : h ≢ header_traits → h ≢ header_closures → h ≢ header_imports → h ≢ header_structs → h ≢ header_unions → r ≡ opaque_ok s p → r ≡ plain_ok s h p
   unfolding plain_ok
@@ -228,15 +230,15 @@ record_ok s h d p =
 module _ (s : Words) (h d p : ℕ) (r : Bool) where
   pub record_definition : h ≡ header_definitions → r ≡ definition_ok s d p → r ≡ record_ok s h d p
   unfolding record_ok
-  record_definition e f = rw (eq-eqb h header_definitions e, record_ok) f
+  record_definition e f = f ∙ ap (λ x. record_ok s x d p) (sym e)
 
-  pub record_generics : h ≢ header_definitions → h ≡ header_generics → r ≡ generics_ok s p → r ≡ record_ok s h d p
+  pub record_generics : h ≡ header_generics → r ≡ generics_ok s p → r ≡ record_ok s h d p
   unfolding record_ok
-  record_generics n e f = rw (ne_eqb h header_definitions n, eq-eqb h header_generics e, record_ok) f
+  record_generics e f = f ∙ ap (λ x. record_ok s x d p) (sym e)
 
-  pub record_impl : h ≢ header_definitions → h ≢ header_generics → h ≡ header_impls → r ≡ impl_ok s p → r ≡ record_ok s h d p
+  pub record_impl : h ≡ header_impls → r ≡ impl_ok s p → r ≡ record_ok s h d p
   unfolding record_ok
-  record_impl n m e f = rw (ne_eqb h header_definitions n, ne_eqb h header_generics m, eq-eqb h header_impls e, record_ok) f
+  record_impl e f = f ∙ ap (λ x. record_ok s x d p) (sym e)
 
   pub record_plain : h ≢ header_definitions → h ≢ header_generics → h ≢ header_impls → r ≡ plain_ok s h p → r ≡ record_ok s h d p
   unfolding record_ok
@@ -255,79 +257,47 @@ rows_ok s h d (p ∷ ps) = elim (record_ok s h d p) [ true ↦ rows_ok s h (suc 
 unfoldable pub chain_ok : Words → ℕ → Bool
 chain_ok s h = rows_ok s h 0 (records s h)
 
-chain_more : (s : Words) (left i : ℕ) → left ≢ 0 → i ≢ 0 → chain_of left s i ≡ i ∷ chain_of (left - 1) s (at s i)
-unfolding chain_of
-chain_more s zero i nl ni = absurd (nl refl)
-chain_more s (suc left) zero nl ni = absurd (ni refl)
-chain_more s (suc left) (suc i) nl ni = ap (λ n. suc i ∷ chain_of n s (at s (suc i))) (let q : left ≡ suc left - 1 = omega arith in q)
-
-chain_stop : (s : Words) (left i : ℕ) → i ≡ 0 → chain_of left s i ≡ []
-unfolding chain_of
-chain_stop s zero i e = refl
-chain_stop s (suc left) zero e = refl
-chain_stop s (suc left) (suc i) e = absurd (omega arith)
-
--- A walk along the records: d of them are passed, and at most `left` are still to come, from i on.
-pub record Walk (s : Words) (h d left i : ℕ) : Type 0 where
-  pub rest : rows_ok s h d (chain_of left s i) ≡ chain_ok s h
-  pub among : (p : ℕ) → In p (chain_of left s i) → In p (records s h)
-  pub sum : d + left ≡ length s
+-- A walk along the records: d of them are passed, and these are left.
+pub record Walk (s : Words) (h d : ℕ) (left : Words) : Type 0 where
+  pub rest : rows_ok s h d left ≡ chain_ok s h
+  pub among : (p : ℕ) → In p left → In p (records s h)
 
 -- The walk begins.
-pub walk_begin : (s : Words) (h head left : ℕ) → head ≡ at s h → left ≡ length s → Walk s h 0 left head
-unfolding chain_ok records chain
-walk_begin s h head left e f = subst (λ x. Walk s h 0 left x) (sym e) (subst (λ n. Walk s h 0 n (at s h)) (sym f) (record { rest = refl; among = λ p m. m; sum = zero-add (length s) }))
+pub walk_begin : (s : Words) (h d head : ℕ) (left : Words) → d ≡ 0 → head ≡ at s h → left ≡ chain s head → Walk s h d left
+unfolding chain_ok records
+walk_begin s h d head left z e f = subst (λ x. Walk s h x left) (sym z) (subst (Walk s h 0) (sym (f ∙ ap (chain s) e)) (record { rest = refl; among = λ p m. m }))
 
-module _ (s : Words) (h d left i : ℕ) (w : Walk s h d left i) where
-  -- The count is used up.
-  pub walk_out : left ≡ 0 → true ≡ chain_ok s h
-  unfolding chain_of rows_ok
-  walk_out e = sym (ap (λ n. rows_ok s h d (chain_of n s i)) e) ∙ w.rest
-
-  step : left ≢ 0 → i ≢ 0 → chain_of left s i ≡ i ∷ chain_of (left - 1) s (at s i)
-  step nl ni = chain_more s left i nl ni
-
-  -- The chain ends.
-  pub walk-last : left ≢ 0 → i ≡ 0 → true ≡ chain_ok s h
+module _ (s : Words) (h d : ℕ) (left : Words) (w : Walk s h d left) where
+  -- None is left.
+  pub walk_out : left ≡ [] → true ≡ chain_ok s h
   unfolding rows_ok
-  walk-last nl e = sym (ap (rows_ok s h d) (chain_stop s left i e)) ∙ w.rest
+  walk_out e = sym (ap (rows_ok s h d) e) ∙ w.rest
 
-  -- It stands on a record of the chain.
-  pub walk_member : Kept s → left ≢ 0 → i ≢ 0 → Member s h i
-  walk_member k nl ni = record { kept = k; is = w.among i (subst (In i) (sym (step nl ni)) first) }
+  module _ (i : ℕ) (more : Words) (q : left ≡ i ∷ more) where
+    -- It stands on a record of the chain.
+    pub walk_member : Kept s → Member s h i
+    walk_member k = record { kept = k; is = w.among i (subst (In i) (sym q) first) }
 
-  -- That record is out of range.
-  pub walk_stop : (r : Bool) → left ≢ 0 → i ≢ 0 → r ≡ record_ok s h d i → r ≡ false → false ≡ chain_ok s h
-  unfolding rows_ok
-  walk_stop r nl ni e f = sym (ap (λ x. elim x as (λ b. Bool) [ true ↦ rows_ok s h (suc d) (chain_of (left - 1) s (at s i)) | false ↦ false ]) (sym e ∙ f)) ∙ sym (ap (rows_ok s h d) (step nl ni)) ∙ w.rest
+    module _ (n : ℕ) (r : Bool) (e : n ≡ d) (f : r ≡ record_ok s h n i) where
+      step : elim r as (λ b. Bool) [ true ↦ rows_ok s h (suc d) more | false ↦ false ] ≡ chain_ok s h
+      unfolding rows_ok
+      step = ap (λ x. elim x as (λ b. Bool) [ true ↦ rows_ok s h (suc d) more | false ↦ false ]) (f ∙ ap (λ x. record_ok s h x i) e) ∙ sym (ap (rows_ok s h d) q) ∙ w.rest
 
-  -- It is not, and the next one follows.
-  pub walk_more : (r : Bool) (j : ℕ) → left ≢ 0 → i ≢ 0 → r ≡ record_ok s h d i → r ≡ true → j ≡ at s i → Walk s h (d + 1) (left - 1) j
-  unfolding rows_ok
-  walk_more r j nl ni e f g = subst (λ x. Walk s h (d + 1) (left - 1) x) (sym g) (record {
-    rest = (λ t. rows_ok s h ((let q : d + 1 ≡ suc d = omega arith in q) t) (chain_of (left - 1) s (at s i))) ∙ sym (ap (λ x. elim x as (λ b. Bool) [ true ↦ rows_ok s h (suc d) (chain_of (left - 1) s (at s i)) | false ↦ false ]) (sym e ∙ f)) ∙ sym (ap (rows_ok s h d) (step nl ni)) ∙ w.rest;
-    among = λ p m. w.among p (subst (In p) (sym (step nl ni)) (later m));
-    sum = omega (arith, w.sum);
-  })
+      -- That record is out of range.
+      pub walk_stop : r ≡ false → false ≡ chain_ok s h
+      walk_stop g = sym (ap (λ x. elim x as (λ b. Bool) [ true ↦ rows_ok s h (suc d) more | false ↦ false ]) g) ∙ step
 
--- The chains of the header, from h on.
-pub chains_done : (s : Words) (h n : ℕ) (x : Bool) → n ≡ 0 → all (chain_ok s) (range h n) ≡ x → true ≡ x
-unfolding all range
-chains_done s h n x e v = sym (ap (λ k. all (chain_ok s) (range h k)) e) ∙ v
+      -- It is not, and the next one follows.
+      pub walk_more : (t : ℕ) → t ≡ d + 1 → r ≡ true → Walk s h t more
+      walk_more t k g = record {
+        rest = ap (λ x. rows_ok s h x more) (let z : t ≡ suc d = omega arith in z) ∙ sym (ap (λ x. elim x as (λ b. Bool) [ true ↦ rows_ok s h (suc d) more | false ↦ false ]) g) ∙ step;
+        among = λ p m. w.among p (subst (In p) (sym q) (later m));
+      }
 
--- One of them is out of range.
-pub chains_stop : (s : Words) (h n : ℕ) (x r : Bool) → n ≢ 0 → r ≡ chain_ok s h → r ≡ false → all (chain_ok s) (range h n) ≡ x → false ≡ x
-unfolding all range
-chains_stop s h zero x r nn e f v = absurd (nn refl)
-chains_stop s h (suc n) x r nn e f v = sym (ap (λ b. elim b as (λ c. Bool) [ true ↦ all (chain_ok s) (range (suc h) n) | false ↦ false ]) (sym e ∙ f)) ∙ v
-
--- It is not, and the next one follows.
-pub chains_more : (s : Words) (h n : ℕ) (x r : Bool) → n ≢ 0 → r ≡ chain_ok s h → r ≡ true → all (chain_ok s) (range h n) ≡ x → all (chain_ok s) (range (h + 1) (n - 1)) ≡ x
-unfolding all range
-chains_more s h zero x r nn e f v = absurd (nn refl)
-chains_more s h (suc n) x r nn e f v =
-    (λ t. all (chain_ok s) (range ((let q : h + 1 ≡ suc h = omega arith in q) t) ((let q : suc n - 1 ≡ n = omega arith in q) t)))
-    ∙ sym (ap (λ b. elim b as (λ c. Bool) [ true ↦ all (chain_ok s) (range (suc h) n) | false ↦ false ]) (sym e ∙ f)) ∙ v
+-- The chains of the header, one after the other.
+pub chains_listed : (s : Words) → list_all (chain_ok s) (range_with_len 1 10) ≡ all (chain_ok s) (range 1 10)
+unfolding range
+chains_listed s = all_listed (chain_ok s) (range 1 10)
 
 -- The rows of each kind are as the rule has them.
 rows_all : (s : Words) (h : ℕ) (ok : ℕ → Bool) → ((d p : ℕ) → record_ok s h d p ≡ ok p) → (d : ℕ) (ps : Words) → rows_ok s h d ps ≡ all ok ps

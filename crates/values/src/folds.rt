@@ -1,8 +1,7 @@
-// What is noted of a chain as a whole, and the pass from the slice's end that notes the length of every place's.
-ghost use Rattle.std.specs.Prelude.{◌≡◌, ◌+◌, ◌<◌, ◌≤◌, length};
+// What is noted of a chain as a whole, and the pass from the slice's end that notes it for the chain from every place.
+ghost use Rattle.std.specs.Prelude.{ℕ, ◌≡◌, ◌+◌, ◌≤◌, length};
 ghost use Rattle.rules.specs.Limits.{limit_sheet};
-ghost use Rattle.rules.specs.Sheet.{at};
-ghost use Rattle.values.specs.Folds.{larger, longer, chain_mark, chain_length, Folded};
+ghost use Rattle.values.specs.Folds.{longer, chain_mark, chain_length, Folded, Runs, Right};
 
 use crate::limits;
 
@@ -10,10 +9,7 @@ use crate::limits;
 pub fn chain_mark(ws: &[u32], b: usize, h: usize) -> u32
     ensures { result ≡ chain_mark ws.now b h }
 {
-    if h == 0 {
-        return 0;
-    }
-    if limits::PLANE <= h {
+    if h == 0 || limits::PLANE <= h {
         return 0;
     }
     words::offset(ws, b, h)
@@ -23,69 +19,27 @@ pub fn chain_mark(ws: &[u32], b: usize, h: usize) -> u32
 pub fn chain_count(ws: &[u32], b: usize, h: usize) -> usize
     ensures { result ≡ chain_mark ws.now b h }
 {
-    words::wide(chain_mark(ws, b, h))
-}
-
-// What the plane from b has noted of a place.
-fn noted(ws: &[u32], b: usize, i: usize) -> u32
-    requires { b + i < length ws.now }
-    ensures { result ≡ at ws.now (b + i) }
-{
-    ws[b + i]
-}
-
-// What the plane from b, which is there, says of the chain from a head.
-fn mark_noted(ws: &[u32], b: usize, h: usize) -> u32
-    requires { b + limit_sheet ≤ length ws.now }
-    ensures { result ≡ chain_mark ws.now b h }
-{
-    if h == 0 {
-        return 0;
-    }
-    if limits::PLANE <= h {
-        return 0;
-    }
-    noted(ws, b, h)
-}
-
-// The larger of two.
-fn larger(a: u32, b: u32) -> u32
-    ensures { result ≡ larger a b }
-{
-    if a <= b {
-        return b;
-    }
-    a
+    chain_mark(ws, b, h) as usize
 }
 
 // One record more: never more than a slice has words.
 fn longer(m: u32) -> u32
     ensures { result ≡ longer m }
 {
-    if m < limits::PLANE_WORD {
-        return m + 1;
+    if m < limits::PLANE_WORD { m + 1 } else { m }
+}
+
+// Notes, in the plane from b, what `step` makes of each place and of what is noted of its next.
+pub fn note<F: Fn(&[u32], usize, u32) -> u32>(w: &[u32], ws: &mut [u32], b: usize, step: F)
+    requires room { (length w.now ≤ limit_sheet) × (b + limit_sheet ≤ length ws.old) }
+    requires runs { Runs b ws.old (F.pre step) }
+    ensures { (g : ℕ → ℕ) → g 0 ≡ 0 → Right w.now b ws.old g (F.post step) → Folded w.now b g 1 ws.old ws.new }
+{
+    for i in (1..w.len()).rev() {
+        let next = chain_mark(ws, b, words::next(w, i));
+        let r = step(ws, i, next);
+        ws[b + i] = r;
     }
-    m
-}
-
-// How many records the chain from a place has, where the plane from b has it of the place's next.
-fn length_at(s: &[u32], ws: &[u32], b: usize, i: usize) -> u32
-    requires { b + limit_sheet ≤ length ws.now }
-    ensures { result ≡ longer (chain_mark ws.now b (at s.now i)) }
-{
-    let next = words::next(s, i);
-    let m = mark_noted(ws, b, next);
-    longer(m)
-}
-
-// The most that is noted of the chain from a place, where v is of the record and the plane from b has it of the place's next.
-pub fn most_at(s: &[u32], v: u32, ws: &[u32], b: usize, i: usize) -> u32
-    requires { b + limit_sheet ≤ length ws.now }
-    ensures { result ≡ larger v (chain_mark ws.now b (at s.now i)) }
-{
-    let next = words::next(s, i);
-    let m = mark_noted(ws, b, next);
-    larger(v, m)
 }
 
 // Notes, in the plane from b, how many records the chain from each place has.
@@ -93,10 +47,5 @@ pub fn note_lengths(s: &[u32], ws: &mut [u32], b: usize)
     requires { (length s.now ≤ limit_sheet) × (b + limit_sheet ≤ length ws.old) }
     ensures { Folded s.now b (chain_length s.now) 1 ws.old ws.new }
 {
-    let mut i = s.len();
-    while i > 1 {
-        i -= 1;
-        let r = length_at(s, ws, b, i);
-        ws[b + i] = r;
-    }
+    note(s, ws, b, |_, _, next| longer(next));
 }

@@ -10,14 +10,12 @@ pub const IMPL_PARAMS: usize = 4;
 pub const ARITY: usize = 4;
 
 // The largest word.
-pub const WORD_MOST: usize = 4294967295;
-
-pub const WORD_MOST_WORD: u32 = 4294967295;
+pub const WORD_MOST: usize = u32::MAX as usize;
 
 // A plane's words.
 pub const PLANE: usize = 4096;
 
-pub const PLANE_WORD: u32 = 4096;
+pub const PLANE_WORD: u32 = PLANE as u32;
 
 // The planes of chains, behind the counts and the index of traits: lengths; what cells ask of their table; whether a node is out of range by
 // itself, and what nodes ask of the type parameters and of their table; whether a binding, a member or an impl parameter is out of range, and
@@ -39,9 +37,3 @@ pub const MEMBERS: usize = 8 * PLANE;
 pub const PARAMS: usize = 9 * PLANE;
 
 pub const ARGS: usize = 10 * PLANE;
-
-// The chains of the header.
-pub const CHAINS: usize = 10;
-
-// The kinds up to the last one whose id names a record.
-pub const OWNER_KINDS: usize = 9;

@@ -40,10 +40,7 @@ fn node_need(w: &[u32], p: usize) -> u32
         return 0;
     }
     let id = words::offset(w, p, layout::NODE_ID);
-    if id < limits::WORD_MOST_WORD {
-        return id + 1;
-    }
-    0
+    id.checked_add(1).unwrap_or(0)
 }
 
 // Whether an impl parameter has a trait? and as many arguments as its arity.
@@ -81,20 +78,19 @@ fn inner_mark(w: &[u32], ws: &[u32], b: usize, k: usize, p: usize) -> u32
     folds::chain_mark(ws, b, h)
 }
 
-// The passes, from the slice's end: each notes in its plane the most that is said of a record of the chain from each place.
+// The passes: each notes in its plane the most that is said of a record of the chain from each place.
 
 // What a cell asks of its table.
 pub fn note_cells(s: &[u32], w: &[u32], ws: &mut [u32])
     requires { Space s.now w.now ws.old }
     ensures { Most s.now w.now ws.old ws.new (cell_need w.now) plane_bounds }
 {
-    let mut i = w.len();
-    while i > 1 {
-        i -= 1;
-        let v = cell_need(w, i);
-        let r = folds::most_at(w, v, ws, limits::BOUNDS, i);
-        ws[limits::BOUNDS + i] = r;
-    }
+    folds::note(
+        w,
+        ws,
+        limits::BOUNDS,
+        |_, i, next| cell_need(w, i).max(next),
+    );
 }
 
 // Whether a node is out of range by itself.
@@ -102,13 +98,9 @@ pub fn note_nodes(s: &[u32], w: &[u32], ws: &mut [u32])
     requires { Space s.now w.now ws.old }
     ensures { Most s.now w.now ws.old ws.new (node_mark s.now w.now ws.old plane_lengths) plane_cores }
 {
-    let mut i = w.len();
-    while i > 1 {
-        i -= 1;
-        let v = node_mark(s, w, ws, limits::LENGTHS, i);
-        let r = folds::most_at(w, v, ws, limits::CORES, i);
-        ws[limits::CORES + i] = r;
-    }
+    folds::note(w, ws, limits::CORES, |ws, i, next| {
+        node_mark(s, w, ws, limits::LENGTHS, i).max(next)
+    });
 }
 
 // What a node asks of the type parameters.
@@ -116,13 +108,7 @@ pub fn note_needs(s: &[u32], w: &[u32], ws: &mut [u32])
     requires { Space s.now w.now ws.old }
     ensures { Most s.now w.now ws.old ws.new (node_need w.now) plane_needs }
 {
-    let mut i = w.len();
-    while i > 1 {
-        i -= 1;
-        let v = node_need(w, i);
-        let r = folds::most_at(w, v, ws, limits::NEEDS, i);
-        ws[limits::NEEDS + i] = r;
-    }
+    folds::note(w, ws, limits::NEEDS, |_, i, next| node_need(w, i).max(next));
 }
 
 // What a node's children ask of the table.
@@ -130,13 +116,9 @@ pub fn note_children(s: &[u32], w: &[u32], ws: &mut [u32])
     requires { Space s.now w.now ws.old }
     ensures { Most s.now w.now ws.old ws.new (inner_mark w.now ws.old plane_bounds node_children) plane_kids }
 {
-    let mut i = w.len();
-    while i > 1 {
-        i -= 1;
-        let v = inner_mark(w, ws, limits::BOUNDS, layout::NODE_CHILDREN, i);
-        let r = folds::most_at(w, v, ws, limits::KIDS, i);
-        ws[limits::KIDS + i] = r;
-    }
+    folds::note(w, ws, limits::KIDS, |ws, i, next| {
+        inner_mark(w, ws, limits::BOUNDS, layout::NODE_CHILDREN, i).max(next)
+    });
 }
 
 // Whether a binding is out of range.
@@ -144,13 +126,9 @@ pub fn note_bindings(s: &[u32], ws: &mut [u32])
     requires { Space s.now s.now ws.old }
     ensures { Most s.now s.now ws.old ws.new (bad (binding_ok s.now)) plane_bindings }
 {
-    let mut i = s.len();
-    while i > 1 {
-        i -= 1;
-        let v = binding_mark(s, ws, i);
-        let r = folds::most_at(s, v, ws, limits::BINDINGS, i);
-        ws[limits::BINDINGS + i] = r;
-    }
+    folds::note(s, ws, limits::BINDINGS, |ws, i, next| {
+        binding_mark(s, ws, i).max(next)
+    });
 }
 
 // Whether a member is out of range.
@@ -158,13 +136,9 @@ pub fn note_members(s: &[u32], ws: &mut [u32])
     requires { Space s.now s.now ws.old }
     ensures { Most s.now s.now ws.old ws.new (bad (member_ok s.now)) plane_members }
 {
-    let mut i = s.len();
-    while i > 1 {
-        i -= 1;
-        let v = member_mark(s, ws, i);
-        let r = folds::most_at(s, v, ws, limits::MEMBERS, i);
-        ws[limits::MEMBERS + i] = r;
-    }
+    folds::note(s, ws, limits::MEMBERS, |ws, i, next| {
+        member_mark(s, ws, i).max(next)
+    });
 }
 
 // Whether an impl parameter is out of range, but for what its arguments name.
@@ -172,13 +146,9 @@ pub fn note_params(s: &[u32], ws: &mut [u32])
     requires { Space s.now s.now ws.old }
     ensures { Most s.now s.now ws.old ws.new (param_mark s.now ws.old plane_lengths) plane_params }
 {
-    let mut i = s.len();
-    while i > 1 {
-        i -= 1;
-        let v = param_mark(s, ws, limits::LENGTHS, i);
-        let r = folds::most_at(s, v, ws, limits::PARAMS, i);
-        ws[limits::PARAMS + i] = r;
-    }
+    folds::note(s, ws, limits::PARAMS, |ws, i, next| {
+        param_mark(s, ws, limits::LENGTHS, i).max(next)
+    });
 }
 
 // What an impl parameter's arguments ask of the table.
@@ -186,11 +156,7 @@ pub fn note_args(s: &[u32], ws: &mut [u32])
     requires { Space s.now s.now ws.old }
     ensures { Most s.now s.now ws.old ws.new (inner_mark s.now ws.old plane_bounds impl_param_args) plane_args }
 {
-    let mut i = s.len();
-    while i > 1 {
-        i -= 1;
-        let v = inner_mark(s, ws, limits::BOUNDS, layout::IMPL_PARAM_ARGS, i);
-        let r = folds::most_at(s, v, ws, limits::ARGS, i);
-        ws[limits::ARGS + i] = r;
-    }
+    folds::note(s, ws, limits::ARGS, |ws, i, next| {
+        inner_mark(s, ws, limits::BOUNDS, layout::IMPL_PARAM_ARGS, i).max(next)
+    });
 }

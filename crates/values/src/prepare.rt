@@ -1,5 +1,5 @@
 // The planes that 8 and 12 read: what is known of the sheet, then what is noted of the chains of a slice.
-ghost use Rattle.std.specs.Prelude.{◌≡◌, ◌≤◌, length};
+ghost use Rattle.std.specs.Prelude.{◌≤◌, length};
 ghost use Rattle.rules.specs.Limits.{limit_sheet};
 ghost use Rattle.rules.specs.Layout.{header_length};
 ghost use Rattle.values.specs.Known.{Known};
@@ -8,25 +8,13 @@ ghost use Rattle.values.specs.Tables.{planes_room, Space, Counted, Cells, CellsM
 use crate::{folds, limits, planes};
 use chart::layout;
 
-// A count as a word.
-fn narrow(n: usize) -> u32
-    requires { n ≤ 4294967295 }
-    ensures { result ≡ n }
-{
-    n as u32
-}
-
 // Notes how many records each header word's chain has, in the words of the same number.
 fn note_counts(s: &[u32], ws: &mut [u32])
     requires { (length s.now ≤ limit_sheet) × (planes_room ≤ length ws.old) }
     ensures { Counted s.now header_length ws.new }
 {
-    let mut h = 0;
-    while h < layout::HEADER_LENGTH {
-        let c = chart::count_of(s, h);
-        let r = narrow(c);
-        ws[h] = r;
-        h += 1;
+    for h in 0..layout::HEADER_LENGTH {
+        ws[h] = chart::count_of(s, h) as u32;
     }
 }
 

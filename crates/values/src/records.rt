@@ -10,7 +10,7 @@ ghost use Rattle.values.specs.NodeLaws.{word_most};
 ghost use Rattle.values.specs.Known.{Known};
 ghost use Rattle.values.specs.Tables.{Rows, Tables, Charted};
 ghost use Rattle.values.specs.Kept.{Kept};
-ghost use Rattle.values.specs.Verdict.{params_ok, impl_types, links_ok, plain_ok, record_ok, chain_ok, Member, limits_ok, words_ok};
+ghost use Rattle.values.specs.Verdict.{params_ok, impl_types, links_ok, record_ok, chain_ok, Member, limits_ok, words_ok};
 
 use crate::{fits, folds, limits};
 use chart::layout;
@@ -24,7 +24,7 @@ pub fn table_ok(s: &[u32], w: &[u32], ws: &[u32], params: u32, h: usize) -> bool
     let need = folds::chain_count(ws, limits::NEEDS, h);
     let kids = folds::chain_count(ws, limits::KIDS, h);
     let n = folds::chain_count(ws, limits::LENGTHS, h);
-    fits::holds3(core <= 0, need <= words::wide(params), kids <= n)
+    fits::holds([core <= 0, need <= params as usize, kids <= n])
 }
 
 // A trait? and its arguments, over the table from head h of a slice w.
@@ -36,7 +36,7 @@ pub fn args_ok(s: &[u32], w: &[u32], ws: &[u32], h: usize, t: usize, args: usize
     let core = fits::args_core(s, ws, t, n);
     let bound = folds::chain_count(ws, limits::BOUNDS, args);
     let m = folds::chain_count(ws, limits::LENGTHS, h);
-    fits::holds2(core, bound <= m)
+    fits::holds([core, bound <= m])
 }
 
 // The impl parameters from head h, over a table.
@@ -47,7 +47,7 @@ fn params_ok(s: &[u32], ws: &[u32], table: usize, h: usize) -> bool
     let core = folds::chain_count(ws, limits::PARAMS, h);
     let kids = folds::chain_count(ws, limits::ARGS, h);
     let n = folds::chain_count(ws, limits::LENGTHS, table);
-    fits::holds2(core <= 0, kids <= n)
+    fits::holds([core <= 0, kids <= n])
 }
 
 // generics: type parameter count, table, impl parameters
@@ -61,12 +61,12 @@ fn generics_ok(s: &[u32], ws: &[u32], p: usize) -> bool
     let x = table_ok(s, s, ws, params, table);
     let n = folds::chain_count(ws, limits::LENGTHS, head);
     let y = params_ok(s, ws, table, head);
-    fits::holds4(
-        words::wide(params) <= limits::TYPE_PARAMS,
+    fits::holds([
+        params as usize <= limits::TYPE_PARAMS,
         x,
         n <= limits::IMPL_PARAMS,
         y,
-    )
+    ])
 }
 
 // The count of type parameters of generics, as a word.
@@ -89,7 +89,7 @@ fn impl_types_ok(s: &[u32], ws: &[u32], p: usize, g: usize) -> bool
     let args = chart::field_at(s, p, layout::IMPL_ARGS);
     let x = table_ok(s, s, ws, params, table);
     let y = args_ok(s, s, ws, table, t, args);
-    fits::holds2(x, y)
+    fits::holds([x, y])
 }
 
 // impl: generics, flags, table, trait? and arguments
@@ -101,7 +101,7 @@ fn impl_ok(s: &[u32], ws: &[u32], p: usize) -> bool
     let flags = chart::field_at(s, p, layout::IMPL_FLAGS);
     let generics = words::next(ws, layout::GENERICS);
     let types = impl_types_ok(s, ws, p, g);
-    fits::holds3(g < generics, flags <= layout::FLAG_ALL, types)
+    fits::holds([g < generics, flags <= layout::FLAG_ALL, types])
 }
 
 // The bindings and members of a definition.
@@ -115,7 +115,7 @@ fn links_ok(s: &[u32], ws: &[u32], p: usize) -> bool
     let x = folds::chain_count(ws, limits::BINDINGS, b);
     let y = folds::chain_count(ws, limits::MEMBERS, n);
     let z = folds::chain_count(ws, limits::MEMBERS, i);
-    fits::holds3(x <= 0, y <= 0, z <= 0)
+    fits::holds([x <= 0, y <= 0, z <= 0])
 }
 
 // definition d: parent? below own id, trait vis, trait?, bindings, members
@@ -129,7 +129,7 @@ fn definition_ok(s: &[u32], ws: &[u32], d: usize, p: usize) -> bool
     let definitions = words::next(ws, layout::DEFINITIONS);
     let traits = words::next(ws, layout::TRAITS);
     let links = links_ok(s, ws, p);
-    fits::holds4(parent <= d, vis <= definitions, t <= traits, links)
+    fits::holds([parent <= d, vis <= definitions, t <= traits, links])
 }
 
 // trait: definition, arity, inherent count at most arity
@@ -141,7 +141,7 @@ fn trait_ok(s: &[u32], ws: &[u32], p: usize) -> bool
     let arity = chart::field_at(s, p, layout::TRAIT_ARITY);
     let inherent = chart::field_at(s, p, layout::TRAIT_INHERENT);
     let definitions = words::next(ws, layout::DEFINITIONS);
-    fits::holds3(d < definitions, arity <= limits::ARITY, inherent <= arity)
+    fits::holds([d < definitions, arity <= limits::ARITY, inherent <= arity])
 }
 
 // opaque, enum: definition
@@ -161,7 +161,7 @@ fn struct_ok(s: &[u32], ws: &[u32], p: usize) -> bool
     let d = chart::field_at(s, p, layout::OWNER_DEFINITION);
     let dual = chart::field_at(s, p, layout::OWNER_SELF_DUAL);
     let definitions = words::next(ws, layout::DEFINITIONS);
-    fits::holds2(d < definitions, dual <= 1)
+    fits::holds([d < definitions, dual <= 1])
 }
 
 // closure: flex
@@ -180,44 +180,21 @@ fn import_ok(s: &[u32], ws: &[u32], p: usize) -> bool
     d <= words::next(ws, layout::DEFINITIONS)
 }
 
-// A record with no heads in it: header word h heads its chain.
-fn plain_ok(s: &[u32], ws: &[u32], h: usize, p: usize) -> bool
-    requires { Known s.now ws.now }
-    ensures { result ≡ plain_ok s.now h p }
-{
-    if h == layout::TRAITS {
-        return trait_ok(s, ws, p);
-    }
-    if h == layout::CLOSURES {
-        return closure_ok(s, p);
-    }
-    if h == layout::IMPORTS {
-        return import_ok(s, ws, p);
-    }
-    if h == layout::STRUCTS {
-        return struct_ok(s, ws, p);
-    }
-    if h == layout::UNIONS {
-        return struct_ok(s, ws, p);
-    }
-    opaque_ok(s, ws, p)
-}
-
 // Record d, at p, of the chain that header word h heads.
 fn record_ok(s: &[u32], ws: &[u32], h: usize, d: usize, p: usize) -> bool
     requires { Charted s.now ws.now × Member s.now h p }
     ensures { result ≡ record_ok s.now h d p }
 {
-    if h == layout::DEFINITIONS {
-        return definition_ok(s, ws, d, p);
+    match h {
+        layout::DEFINITIONS => definition_ok(s, ws, d, p),
+        layout::GENERICS => generics_ok(s, ws, p),
+        layout::TRAITS => trait_ok(s, ws, p),
+        layout::IMPLS => impl_ok(s, ws, p),
+        layout::STRUCTS | layout::UNIONS => struct_ok(s, ws, p),
+        layout::CLOSURES => closure_ok(s, p),
+        layout::IMPORTS => import_ok(s, ws, p),
+        _ => opaque_ok(s, ws, p),
     }
-    if h == layout::GENERICS {
-        return generics_ok(s, ws, p);
-    }
-    if h == layout::IMPLS {
-        return impl_ok(s, ws, p);
-    }
-    plain_ok(s, ws, h, p)
 }
 
 // All records of the chain that header word h heads.
@@ -225,19 +202,10 @@ fn chain_ok(s: &[u32], ws: &[u32], h: usize) -> bool
     requires { Charted s.now ws.now × Kept s.now }
     ensures { result ≡ chain_ok s.now h }
 {
-    let mut i = words::next(s, h);
-    let mut d = 0;
-    let mut left = s.len();
-    while left != 0 {
-        if i == 0 {
-            return true;
-        }
-        if !record_ok(s, ws, h, d, i) {
+    for (d, p) in words::records(s, words::next(s, h)).enumerate() {
+        if !record_ok(s, ws, h, d, p) {
             return false;
         }
-        i = words::next(s, i);
-        d += 1;
-        left -= 1;
     }
     true
 }
@@ -247,16 +215,7 @@ pub fn chains_ok(s: &[u32], ws: &[u32]) -> bool
     requires { Charted s.now ws.now × Kept s.now }
     ensures { result ≡ all (chain_ok s.now) (range 1 10) }
 {
-    let mut h = layout::DEFINITIONS;
-    let mut left = limits::CHAINS;
-    while left != 0 {
-        if !chain_ok(s, ws, h) {
-            return false;
-        }
-        h += 1;
-        left -= 1;
-    }
-    true
+    (layout::DEFINITIONS..layout::PRELUDE).all(|h| chain_ok(s, ws, h))
 }
 
 // fork?, drop?: where set, a trait of arity 1
@@ -264,10 +223,7 @@ fn flex_trait_ok(s: &[u32], ws: &[u32], t: usize) -> bool
     requires { Known s.now ws.now }
     ensures { result ≡ flex_trait_ok s.now t }
 {
-    if t == 0 {
-        return true;
-    }
-    fits::args_core(s, ws, t, 1)
+    t == 0 || fits::args_core(s, ws, t, 1)
 }
 
 // The limits of definitions and impls, prelude?, fork?
@@ -279,12 +235,12 @@ pub fn limits_ok(s: &[u32], ws: &[u32]) -> bool
     let impls = words::next(ws, layout::IMPLS);
     let prelude = words::next(s, layout::PRELUDE);
     let fork = flex_trait_ok(s, ws, words::next(s, layout::FORK));
-    fits::holds4(
+    fits::holds([
         definitions <= limits::DEFINITIONS,
         impls <= limits::IMPLS,
         prelude <= definitions,
         fork,
-    )
+    ])
 }
 
 // drop?, duplicate?, erase?
@@ -296,7 +252,7 @@ pub fn words_ok(s: &[u32], ws: &[u32]) -> bool
     let duplicate = words::next(s, layout::DUPLICATE);
     let erase = words::next(s, layout::ERASE);
     let drop = flex_trait_ok(s, ws, words::next(s, layout::DROP));
-    fits::holds3(drop, duplicate <= impls, erase <= impls)
+    fits::holds([drop, duplicate <= impls, erase <= impls])
 }
 
 // 8, where the planes of the sheet are made.
@@ -307,7 +263,7 @@ pub fn sheet_ok(s: &[u32], ws: &[u32]) -> bool
     let x = limits_ok(s, ws);
     let y = words_ok(s, ws);
     let z = chains_ok(s, ws);
-    fits::holds3(x, y, z)
+    fits::holds([x, y, z])
 }
 
 // 12 of an impl question, where the planes of its table are made.
@@ -321,7 +277,7 @@ pub fn impl_question_ok(s: &[u32], g: usize, q: &[u32], ws: &[u32]) -> bool
     let args = words::next(q, layout::QUESTION_ARGS);
     let x = table_ok(s, q, ws, params, table);
     let y = args_ok(s, q, ws, table, t, args);
-    fits::holds2(x, y)
+    fits::holds([x, y])
 }
 
 // 12 of a flex question.
@@ -335,5 +291,5 @@ pub fn flex_question_ok(s: &[u32], g: usize, q: &[u32], ws: &[u32]) -> bool
     let zero = words::next(q, layout::QUESTION_ZERO);
     let x = table_ok(s, q, ws, params, table);
     let n = folds::chain_count(ws, limits::LENGTHS, table);
-    fits::holds3(x, t / 2 < n, zero == 0)
+    fits::holds([x, t / 2 < n, zero == 0])
 }

@@ -1,5 +1,5 @@
 -- `get_mod`: the module of a type, looked for through Ref, as the loop has it.
-use Rattle.std.specs.Prelude.{ℕ, suc, ◌+◌, ◌-◌, ◌/◌, ◌≡◌, Bool, true, false, [], ◌∷◌, map, ◌≢◌, length}
+use Rattle.std.specs.Prelude.{ℕ, suc, ◌+◌, ◌-◌, ◌/◌, ◌≡◌, Bool, true, false, [], ◌∷◌, map, ◌≢◌, length, Option, Some, None, Result, Ok, Err}
 use Rattle.std.proofs.Math.Path.{refl, sym, ap, ap₂}
 use Rattle.std.proofs.Common.{◌∙◌, arith}
 use Rattle.std.proofs.Math.Dec.{eqb}
@@ -19,14 +19,15 @@ use Rattle.rules.specs.Answer.{word_of_type}
 use Rattle.rules.specs.Solutions.{rep}
 use Rattle.table.specs.Packing.{types_of, kind_in, id_in, kind_at, id_at}
 use Rattle.table.specs.Nodes.{type_word}
-use Rattle.walks.specs.declared.Module.{Module}
-use Rattle.walks.specs.declared.Module.TheVariants.{Nowhere, Within, Error}
+use Rattle.refusals.specs.declared.Refusal.{Refusal}
+use Rattle.refusals.specs.declared.Refusal.TheVariants.{ErrorType}
+use Rattle.refusals.specs.Numbers.{number_of}
 
--- What a value of the code is.
-unfoldable pub module_of : Module → Run Words
-module_of Nowhere = done []
-module_of (Within d) = done (within_def d ∷ [])
-module_of Error = stop 19
+-- What a result of the code is: no module, the module of a definition, or a refusal by its number.
+unfoldable pub module_of : Result (Option ℕ) Refusal → Run Words
+module_of (Ok None) = done []
+module_of (Ok (Some d)) = done (within_def d ∷ [])
+module_of (Err refusal) = stop (number_of refusal)
 
 -- The chain of the records that say where a kind's types are defined.
 unfoldable pub owner_chain : ℕ → Words
@@ -77,11 +78,11 @@ module _ (s : Words) (ts : Types) (k : ℕ) where
 pub record Seeking (s : Words) (ts : Types) (left t : ℕ) (x : Run Words) : Type 0 where
   pub rest : get_mod_in left s ts (type_of_word t) ≡ x
 
-pub seek_start : (s ws : Words) (c w t : ℕ) → c ≡ length (types_of ws) → w ≡ c → Seeking s (types_of ws) (w + 1) t (get_mod s (types_of ws) (type_of_word t))
+pub seek_start : (s ws : Words) (c left t : ℕ) → c ≡ length (types_of ws) → left ≡ c + 1 → Seeking s (types_of ws) left t (get_mod s (types_of ws) (type_of_word t))
 unfolding get_mod
-seek_start s ws c w t e ew = record { rest = ap (λ k. get_mod_in k s (types_of ws) (type_of_word t)) (let q : w + 1 ≡ suc (length (types_of ws)) = omega arith in q) }
+seek_start s ws c left t e el = record { rest = ap (λ k. get_mod_in k s (types_of ws) (type_of_word t)) (let q : left ≡ suc (length (types_of ws)) = omega arith in q) }
 
-pub seek_spent : (s : Words) (ts : Types) (left t : ℕ) (x : Run Words) → left ≡ 0 → Seeking s ts left t x → module_of Nowhere ≡ x
+pub seek_spent : (s : Words) (ts : Types) (left t : ℕ) (x : Run Words) → left ≡ 0 → Seeking s ts left t x → module_of (Ok None) ≡ x
 unfolding module_of get_mod_in
 seek_spent s ts left t x e p = sym (ap (λ k. get_mod_in k s ts (type_of_word t)) e) ∙ p.rest
 
@@ -93,36 +94,36 @@ module _ (s : Words) (ts : Types) (left t n k : ℕ) (x : Run Words) (nz : left 
   unfolding kind_at
   here = sym (ek ∙ ap (λ r. kind_in (state_at ts r)) en)
 
-  pub seek_error : k ≡ 13 → module_of Error ≡ x
+  pub seek_error : k ≡ 13 → module_of (Err ErrorType) ≡ x
   unfolding module_of type_of_word
   seek_error z = sym (error_level s ts (left - 1) (type_of_word t) (here ∙ z)) ∙ more
 
-  pub seek_on : (c : ℕ) → k ≡ 9 → c ≡ word_of_type (get_or (children_at ts n) 0 (false, 0)) → Seeking s ts (left - 1) c x
+  pub seek_on : (c after : ℕ) → k ≡ 9 → c ≡ word_of_type (get_or (children_at ts n) 0 (false, 0)) → after ≡ left - 1 → Seeking s ts after c x
   unfolding type_of_word children_at
-  seek_on c z ec = record { rest = ap (get_mod_in (left - 1) s ts) (ap type_of_word ec ∙ type_word (get_or (children_at ts n) 0 (false, 0)) ∙ ap (λ r. get_or (children (state_at ts r)) 0 (false, 0)) en) ∙ sym (ref_level s ts (left - 1) (type_of_word t) (here ∙ z)) ∙ more }
+  seek_on c after z ec ea = record { rest = ap (λ j. get_mod_in j s ts (type_of_word c)) ea ∙ ap (get_mod_in (left - 1) s ts) (ap type_of_word ec ∙ type_word (get_or (children_at ts n) 0 (false, 0)) ∙ ap (λ r. get_or (children (state_at ts r)) 0 (false, 0)) en) ∙ sym (ref_level s ts (left - 1) (type_of_word t) (here ∙ z)) ∙ more }
 
-  pub seek_own : (r : Module) (d : ℕ) → k ≢ 13 → k ≢ 9 → d ≡ id_at ts n → module_of r ≡ own_module s k d → module_of r ≡ x
+  pub seek_own : (o : Option ℕ) (d : ℕ) → k ≢ 13 → k ≢ 9 → d ≡ id_at ts n → module_of (Ok o) ≡ own_module s k d → module_of (Ok o) ≡ x
   unfolding type_of_word id_at
-  seek_own r d a b ed e = e ∙ ap₂ (own_module s) (sym here) (ed ∙ ap (λ m. id_in (state_at ts m)) en) ∙ sym (other s ts (left - 1) (type_of_word t) (ap (λ j. eqb j kind_error) here ∙ ne_eqb k kind_error a) (ap (λ j. eqb j kind_ref) here ∙ ne_eqb k kind_ref b)) ∙ more
+  seek_own o d a b ed e = e ∙ ap₂ (own_module s) (sym here) (ed ∙ ap (λ m. id_in (state_at ts m)) en) ∙ sym (other s ts (left - 1) (type_of_word t) (ap (λ j. eqb j kind_error) here ∙ ne_eqb k kind_error a) (ap (λ j. eqb j kind_ref) here ∙ ne_eqb k kind_ref b)) ∙ more
 
 -- Where a kind's types are defined: d is the definition that the record of the id names.
 module _ (s : Words) (k id : ℕ) where
-  pub in_opaques : (d : ℕ) → k ≡ 3 → d ≡ field s header_opaques id owner_definition → module_of (Within d) ≡ own_module s k id
+  pub in_opaques : (d : ℕ) → k ≡ 3 → d ≡ field s header_opaques id owner_definition → module_of (Ok (Some d)) ≡ own_module s k id
   unfolding module_of own_module owner_chain
   in_opaques d e ed = ap {B = Run Words} (λ j. done (within_def j ∷ [])) ed ∙ sym (ap (λ j. own_module s j id) e)
 
-  pub in_structs : (d : ℕ) → k ≡ 4 → d ≡ field s header_structs id owner_definition → module_of (Within d) ≡ own_module s k id
+  pub in_structs : (d : ℕ) → k ≡ 4 → d ≡ field s header_structs id owner_definition → module_of (Ok (Some d)) ≡ own_module s k id
   unfolding module_of own_module owner_chain
   in_structs d e ed = ap {B = Run Words} (λ j. done (within_def j ∷ [])) ed ∙ sym (ap (λ j. own_module s j id) e)
 
-  pub in_enums : (d : ℕ) → k ≡ 5 → d ≡ field s header_enums id owner_definition → module_of (Within d) ≡ own_module s k id
+  pub in_enums : (d : ℕ) → k ≡ 5 → d ≡ field s header_enums id owner_definition → module_of (Ok (Some d)) ≡ own_module s k id
   unfolding module_of own_module owner_chain
   in_enums d e ed = ap {B = Run Words} (λ j. done (within_def j ∷ [])) ed ∙ sym (ap (λ j. own_module s j id) e)
 
-  pub in_unions : (d : ℕ) → k ≡ 6 → d ≡ field s header_unions id owner_definition → module_of (Within d) ≡ own_module s k id
+  pub in_unions : (d : ℕ) → k ≡ 6 → d ≡ field s header_unions id owner_definition → module_of (Ok (Some d)) ≡ own_module s k id
   unfolding module_of own_module owner_chain
   in_unions d e ed = ap {B = Run Words} (λ j. done (within_def j ∷ [])) ed ∙ sym (ap (λ j. own_module s j id) e)
 
-  pub in_none : k ≢ 3 → k ≢ 4 → k ≢ 5 → k ≢ 6 → module_of Nowhere ≡ own_module s k id
+  pub in_none : k ≢ 3 → k ≢ 4 → k ≢ 5 → k ≢ 6 → module_of (Ok None) ≡ own_module s k id
   unfolding module_of own_module owner_chain
   in_none a b c d = sym (rw (ne_eqb k 3 a, ne_eqb k 4 b, ne_eqb k 5 c, ne_eqb k 6 d, owner_chain))

@@ -13,18 +13,13 @@ ghost use Rattle.walks.specs.Occurs.{Clean, Walked, Among};
 ghost use Rattle.walks.specs.SelfInverse.{own_inverse, Own, Inverted, AllInverted};
 
 use chart::{kinds, layout};
-
-fn wide(w: u32) -> usize
-    ensures { result ≡ w }
-{
-    w as usize
-}
+use refusals::Refusal;
 
 // Whether node n is marked.
 fn marked(marks: &[u32], n: u32) -> bool
     ensures { result ≡ is_marked marks.now n }
 {
-    words::word(marks, wide(n)) != 0
+    words::word(marks, n as usize) != 0
 }
 
 // Marks node n.
@@ -32,7 +27,7 @@ fn mark(marks: &mut [u32], n: u32)
     requires { n < length marks.old }
     ensures { marks.new ≡ with_mark marks.old n }
 {
-    marks[wide(n)] = 1;
+    marks[n as usize] = 1;
 }
 
 // Whether the class of root v is that of a type, or of a type within it. Marked nodes have nothing of v within them.
@@ -68,14 +63,10 @@ fn occurs_among(ws: &[u32], marks: &mut [u32], v: u32, n: u32) -> bool
     requires clean { Clean (types_of ws.now) v marks.old }
     ensures { Among (types_of ws.now) v n marks.new result }
 {
-    let m = table::child_count(ws, n);
-    let mut i: usize = 0;
-    while i < m {
-        let c = table::child(ws, n, i);
-        if occurs_in(ws, marks, v, c) {
+    for i in 0..table::child_count(ws, n) {
+        if occurs_in(ws, marks, v, table::child(ws, n, i)) {
             return true;
         }
-        i += 1;
     }
     false
 }
@@ -87,7 +78,7 @@ pub fn occurs(ws: &[u32], marks: &mut [u32], v: u32, t: u32) -> bool
     requires ws_in_bounds { length (types_of ws.now) ≤ length marks.old }
     ensures { result ≡ occurs_of (types_of ws.now) v (type_of_word t) }
 {
-    words::clear(marks, wide(table::count(ws)));
+    words::clear(marks, table::count(ws) as usize);
     occurs_in(ws, marks, v, t)
 }
 
@@ -96,15 +87,8 @@ fn own_inverse_of(s: &[u32], ws: &[u32], n: u32) -> bool
     ensures { result ≡ own_inverse s.now (types_of ws.now) n }
 {
     let k = table::kind_of(ws, n);
-    if k == 0 {
-        return false;
-    }
-    kinds::kind_flag(
-        s,
-        layout::ROW_OWN_INVERSE,
-        wide(k),
-        wide(table::id_of(ws, n)),
-    )
+    let d = table::id_of(ws, n);
+    k != 0 && kinds::kind_flag(s, layout::ROW_OWN_INVERSE, k as usize, d as usize)
 }
 
 // Whether every type in a type is its own inverse. Marked nodes are.
@@ -140,14 +124,10 @@ fn self_inverse_all(s: &[u32], ws: &[u32], marks: &mut [u32], n: u32) -> bool
     requires own { Own s.now (types_of ws.now) marks.old }
     ensures { AllInverted s.now (types_of ws.now) n marks.new result }
 {
-    let m = table::child_count(ws, n);
-    let mut i: usize = 0;
-    while i < m {
-        let c = table::child(ws, n, i);
-        if !self_inverse_in(s, ws, marks, c) {
+    for i in 0..table::child_count(ws, n) {
+        if !self_inverse_in(s, ws, marks, table::child(ws, n, i)) {
             return false;
         }
-        i += 1;
     }
     true
 }
@@ -159,67 +139,35 @@ pub fn self_inverse(s: &[u32], ws: &[u32], marks: &mut [u32], t: u32) -> bool
     requires ws_in_bounds { length (types_of ws.now) ≤ length marks.old }
     ensures { result ≡ self_inverse s.now (types_of ws.now) (type_of_word t) }
 {
-    words::clear(marks, wide(table::count(ws)));
+    words::clear(marks, table::count(ws) as usize);
     self_inverse_in(s, ws, marks, t)
 }
 
-// What `get_mod` comes to: no module, a module by its definition, or an Error type (19).
-#[derive(Clone, Copy)]
-pub enum Module {
-    Nowhere,
-    Within(usize),
-    Error,
-}
-
-// The kind of node n, and its id; 0 where it is unknown.
-fn kind(ws: &[u32], n: u32) -> usize
-    ensures { result ≡ kind_at (types_of ws.now) n }
+// The definition in whose module a type of a kind, neither Error nor Ref, and an id stands; none where it has no module.
+fn own_module_of(s: &[u32], k: usize, id: usize) -> Option<usize>
+    ensures { module_of (Ok result) ≡ own_module s.now k id }
 {
-    wide(table::kind_of(ws, n))
+    match k {
+        layout::KIND_OPAQUE => Some(chart::opaque_def(s, id)),
+        layout::KIND_STRUCT => Some(chart::struct_def(s, id)),
+        layout::KIND_ENUM => Some(chart::enum_def(s, id)),
+        layout::KIND_UNION => Some(chart::union_def(s, id)),
+        _ => None,
+    }
 }
 
-fn id(ws: &[u32], n: u32) -> usize
-    ensures { result ≡ id_at (types_of ws.now) n }
-{
-    wide(table::id_of(ws, n))
-}
-
-// The module of a type of a kind, neither Error nor Ref, and an id.
-fn own_module_of(s: &[u32], k: usize, id: usize) -> Module
-    ensures { module_of result ≡ own_module s.now k id }
-{
-    if k == layout::KIND_OPAQUE {
-        return Module::Within(chart::opaque_def(s, id));
-    }
-    if k == layout::KIND_STRUCT {
-        return Module::Within(chart::struct_def(s, id));
-    }
-    if k == layout::KIND_ENUM {
-        return Module::Within(chart::enum_def(s, id));
-    }
-    if k == layout::KIND_UNION {
-        return Module::Within(chart::union_def(s, id));
-    }
-    Module::Nowhere
-}
-
-// `get_mod`: the module of a type, looked for through Ref.
-pub fn get_mod(s: &[u32], ws: &[u32], t: u32) -> Module
+// `get_mod`: the definition in whose module a type stands, looked for through Ref.
+pub fn get_mod(s: &[u32], ws: &[u32], t: u32) -> Result<Option<usize>, Refusal>
     ensures { module_of result ≡ get_mod s.now (types_of ws.now) (type_of_word t) }
 {
     let mut at = t;
-    let mut left = wide(table::count(ws)) + 1;
-    while left != 0 {
+    for _i in 0..table::count(ws) as usize + 1 {
         let n = table::root_of(ws, at / 2);
-        let k = kind(ws, n);
-        if k == layout::KIND_ERROR {
-            return Module::Error;
+        match table::kind_of(ws, n) as usize {
+            layout::KIND_ERROR => return Err(Refusal::ErrorType),
+            layout::KIND_REF => at = table::child(ws, n, 0),
+            k => return Ok(own_module_of(s, k, table::id_of(ws, n) as usize)),
         }
-        if k != layout::KIND_REF {
-            return own_module_of(s, k, id(ws, n));
-        }
-        at = table::child(ws, n, 0);
-        left -= 1;
     }
-    Module::Nowhere
+    Ok(None)
 }

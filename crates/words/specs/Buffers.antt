@@ -1,6 +1,8 @@
 -- Two lent slices and which of them is meant; what a buffer holds after clearing and copying, with the laws that the loops cite.
-use Rattle.std.specs.Prelude.{ℕ, zero, suc, ◌+◌, ◌≤◌, ◌<◌, ◌≡◌, refl, Bool, true, false, [], ◌∷◌, ◌++◌, length, get_or, set, drop, replicate}
+use Rattle.std.specs.Prelude.{ℕ, zero, suc, ◌+◌, ◌≤◌, ◌<◌, ◌≡◌, refl, Bool, true, false, [], ◌∷◌, ◌++◌, length, get_or, set, take, drop, replicate, min}
 use Rattle.std.proofs.Common.{sym, ◌∙◌, ap, le_of_suc-le-suc, not-suc-le-zero, add-one, arith}
+use Rattle.std.proofs.Math.Nat.{suc-min-suc}
+use native.Mathlib.Numerals.{unary_clauses}
 use Rattle.rules.specs.Lists.{Words}
 use Rattle.rules.specs.Sheet.{record_words}
 
@@ -73,6 +75,16 @@ cleared-all i n us ws e h l = e ∙ go i n ws (omega (arith, ap length e, cleare
 pub cleared_done : (i n : ℕ) (us ws : Words) → us ≡ cleared i ws → i ≤ n → n ≤ i → us ≡ cleared n ws
 cleared_done i n us ws e h l = e ∙ ap (λ k. cleared k ws) (omega arith)
 
+-- So many zeros, and what stands behind them.
+pub cleared_part : (n m : ℕ) (us ws : Words) → m ≡ min n (length ws) → us ≡ replicate m 0 → us ++ drop m ws ≡ cleared n ws
+unfolding cleared
+cleared_part n m us ws e h = ap (λ (l : Words). l ++ drop m ws) h ∙ ap (λ k. replicate k 0 ++ drop k ws) e ∙ go n ws
+  where
+    go : (n : ℕ) (ws : Words) → replicate (min n (length ws)) 0 ++ drop (min n (length ws)) ws ≡ cleared n ws
+    go zero ws = simp unary_clauses
+    go (suc n) [] = simp unary_clauses
+    go (suc n) (w ∷ ws) = rw (suc-min-suc n (length ws)) (ap (λ (l : Words). 0 ∷ l) (go n ws))
+
 pub copied_none : (from to : Words) → to ≡ copied 0 from to
 unfolding copied
 copied_none from to = refl
@@ -128,3 +140,14 @@ copied_all_to i n us from to e h l = e ∙ go i n from to (omega (arith, ap leng
 -- All n are copied.
 pub copied_done : (i n : ℕ) (us from to : Words) → us ≡ copied i from to → i ≤ n → n ≤ i → us ≡ copied n from to
 copied_done i n us from to e h l = e ∙ ap (λ k. copied k from to) (omega arith)
+
+-- So many words, and what stands behind them.
+pub copied_part : (n m : ℕ) (us from to : Words) → m ≡ min (min n (length from)) (length to) → us ≡ take m from → us ++ drop m to ≡ copied n from to
+unfolding copied
+copied_part n m us from to e h = ap (λ (l : Words). l ++ drop m to) h ∙ ap (λ k. take k from ++ drop k to) e ∙ go n from to
+  where
+    go : (n : ℕ) (from to : Words) → take (min (min n (length from)) (length to)) from ++ drop (min (min n (length from)) (length to)) to ≡ copied n from to
+    go zero from to = simp unary_clauses
+    go (suc n) [] to = simp unary_clauses
+    go (suc n) (x ∷ xs) [] = simp unary_clauses
+    go (suc n) (x ∷ xs) (y ∷ ys) = rw (suc-min-suc n (length xs), suc-min-suc (min n (length xs)) (length ys)) (ap (λ (l : Words). x ∷ l) (go n xs ys))

@@ -1,11 +1,15 @@
-// Words of a lent slice: the word at a place, a record as a part of the slice, the records of a chain by their position,
-// clearing and copying. Every reader is total: past the end a word is 0 and a record is empty.
+// Words of a lent slice: the word at a place, a record as a part of the slice, the records of a chain, clearing and copying.
+// Every reader is total: past the end a word is 0 and a record is empty.
 #![tactic(auto)]
 
 ghost use Rattle.std.specs.Prelude.{◌≡◌, ◌+◌, length};
-ghost use Rattle.rules.specs.Sheet.{at, record_words, chain};
+ghost use Rattle.std.specs.Iterator.{YieldsFirst, item_count};
+ghost use Rattle.rules.specs.Lists.{Words};
+ghost use Rattle.rules.specs.Sheet.{at, record_words, chain, chain_of};
 ghost use Rattle.rules.specs.Layout.{node_length};
 ghost use Rattle.words.specs.Buffers.{holder, cleared, copied};
+
+use std::marker::Model;
 
 // The words of a type node's record.
 const NODE_LENGTH: usize = 5;
@@ -14,7 +18,7 @@ const NODE_LENGTH: usize = 5;
 pub fn word(s: &[u32], i: usize) -> u32
     ensures { result ≡ at s.now i }
 {
-    if i < s.len() { s[i] } else { 0 }
+    s.get(i).copied().unwrap_or(0)
 }
 
 // The word k places past a place; 0 past the end.
@@ -69,70 +73,76 @@ pub fn node_record<'a>(sheet: &'a [u32], question: &'a [u32], asked: bool, at: u
     }
 }
 
+// The records of a chain that are left, each by its place: at most `left` of them, the first at `at`.
+#[derive(Drop)]
+pub struct Chain<'a> {
+    sheet: &'a [u32],
+    at: usize,
+    left: usize,
+}
+
+// Seen as the list of these places.
+impl<'a> Model for Chain<'a> {
+    ghost Value = { Words };
+
+    ghost view = { λ r. chain_of r.left r.sheet.now r.at };
+}
+
+impl<'a> Iterator for Chain<'a> {
+    type Item = usize;
+
+    ghost next_gives = { YieldsFirst (λ places. places) };
+
+    ghost remaining = { item_count (λ places. places) };
+
+    fn next(&mut self) -> Option<usize> {
+        if self.left == 0 || self.at == 0 {
+            return None;
+        }
+        let here = self.at;
+        self.at = next(self.sheet, here);
+        self.left -= 1;
+        Some(here)
+    }
+}
+
+// The records of the chain from a head, each by its place.
+pub fn records(sheet: &[u32], head: usize) -> Chain<'_>
+    ensures { result ≡ chain sheet.now head }
+{
+    Chain {
+        sheet,
+        at: head,
+        left: sheet.len(),
+    }
+}
+
 // The place of record `id` of the chain from a head; 0 where the chain has no such record.
 pub fn place(s: &[u32], head: usize, id: usize) -> usize
     ensures { result ≡ at (chain s.now head) id }
 {
-    let mut i = head;
-    let mut k = id;
-    let mut left = s.len();
-    while left != 0 {
-        if i == 0 {
-            return 0;
-        }
-        if k == 0 {
-            return i;
-        }
-        i = next(s, i);
-        k -= 1;
-        left -= 1;
-    }
-    0
+    records(s, head).nth(id).unwrap_or(0)
 }
 
 // How many records the chain from a head has.
 pub fn chain_length(s: &[u32], head: usize) -> usize
     ensures { result ≡ length (chain s.now head) }
 {
-    let mut i = head;
-    let mut n = 0;
-    while n < s.len() {
-        if i == 0 {
-            return n;
-        }
-        i = next(s, i);
-        n += 1;
-    }
-    n
+    records(s, head).count()
 }
 
 // Clears the first n words of a buffer, or all of it where it is shorter.
 pub fn clear(ws: &mut [u32], n: usize)
     ensures { ws.new ≡ cleared n ws.old }
 {
-    let mut i = 0;
-    while i < n {
-        if ws.len() <= i {
-            return;
-        }
-        ws[i] = 0;
-        i += 1;
-    }
+    let end = n.min(ws.len());
+    ws[..end].fill(0);
 }
 
 // Copies the first n words of one buffer over those of another, as far as both go.
 pub fn copy(from: &[u32], to: &mut [u32], n: usize)
     ensures { to.new ≡ copied n from.now to.old }
 {
-    let mut i = 0;
-    while i < n {
-        if from.len() <= i {
-            return;
-        }
-        if to.len() <= i {
-            return;
-        }
-        to[i] = from[i];
-        i += 1;
-    }
+    let end = n.min(from.len()).min(to.len());
+    to[..end].copy_from_slice(&from[..end]);
 }

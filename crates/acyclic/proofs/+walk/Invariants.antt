@@ -6,8 +6,5 @@ use Rattle.acyclic.proofs.+walk.Given as goal
 abbrev pub decreases-walk : goal.decreases-walk
 decreases-walk l = l.fuel
 
-abbrev pub invariant-loop-left : goal.invariant-loop-left
-invariant-loop-left l = (length l.ws ≡ length l.initial.ws) × Turning l.s l.head l.node l.initial.ws l.ws l.left l.cell
-
-abbrev pub decreases-loop-left : goal.decreases-loop-left
-decreases-loop-left l = l.left
+abbrev pub invariant-loop-cell : goal.invariant-loop-cell
+invariant-loop-cell l = (length l.ws ≡ length l.initial.ws) × Turning l.s l.head l.node l.initial.ws l.ws l.cell-iterator

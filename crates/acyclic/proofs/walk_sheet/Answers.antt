@@ -6,14 +6,8 @@ use Rattle.acyclic.proofs.walk_sheet.Goals as goal
 pub walk_tables-requires-clause-all_inside : goal.walk_tables-requires-clause-all_inside
 walk_tables-requires-clause-all_inside c = search (rules, generics_inside)
 
-pub walk_tables-requires-clause-s_in_bounds : goal.walk_tables-requires-clause-s_in_bounds
-walk_tables-requires-clause-s_in_bounds c = search (rules, generics_inside)
-
 pub walk_tables-requires-then-walk_tables-clause-all_inside : goal.walk_tables-requires-then-walk_tables-clause-all_inside
 walk_tables-requires-then-walk_tables-clause-all_inside c = search (rules, impls_inside)
-
-pub walk_tables-requires-then-walk_tables-clause-s_in_bounds : goal.walk_tables-requires-then-walk_tables-clause-s_in_bounds
-walk_tables-requires-then-walk_tables-clause-s_in_bounds c = search (rules, impls_inside)
 
 pub returns-then-walk_tables : goal.returns-then-walk_tables
 returns-then-walk_tables c = search (rules, sheet_both)

@@ -1,22 +1,18 @@
--- `sets`: two nodes, and those of the modules behind them.
-use Rattle.std.proofs.Common.{rules}
-use Rattle.admitted.specs.Found.{few_definitions, front_length, modules_fit, second_fits, sets_long, sets_written, source_small}
+-- `sets`: the two nodes, and the modules of the inherent arguments.
+use Rattle.std.proofs.Common.{rules, arith, length-take-le}
+use Rattle.admitted.specs.Found.{few_definitions, sets_written, source_small}
 use Rattle.admitted.proofs.sets.Goals as goal
 
 pub general-requires : goal.general-requires
 general-requires c = search (rules, source_small)
 
-pub put-n-requires : goal.put-n-requires
-put-n-requires c = (search (rules, second_fits), search (rules, few_definitions))
-
-pub slice_bounds-put_modules-end : goal.slice_bounds-put_modules-end
-slice_bounds-put_modules-end c = search (rules, front_length)
+pub with_within-two-requires : goal.with_within-two-requires
+with_within-two-requires c = (omega (arith, c.none.ensures.1, c.with-own.ensures.1), search (rules, few_definitions))
 
 pub put_modules-requires : goal.put_modules-requires
-put_modules-requires c = (search (rules, modules_fit), search (rules, few_definitions))
-
-pub shape_of-nodes : goal.shape_of-nodes
-shape_of-nodes c = search (rules, sets_long)
+put_modules-requires c = (omega (arith, c.none.ensures.1, c.with-own.ensures.1, c.with_within-two.ensures.up, c.min-k.ensures, length-take-le c.min-k.result c.args.args.now (omega (arith, c.min-k.ensures))), search (rules, few_definitions))
 
 pub returns : goal.returns
-returns c = search (rules, sets_written)
+returns c =
+    sets_written _ _ _ _ _ _ c.none.result c.with-own.result c.with_within-two.result _ _ _ _ _ _ c.requires.stands c.definitions-count.ensures c.none.ensures.0 c.with-own.ensures.0 c.general.ensures c.trait_def.ensures c.inherent.ensures c.min-k.ensures c.requires.args_len_bound
+    (omega (arith, c.none.ensures.1, c.with-own.ensures.1)) c.with_within-two.ensures c.put_modules.ensures

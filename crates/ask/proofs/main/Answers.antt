@@ -3,5 +3,5 @@ use Rattle.std.proofs.Common.{ℕ, sym}
 use Rattle.std.proofs.Math.ListN.{length-replicate}
 use Rattle.ask.proofs.main.Goals as goal
 
-pub slice_bounds-serve-end : goal.slice_bounds-serve-end
-slice_bounds-serve-end c = sym (length-replicate {0} {A = ℕ} 662794 0)
+pub slice_bounds-run-end : goal.slice_bounds-run-end
+slice_bounds-run-end c = sym (length-replicate {0} {A = ℕ} 662794 0)

@@ -1,33 +1,28 @@
-use Rattle.std.proofs.Common.{arith, rules}
-use Rattle.asking.specs.Impls.{ask_ends, ask_one, exports_asking, impls_basic, impls_question, impls_searching}
+-- The search, and what it comes to.
+use Rattle.std.proofs.Common.{refl, arith}
+use Rattle.asking.specs.Impls.{ask_if_one, ask_answers, ask_told, ask_refuses, impls_basic, impls_question}
 use Rattle.asking.proofs.ask_impl.Goals as goal
 
 pub export_asked-asked-requires-clause-questions : goal.export_asked-asked-requires-clause-questions
-export_asked-asked-requires-clause-questions c = search (rules, impls_question)
+export_asked-asked-requires-clause-questions c = impls_question _ _ _ _ _ c.requires.impls
 
-pub export_asked-asked-requires-clause-in_bounds : goal.export_asked-asked-requires-clause-in_bounds
-export_asked-asked-requires-clause-in_bounds c = omega arith
+pub question-requires-clause-basic_bound : goal.question-requires-clause-basic_bound
+question-requires-clause-basic_bound c = impls_basic _ _ _ _ _ c.requires.impls
 
-pub question-searched-requires-clause-searching : goal.question-searched-requires-clause-searching
-question-searched-requires-clause-searching c = search (rules, impls_searching)
+pub end_asked-requires-clause-questions : goal.end_asked-requires-clause-questions
+end_asked-requires-clause-questions c = impls_question _ _ _ _ _ c.requires.impls
 
-pub question-searched-requires-clause-asking : goal.question-searched-requires-clause-asking
-question-searched-requires-clause-asking c = search (rules, exports_asking)
+pub end_asked-requires-clause-if_one : goal.end_asked-requires-clause-if_one
+end_asked-requires-clause-if_one c = ask_if_one _ _ _ _ _ _ c.requires.impls _ _ _ c.export_asked-asked.ensures _ c.question.ensures _ _ c.in-Found.is
 
-pub question-searched-requires-clause-depth_in_bounds : goal.question-searched-requires-clause-depth_in_bounds
-question-searched-requires-clause-depth_in_bounds c = omega arith
+pub unwrap-refusal-requires : goal.unwrap-refusal-requires
+unwrap-refusal-requires c = ask_told _ _ _ _ _ _ c.requires.impls _ _ _ c.export_asked-asked.ensures _ c.question.ensures _ _ c.in-Refused.is _ c.from_number.ensures
 
-pub question-searched-requires-clause-basic_bound : goal.question-searched-requires-clause-basic_bound
-question-searched-requires-clause-basic_bound c = search (rules, impls_basic)
+pub returns-in-Ok : goal.returns-in-Ok
+returns-in-Ok c = ask_answers _ _ _ _ _ _ c.requires.impls _ _ _ c.export_asked-asked.ensures _ c.question.ensures _ _ c.in-Found.is _ _ _ _ (omega (arith, c.question.auto.ws, c.export_asked-asked.auto.ws, c.requires.in_bounds)) c.in-Ok.ensures refl refl
 
-pub question-searched-requires-clause-count_bound : goal.question-searched-requires-clause-count_bound
-question-searched-requires-clause-count_bound c = omega arith
+pub returns-in-Err : goal.returns-in-Err
+returns-in-Err c = ask_answers _ _ _ _ _ _ c.requires.impls _ _ _ c.export_asked-asked.ensures _ c.question.ensures _ _ c.in-Found.is _ _ _ _ (omega (arith, c.question.auto.ws, c.export_asked-asked.auto.ws, c.requires.in_bounds)) c.in-Err.ensures refl refl
 
-pub end_asked-number-requires-clause-questions : goal.end_asked-number-requires-clause-questions
-end_asked-number-requires-clause-questions c = search (rules, impls_question)
-
-pub end_asked-number-requires-clause-if_found : goal.end_asked-number-requires-clause-if_found
-end_asked-number-requires-clause-if_found c = ask_one _ _ _ _ _ _ c.requires.impls _ _ _ c.export_asked-asked.ensures _ c.question-searched.ensures
-
-pub returns : goal.returns
-returns c = ask_ends _ _ _ _ _ _ c.requires.impls _ _ _ c.export_asked-asked.ensures _ c.question-searched.ensures _ _ _ _ (omega (arith, c.question-searched.auto.ws, c.export_asked-asked.auto.ws, c.requires.in_bounds)) c.end_asked-number.ensures c.count_of-after.ensures
+pub returns-in-Refused : goal.returns-in-Refused
+returns-in-Refused c = ask_refuses _ _ _ _ _ _ c.requires.impls _ _ _ c.export_asked-asked.ensures _ c.question.ensures _ _ c.in-Refused.is _ _ _ (omega (arith, c.question.auto.ws, c.export_asked-asked.auto.ws, c.requires.in_bounds)) c.from_number.ensures c.unwrap-refusal.ensures

@@ -1,7 +1,7 @@
 -- The question loaded anew, and closed with the result that was kept aside.
 use Rattle.std.proofs.Common.{rules}
-use Rattle.closing.specs.Ends.{found_front}
-use Rattle.asking.specs.Impls.{ended, loaded_asks, loaded_packed}
+use Rattle.closing.specs.Ends.{one_front}
+use Rattle.asking.specs.Impls.{front_taken, ended, loaded_asks, loaded_packed}
 use Rattle.asking.proofs.end_asked.Goals as goal
 
 pub end_impl-requires-clause-packed : goal.end_impl-requires-clause-packed
@@ -10,8 +10,8 @@ end_impl-requires-clause-packed c = search (rules, loaded_packed)
 pub end_impl-requires-clause-asks : goal.end_impl-requires-clause-asks
 end_impl-requires-clause-asks c = search (rules, loaded_asks)
 
-pub end_impl-requires-clause-if_found : goal.end_impl-requires-clause-if_found
-end_impl-requires-clause-if_found c = search (rules, found_front)
+pub end_impl-requires-clause-if_one : goal.end_impl-requires-clause-if_one
+end_impl-requires-clause-if_one c = search (rules, one_front, front_taken)
 
 pub returns : goal.returns
-returns c = search (rules, ended)
+returns c = search (rules, ended, front_taken)

@@ -1,19 +1,22 @@
--- `auto_of`, kind by kind.
+-- `auto_of`: the cases of the kind.
 use Rattle.std.proofs.Common.{rules}
 use Rattle.auto.specs.Built.{auto_default, auto_inverted, auto_fn, auto_closure, auto_other}
 use Rattle.auto.proofs.auto_of.Goals as goal
 
-pub returns-then-kind-eq-DEFAULT : goal.returns-then-kind-eq-DEFAULT
-returns-then-kind-eq-DEFAULT c = search (rules, auto_default)
+pub returns-in-12 : goal.returns-in-12
+returns-in-12 c = search (rules, auto_default)
 
-pub returns-then-inverted : goal.returns-then-inverted
-returns-then-inverted c = search (rules, auto_inverted)
+pub returns-in-7 : goal.returns-in-7
+returns-in-7 c = search (rules, auto_fn)
 
-pub returns-then-kind-eq-FN : goal.returns-then-kind-eq-FN
-returns-then-kind-eq-FN c = search (rules, auto_fn)
+pub returns-in-8 : goal.returns-in-8
+returns-in-8 c = search (rules, auto_closure)
 
-pub returns-then-kind-eq-CLOSURE : goal.returns-then-kind-eq-CLOSURE
-returns-then-kind-eq-CLOSURE c = search (rules, auto_closure)
+pub returns-in_default : goal.returns-in_default
+returns-in_default c = search (rules, auto_inverted, auto_other)
 
-pub returns : goal.returns
-returns c = search (rules, auto_other)
+pub returns-in_default-2 : goal.returns-in_default-2
+returns-in_default-2 c = search (rules, auto_inverted, auto_other)
+
+pub returns-in_default-3 : goal.returns-in_default-3
+returns-in_default-3 c = search (rules, auto_inverted, auto_other)

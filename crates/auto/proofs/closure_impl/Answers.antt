@@ -1,4 +1,4 @@
--- `closure_impl`: the test of the bit.
+-- `closure_impl`: the bit of its flex.
 use Rattle.std.proofs.Common.{rules}
 use Rattle.auto.specs.Built.{own_some, own_none}
 use Rattle.auto.proofs.closure_impl.Goals as goal
@@ -6,5 +6,5 @@ use Rattle.auto.proofs.closure_impl.Goals as goal
 pub returns-then-flex-bit-eq1 : goal.returns-then-flex-bit-eq1
 returns-then-flex-bit-eq1 c = search (rules, own_some)
 
-pub returns : goal.returns
-returns c = search (rules, own_none)
+pub returns-else-flex-bit-eq1 : goal.returns-else-flex-bit-eq1
+returns-else-flex-bit-eq1 c = search (rules, own_none)

@@ -1,6 +1,7 @@
 use Rattle.std.proofs.Common.{sym, ◌∙◌, ℕ, rules}
 use Rattle.calls.specs.Prepared.{new_sets}
 use Rattle.calls.specs.Behind.{flex_call, flex_prepares}
+use Rattle.calls.specs.Ended.{ends_by}
 use lib.ListN.{length-replicate}
 use Rattle.calls.proofs.flex_with_sets.Goals as goal
 
@@ -18,3 +19,6 @@ slice_bounds-ask_flex-end c = sym (c.prepare.auto.sets ∙ length-replicate {0} 
 
 pub ask_flex-requires-clause-flexing : goal.ask_flex-requires-clause-flexing
 ask_flex-requires-clause-flexing c = search (rules, flex_call)
+
+pub returns : goal.returns
+returns c = search (rules, ends_by)

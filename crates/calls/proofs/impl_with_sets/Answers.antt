@@ -1,6 +1,7 @@
 use Rattle.std.proofs.Common.{sym, ◌∙◌, ℕ, rules}
 use Rattle.calls.specs.Prepared.{new_sets}
 use Rattle.calls.specs.Behind.{impl_call, impl_prepares}
+use Rattle.calls.specs.Ended.{ends_by}
 use lib.ListN.{length-replicate}
 use Rattle.calls.proofs.impl_with_sets.Goals as goal
 
@@ -18,3 +19,6 @@ slice_bounds-ask_impl-end c = sym (c.prepare.auto.sets ∙ length-replicate {0} 
 
 pub ask_impl-requires-clause-impls : goal.ask_impl-requires-clause-impls
 ask_impl-requires-clause-impls c = search (rules, impl_call)
+
+pub returns : goal.returns
+returns c = search (rules, ends_by)

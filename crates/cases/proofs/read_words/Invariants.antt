@@ -1,9 +1,6 @@
--- `read_words`: so many are read.
-use Rattle.std.proofs.Common.{◌-◌, ◌≤◌}
+-- `read_words`: one each time.
+use Rattle.std.proofs.Common.{◌≤◌, vec_len}
 use Rattle.cases.proofs.read_words.Given as goal
 
-abbrev pub invariant-loop-i : goal.invariant-loop-i
-invariant-loop-i g l = l.i ≤ l.n
-
-abbrev pub decreases-loop-i : goal.decreases-loop-i
-decreases-loop-i g l = l.n - l.i
+abbrev pub invariant-loop : goal.invariant-loop
+invariant-loop g l = vec_len l.words ≤ l.counter

@@ -1,21 +1,32 @@
 -- `definition_at`: the record, then its heads.
-use Rattle.chains.specs.Sheets.{goes_planes, run_no, run_on, run-last, record_no, record_then, definition_tests}
+use Rattle.std.proofs.Common.{refl}
+use Rattle.chains.specs.Planes.{Goes}
+use Rattle.chains.specs.Sheets.{and_on, and_no, after, record_test, record_goes, definition_tests}
 use Rattle.chains.proofs.definition_at.Goals as goal
+use Rattle.chains.proofs.definition_at.Goals.{then-keeps, else-keeps, then-threes_keep, else-threes_keep}
 
-pub returns-then-not-keeps : goal.returns-then-not-keeps
-returns-then-not-keeps c = record_no _ _ _ c.keeps.ensures c.if-not-keeps.true-raw
+pub returns-then-fours_keep : goal.returns-then-fours_keep
+returns-then-fours_keep c = λ k.
+    let a0 = record_test _ _ c.keeps.ensures k in
+    let a1 : Goes _ c.args.s.now _ c.if-keeps.ws c.if-keeps.value = elim c.if-keeps.branch [
+      | then-keeps w ↦ and_on a0 w.if-keeps.true (w.threes_keep.ensures (after a0 w.if-keeps.true)) w.ws-is w.value-is
+      | else-keeps w ↦ and_no _ a0 w.if-keeps.false w.ws-is w.value-is
+    ] in
+    let a2 : Goes _ c.args.s.now _ c.if-threes_keep.ws c.if-threes_keep.value = elim c.if-threes_keep.branch [
+      | then-threes_keep w ↦ and_on a1 w.if-threes_keep.true (w.fours_keep.ensures (after a1 w.if-threes_keep.true)) w.ws-is w.value-is
+      | else-threes_keep w ↦ and_no _ a1 w.if-threes_keep.false w.ws-is w.value-is
+    ] in
+    record_goes _ _ _ (definition_tests c.args.s.now c.args.p _) (and_on a2 c.if-fours_keep.true (c.fours_keep-then-fours_keep.ensures (after a2 c.if-fours_keep.true)) refl refl)
 
-pub returns-then-not-threes_keep : goal.returns-then-not-threes_keep
-returns-then-not-threes_keep c = record_then _ _ _ c.keeps.ensures c.if-not-keeps.false-raw (definition_tests _ _) (run_no c.threes_keep.ensures c.if-not-threes_keep.true-raw)
-
-pub fours_keep-requires-clause-planes : goal.fours_keep-requires-clause-planes
-fours_keep-requires-clause-planes c = goes_planes c.threes_keep.ensures c.if-not-threes_keep.false-raw
-
-pub returns-then-not-fours_keep : goal.returns-then-not-fours_keep
-returns-then-not-fours_keep c = record_then _ _ _ c.keeps.ensures c.if-not-keeps.false-raw (definition_tests _ _) (run_on c.threes_keep.ensures c.if-not-threes_keep.false-raw (run_no c.fours_keep.ensures c.if-not-fours_keep.true-raw))
-
-pub fours_keep-requires-2-clause-planes : goal.fours_keep-requires-2-clause-planes
-fours_keep-requires-2-clause-planes c = goes_planes c.fours_keep.ensures c.if-not-fours_keep.false-raw
-
-pub returns : goal.returns
-returns c = record_then _ _ _ c.keeps.ensures c.if-not-keeps.false-raw (definition_tests _ _) (run_on c.threes_keep.ensures c.if-not-threes_keep.false-raw (run_on c.fours_keep.ensures c.if-not-fours_keep.false-raw (run-last c.fours_keep-2.ensures)))
+pub returns-else-fours_keep : goal.returns-else-fours_keep
+returns-else-fours_keep c = λ k.
+    let a0 = record_test _ _ c.keeps.ensures k in
+    let a1 : Goes _ c.args.s.now _ c.if-keeps.ws c.if-keeps.value = elim c.if-keeps.branch [
+      | then-keeps w ↦ and_on a0 w.if-keeps.true (w.threes_keep.ensures (after a0 w.if-keeps.true)) w.ws-is w.value-is
+      | else-keeps w ↦ and_no _ a0 w.if-keeps.false w.ws-is w.value-is
+    ] in
+    let a2 : Goes _ c.args.s.now _ c.if-threes_keep.ws c.if-threes_keep.value = elim c.if-threes_keep.branch [
+      | then-threes_keep w ↦ and_on a1 w.if-threes_keep.true (w.fours_keep.ensures (after a1 w.if-threes_keep.true)) w.ws-is w.value-is
+      | else-threes_keep w ↦ and_no _ a1 w.if-threes_keep.false w.ws-is w.value-is
+    ] in
+    record_goes _ _ _ (definition_tests c.args.s.now c.args.p _) (and_no _ a2 c.if-fours_keep.false refl refl)

@@ -1,30 +1,40 @@
 -- `first_heads`: one head after the other.
-use Rattle.chains.specs.Sheets.{goes_planes, run_no, run_on, run-last}
+use Rattle.std.proofs.Common.{refl}
+use Rattle.chains.specs.Planes.{Goes}
+use Rattle.chains.specs.Sheets.{and_on, and_no, after, run_goes, and_five}
 use Rattle.chains.proofs.first_heads.Goals as goal
+use Rattle.chains.proofs.first_heads.Goals.{then-definitions_keep, else-definitions_keep, then-generics_keep, else-generics_keep, then-fours_keep, else-fours_keep}
 
-pub returns-then-not-definitions_keep : goal.returns-then-not-definitions_keep
-returns-then-not-definitions_keep c = run_no c.definitions_keep.ensures c.if-not-definitions_keep.true-raw
+pub returns-then-impls_keep : goal.returns-then-impls_keep
+returns-then-impls_keep c = λ k.
+    let a0 = c.definitions_keep.ensures k in
+    let a1 : Goes _ c.args.s.now _ c.if-definitions_keep.ws c.if-definitions_keep.value = elim c.if-definitions_keep.branch [
+      | then-definitions_keep w ↦ and_on a0 w.if-definitions_keep.true (w.generics_keep.ensures (after a0 w.if-definitions_keep.true)) w.ws-is w.value-is
+      | else-definitions_keep w ↦ and_no _ a0 w.if-definitions_keep.false w.ws-is w.value-is
+    ] in
+    let a2 : Goes _ c.args.s.now _ c.if-generics_keep.ws c.if-generics_keep.value = elim c.if-generics_keep.branch [
+      | then-generics_keep w ↦ and_on a1 w.if-generics_keep.true (w.fours_keep.ensures (after a1 w.if-generics_keep.true)) w.ws-is w.value-is
+      | else-generics_keep w ↦ and_no _ a1 w.if-generics_keep.false w.ws-is w.value-is
+    ] in
+    let a3 : Goes _ c.args.s.now _ c.if-fours_keep.ws c.if-fours_keep.value = elim c.if-fours_keep.branch [
+      | then-fours_keep w ↦ and_on a2 w.if-fours_keep.true (w.impls_keep.ensures (after a2 w.if-fours_keep.true)) w.ws-is w.value-is
+      | else-fours_keep w ↦ and_no _ a2 w.if-fours_keep.false w.ws-is w.value-is
+    ] in
+    run_goes (and_five _ _ _ _ _) (and_on a3 c.if-impls_keep.true (c.cells_keep.ensures (after a3 c.if-impls_keep.true)) refl refl)
 
-pub generics_keep-requires-clause-planes : goal.generics_keep-requires-clause-planes
-generics_keep-requires-clause-planes c = goes_planes c.definitions_keep.ensures c.if-not-definitions_keep.false-raw
-
-pub returns-then-not-generics_keep : goal.returns-then-not-generics_keep
-returns-then-not-generics_keep c = run_on c.definitions_keep.ensures c.if-not-definitions_keep.false-raw (run_no c.generics_keep.ensures c.if-not-generics_keep.true-raw)
-
-pub fours_keep-requires-clause-planes : goal.fours_keep-requires-clause-planes
-fours_keep-requires-clause-planes c = goes_planes c.generics_keep.ensures c.if-not-generics_keep.false-raw
-
-pub returns-then-not-fours_keep : goal.returns-then-not-fours_keep
-returns-then-not-fours_keep c = run_on c.definitions_keep.ensures c.if-not-definitions_keep.false-raw (run_on c.generics_keep.ensures c.if-not-generics_keep.false-raw (run_no c.fours_keep.ensures c.if-not-fours_keep.true-raw))
-
-pub impls_keep-requires-clause-planes : goal.impls_keep-requires-clause-planes
-impls_keep-requires-clause-planes c = goes_planes c.fours_keep.ensures c.if-not-fours_keep.false-raw
-
-pub returns-then-not-impls_keep : goal.returns-then-not-impls_keep
-returns-then-not-impls_keep c = run_on c.definitions_keep.ensures c.if-not-definitions_keep.false-raw (run_on c.generics_keep.ensures c.if-not-generics_keep.false-raw (run_on c.fours_keep.ensures c.if-not-fours_keep.false-raw (run_no c.impls_keep.ensures c.if-not-impls_keep.true-raw)))
-
-pub cells_keep-requires-clause-planes : goal.cells_keep-requires-clause-planes
-cells_keep-requires-clause-planes c = goes_planes c.impls_keep.ensures c.if-not-impls_keep.false-raw
-
-pub returns : goal.returns
-returns c = run_on c.definitions_keep.ensures c.if-not-definitions_keep.false-raw (run_on c.generics_keep.ensures c.if-not-generics_keep.false-raw (run_on c.fours_keep.ensures c.if-not-fours_keep.false-raw (run_on c.impls_keep.ensures c.if-not-impls_keep.false-raw (run-last c.cells_keep.ensures))))
+pub returns-else-impls_keep : goal.returns-else-impls_keep
+returns-else-impls_keep c = λ k.
+    let a0 = c.definitions_keep.ensures k in
+    let a1 : Goes _ c.args.s.now _ c.if-definitions_keep.ws c.if-definitions_keep.value = elim c.if-definitions_keep.branch [
+      | then-definitions_keep w ↦ and_on a0 w.if-definitions_keep.true (w.generics_keep.ensures (after a0 w.if-definitions_keep.true)) w.ws-is w.value-is
+      | else-definitions_keep w ↦ and_no _ a0 w.if-definitions_keep.false w.ws-is w.value-is
+    ] in
+    let a2 : Goes _ c.args.s.now _ c.if-generics_keep.ws c.if-generics_keep.value = elim c.if-generics_keep.branch [
+      | then-generics_keep w ↦ and_on a1 w.if-generics_keep.true (w.fours_keep.ensures (after a1 w.if-generics_keep.true)) w.ws-is w.value-is
+      | else-generics_keep w ↦ and_no _ a1 w.if-generics_keep.false w.ws-is w.value-is
+    ] in
+    let a3 : Goes _ c.args.s.now _ c.if-fours_keep.ws c.if-fours_keep.value = elim c.if-fours_keep.branch [
+      | then-fours_keep w ↦ and_on a2 w.if-fours_keep.true (w.impls_keep.ensures (after a2 w.if-fours_keep.true)) w.ws-is w.value-is
+      | else-fours_keep w ↦ and_no _ a2 w.if-fours_keep.false w.ws-is w.value-is
+    ] in
+    run_goes (and_five _ _ _ _ _) (and_no _ a3 c.if-impls_keep.false refl refl)

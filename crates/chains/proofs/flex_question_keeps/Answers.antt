@@ -3,8 +3,5 @@ use Rattle.chains.specs.Planes.{planes_cleared}
 use Rattle.chains.specs.Sheets.{table_only}
 use Rattle.chains.proofs.flex_question_keeps.Goals as goal
 
-pub nodes_keep-requires-clause-planes : goal.nodes_keep-requires-clause-planes
-nodes_keep-requires-clause-planes c = planes_cleared _ _ _ _ c.clear.ensures
-
 pub returns : goal.returns
-returns c = table_only _ _ _ c.nodes_keep.ensures
+returns c = table_only _ _ _ (c.nodes_keep.ensures (planes_cleared _ _ _ _ c.clear.ensures))

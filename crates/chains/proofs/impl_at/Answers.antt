@@ -1,15 +1,24 @@
 -- `impl_at`: the record, then its heads.
-use Rattle.chains.specs.Sheets.{goes_planes, run_no, run_on, run-last, record_no, record_then, impl_tests}
+use Rattle.std.proofs.Common.{refl}
+use Rattle.chains.specs.Planes.{Goes}
+use Rattle.chains.specs.Sheets.{and_on, and_no, after, record_test, record_goes, impl_tests}
 use Rattle.chains.proofs.impl_at.Goals as goal
+use Rattle.chains.proofs.impl_at.Goals.{then-keeps, else-keeps}
 
-pub returns-then-not-keeps : goal.returns-then-not-keeps
-returns-then-not-keeps c = record_no _ _ _ c.keeps.ensures c.if-not-keeps.true-raw
+pub returns-then-nodes_keep : goal.returns-then-nodes_keep
+returns-then-nodes_keep c = λ k.
+    let a0 = record_test _ _ c.keeps.ensures k in
+    let a1 : Goes _ c.args.s.now _ c.if-keeps.ws c.if-keeps.value = elim c.if-keeps.branch [
+      | then-keeps w ↦ and_on a0 w.if-keeps.true (w.nodes_keep.ensures (after a0 w.if-keeps.true)) w.ws-is w.value-is
+      | else-keeps w ↦ and_no _ a0 w.if-keeps.false w.ws-is w.value-is
+    ] in
+    record_goes _ _ _ (impl_tests c.args.s.now c.args.p _) (and_on a1 c.if-nodes_keep.true (c.cells_keep.ensures (after a1 c.if-nodes_keep.true)) refl refl)
 
-pub returns-then-not-nodes_keep : goal.returns-then-not-nodes_keep
-returns-then-not-nodes_keep c = record_then _ _ _ c.keeps.ensures c.if-not-keeps.false-raw (impl_tests _ _) (run_no c.nodes_keep.ensures c.if-not-nodes_keep.true-raw)
-
-pub cells_keep-requires-clause-planes : goal.cells_keep-requires-clause-planes
-cells_keep-requires-clause-planes c = goes_planes c.nodes_keep.ensures c.if-not-nodes_keep.false-raw
-
-pub returns : goal.returns
-returns c = record_then _ _ _ c.keeps.ensures c.if-not-keeps.false-raw (impl_tests _ _) (run_on c.nodes_keep.ensures c.if-not-nodes_keep.false-raw (run-last c.cells_keep.ensures))
+pub returns-else-nodes_keep : goal.returns-else-nodes_keep
+returns-else-nodes_keep c = λ k.
+    let a0 = record_test _ _ c.keeps.ensures k in
+    let a1 : Goes _ c.args.s.now _ c.if-keeps.ws c.if-keeps.value = elim c.if-keeps.branch [
+      | then-keeps w ↦ and_on a0 w.if-keeps.true (w.nodes_keep.ensures (after a0 w.if-keeps.true)) w.ws-is w.value-is
+      | else-keeps w ↦ and_no _ a0 w.if-keeps.false w.ws-is w.value-is
+    ] in
+    record_goes _ _ _ (impl_tests c.args.s.now c.args.p _) (and_no _ a1 c.if-nodes_keep.false refl refl)

@@ -1,7 +1,6 @@
--- `impl_params_keep`: a walk in plane 2.
-use Rattle.std.proofs.Common.{rules}
+-- `impl_params_keep`: a walk in its plane.
 use Rattle.chains.specs.Planes.{params_go}
 use Rattle.chains.proofs.impl_params_keep.Goals as goal
 
 pub returns : goal.returns
-returns c = search (rules, params_go)
+returns c = λ k. params_go _ _ _ _ _ _ _ c.field_at-h.ensures k (c.celled_keep.ensures k.cells k.params)

@@ -1,23 +1,16 @@
--- `impls_keep`: the chain ahead decides.
-use Rattle.std.proofs.Common.{rules}
-use Rattle.chains.specs.Walks.{left_falls}
-use Rattle.chains.specs.Sheets.{along_start, along_on, along_low, along_broken, along_end}
+-- `impls_keep`: one record after the other.
+use Rattle.std.proofs.Common.{rules, arith, subst}
+use Rattle.rules.specs.Layout.{header_length, impl_length}
+use Rattle.rules.specs.Chains.{head_keeps}
+use Rattle.chains.specs.Walks.{ok_at, by_calls}
+use Rattle.chains.specs.Planes.{Planes, Goes}
+use Rattle.chains.specs.Sheets.{impl_heads, Stands, standing}
 use Rattle.chains.proofs.impls_keep.Goals as goal
 
-pub returns-then-not-zero_or_from : goal.returns-then-not-zero_or_from
-returns-then-not-zero_or_from c = search (rules, along_low)
-
-pub loop-p-init : goal.loop-p-init
-loop-p-init c = search (rules, along_start)
-
-pub returns-then-not-impl_at : goal.returns-then-not-impl_at
-returns-then-not-impl_at c = search (rules, along_broken)
-
-pub loop-p-smaller : goal.loop-p-smaller
-loop-p-smaller c = search (rules, left_falls)
-
-pub loop-p-preserved : goal.loop-p-preserved
-loop-p-preserved c = search (rules, along_on)
-
 pub returns : goal.returns
-returns c = search (rules, along_end)
+returns c = λ k.
+    let s = c.args.s.now in
+    subst (λ h. Goes header_length s (head_keeps header_length s impl_length (impl_heads s) h) c.walk.new.ws c.walk.result) c.next-h.ensures
+    (standing header_length s impl_length (impl_heads s) _ _ (omega arith) c.requires.0
+    (λ us p f xs t a. by_calls _ (λ us p f xs. Planes header_length s us → Stands header_length s (ok_at s impl_length (impl_heads s) p) xs f) (λ lent left p f m. search rules) us p f xs a t)
+    _ _ _ k c.walk.ensures)

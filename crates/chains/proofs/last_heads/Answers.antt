@@ -1,30 +1,40 @@
 -- `last_heads`: one head after the other.
-use Rattle.chains.specs.Sheets.{goes_planes, run_no, run_on, run-last}
+use Rattle.std.proofs.Common.{refl}
+use Rattle.chains.specs.Planes.{Goes}
+use Rattle.chains.specs.Sheets.{and_on, and_no, after, run_goes, and_five}
 use Rattle.chains.proofs.last_heads.Goals as goal
+use Rattle.chains.proofs.last_heads.Goals.{then-threes_keep, else-threes_keep, then-cells_keep, else-cells_keep, then-threes_keep-2, else-threes_keep-2}
 
-pub returns-then-not-threes_keep : goal.returns-then-not-threes_keep
-returns-then-not-threes_keep c = run_no c.threes_keep.ensures c.if-not-threes_keep.true-raw
+pub returns-then-cells_keep-2 : goal.returns-then-cells_keep-2
+returns-then-cells_keep-2 c = λ k.
+    let a0 = c.threes_keep.ensures k in
+    let a1 : Goes _ c.args.s.now _ c.if-threes_keep.ws c.if-threes_keep.value = elim c.if-threes_keep.branch [
+      | then-threes_keep w ↦ and_on a0 w.if-threes_keep.true (w.cells_keep.ensures (after a0 w.if-threes_keep.true)) w.ws-is w.value-is
+      | else-threes_keep w ↦ and_no _ a0 w.if-threes_keep.false w.ws-is w.value-is
+    ] in
+    let a2 : Goes _ c.args.s.now _ c.if-cells_keep.ws c.if-cells_keep.value = elim c.if-cells_keep.branch [
+      | then-cells_keep w ↦ and_on a1 w.if-cells_keep.true (w.threes_keep-then-cells_keep.ensures (after a1 w.if-cells_keep.true)) w.ws-is w.value-is
+      | else-cells_keep w ↦ and_no _ a1 w.if-cells_keep.false w.ws-is w.value-is
+    ] in
+    let a3 : Goes _ c.args.s.now _ c.if-threes_keep-2.ws c.if-threes_keep-2.value = elim c.if-threes_keep-2.branch [
+      | then-threes_keep-2 w ↦ and_on a2 w.if-threes_keep-2.true (w.cells_keep-then-threes_keep-2.ensures (after a2 w.if-threes_keep-2.true)) w.ws-is w.value-is
+      | else-threes_keep-2 w ↦ and_no _ a2 w.if-threes_keep-2.false w.ws-is w.value-is
+    ] in
+    run_goes (and_five _ _ _ _ _) (and_on a3 c.if-cells_keep-2.true (c.cells_keep-then-cells_keep-2.ensures (after a3 c.if-cells_keep-2.true)) refl refl)
 
-pub cells_keep-requires-clause-planes : goal.cells_keep-requires-clause-planes
-cells_keep-requires-clause-planes c = goes_planes c.threes_keep.ensures c.if-not-threes_keep.false-raw
-
-pub returns-then-not-cells_keep : goal.returns-then-not-cells_keep
-returns-then-not-cells_keep c = run_on c.threes_keep.ensures c.if-not-threes_keep.false-raw (run_no c.cells_keep.ensures c.if-not-cells_keep.true-raw)
-
-pub threes_keep-requires-2-clause-planes : goal.threes_keep-requires-2-clause-planes
-threes_keep-requires-2-clause-planes c = goes_planes c.cells_keep.ensures c.if-not-cells_keep.false-raw
-
-pub returns-then-not-threes_keep-2 : goal.returns-then-not-threes_keep-2
-returns-then-not-threes_keep-2 c = run_on c.threes_keep.ensures c.if-not-threes_keep.false-raw (run_on c.cells_keep.ensures c.if-not-cells_keep.false-raw (run_no c.threes_keep-2.ensures c.if-not-threes_keep-2.true-raw))
-
-pub cells_keep-requires-2-clause-planes : goal.cells_keep-requires-2-clause-planes
-cells_keep-requires-2-clause-planes c = goes_planes c.threes_keep-2.ensures c.if-not-threes_keep-2.false-raw
-
-pub returns-then-not-cells_keep-2 : goal.returns-then-not-cells_keep-2
-returns-then-not-cells_keep-2 c = run_on c.threes_keep.ensures c.if-not-threes_keep.false-raw (run_on c.cells_keep.ensures c.if-not-cells_keep.false-raw (run_on c.threes_keep-2.ensures c.if-not-threes_keep-2.false-raw (run_no c.cells_keep-2.ensures c.if-not-cells_keep-2.true-raw)))
-
-pub cells_keep-requires-3-clause-planes : goal.cells_keep-requires-3-clause-planes
-cells_keep-requires-3-clause-planes c = goes_planes c.cells_keep-2.ensures c.if-not-cells_keep-2.false-raw
-
-pub returns : goal.returns
-returns c = run_on c.threes_keep.ensures c.if-not-threes_keep.false-raw (run_on c.cells_keep.ensures c.if-not-cells_keep.false-raw (run_on c.threes_keep-2.ensures c.if-not-threes_keep-2.false-raw (run_on c.cells_keep-2.ensures c.if-not-cells_keep-2.false-raw (run-last c.cells_keep-3.ensures))))
+pub returns-else-cells_keep-2 : goal.returns-else-cells_keep-2
+returns-else-cells_keep-2 c = λ k.
+    let a0 = c.threes_keep.ensures k in
+    let a1 : Goes _ c.args.s.now _ c.if-threes_keep.ws c.if-threes_keep.value = elim c.if-threes_keep.branch [
+      | then-threes_keep w ↦ and_on a0 w.if-threes_keep.true (w.cells_keep.ensures (after a0 w.if-threes_keep.true)) w.ws-is w.value-is
+      | else-threes_keep w ↦ and_no _ a0 w.if-threes_keep.false w.ws-is w.value-is
+    ] in
+    let a2 : Goes _ c.args.s.now _ c.if-cells_keep.ws c.if-cells_keep.value = elim c.if-cells_keep.branch [
+      | then-cells_keep w ↦ and_on a1 w.if-cells_keep.true (w.threes_keep-then-cells_keep.ensures (after a1 w.if-cells_keep.true)) w.ws-is w.value-is
+      | else-cells_keep w ↦ and_no _ a1 w.if-cells_keep.false w.ws-is w.value-is
+    ] in
+    let a3 : Goes _ c.args.s.now _ c.if-threes_keep-2.ws c.if-threes_keep-2.value = elim c.if-threes_keep-2.branch [
+      | then-threes_keep-2 w ↦ and_on a2 w.if-threes_keep-2.true (w.cells_keep-then-threes_keep-2.ensures (after a2 w.if-threes_keep-2.true)) w.ws-is w.value-is
+      | else-threes_keep-2 w ↦ and_no _ a2 w.if-threes_keep-2.false w.ws-is w.value-is
+    ] in
+    run_goes (and_five _ _ _ _ _) (and_no _ a3 c.if-cells_keep-2.false refl refl)

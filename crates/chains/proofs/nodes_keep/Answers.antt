@@ -1,7 +1,6 @@
--- `nodes_keep`: a walk in plane 1.
-use Rattle.std.proofs.Common.{rules}
+-- `nodes_keep`: a walk in its plane.
 use Rattle.chains.specs.Planes.{nodes_go}
 use Rattle.chains.proofs.nodes_keep.Goals as goal
 
 pub returns : goal.returns
-returns c = search (rules, nodes_go)
+returns c = λ k. nodes_go _ _ _ _ _ _ _ _ c.field_at-h.ensures k (c.celled_keep.ensures k.cells k.nodes)

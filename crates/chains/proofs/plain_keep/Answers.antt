@@ -1,25 +1,10 @@
--- `plain_keep`: marks behind the walk are right if the chain ahead keeps the rule.
-use Rattle.std.proofs.Common.{rules}
-use Rattle.chains.specs.Walks.{left_falls, going_start, going_on, walked_low, walked_known, walked_broken, walked_end}
+-- `plain_keep`: each record is known, or marked where it passes.
+use Rattle.std.proofs.Common.{rules, arith}
+use Rattle.rules.specs.Chains.{no_heads}
+use Rattle.chains.specs.Walks.{nothing, Tells, by_calls, walked}
 use Rattle.chains.proofs.plain_keep.Goals as goal
 
-pub returns-then-not-zero_or_from : goal.returns-then-not-zero_or_from
-returns-then-not-zero_or_from c = search (rules, walked_low)
-
-pub loop-p-init : goal.loop-p-init
-loop-p-init c = search (rules, going_start)
-
-pub returns-then-known : goal.returns-then-known
-returns-then-known c = search (rules, walked_known)
-
-pub returns-then-not-plain_at : goal.returns-then-not-plain_at
-returns-then-not-plain_at c = search (rules, walked_broken)
-
-pub loop-p-smaller : goal.loop-p-smaller
-loop-p-smaller c = search (rules, left_falls)
-
-pub loop-p-preserved : goal.loop-p-preserved
-loop-p-preserved c = search (rules, going_on)
-
 pub returns : goal.returns
-returns c = search (rules, walked_end)
+returns c = λ k. walked nothing 0 _ _ _ no_heads _ _ _ _ c.requires.0 c.requires.1 (omega arith)
+    (λ us p f xs q a. by_calls _ (λ us p f xs. Tells nothing 0 c.args.s.now c.args.len no_heads c.args.b p us xs f) (λ lent left p f m. search rules) us p f xs a)
+    _ _ k tt c.walk.ensures

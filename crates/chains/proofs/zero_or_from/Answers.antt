@@ -6,5 +6,5 @@ use Rattle.chains.proofs.zero_or_from.Goals as goal
 pub returns-then-h-eq0 : goal.returns-then-h-eq0
 returns-then-h-eq0 c = search (rules, head_zero)
 
-pub returns : goal.returns
-returns c = search (rules, head_from)
+pub returns-else-h-eq0 : goal.returns-else-h-eq0
+returns-else-h-eq0 c = search (rules, head_from)

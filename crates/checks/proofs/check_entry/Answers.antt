@@ -1,25 +1,19 @@
--- `check_entry`: the first test that holds decides.
-use Rattle.std.proofs.Common.{rules}
-use Rattle.checks.specs.Numbers.{entry_sheet, question_short, question_long, answer_short, work_short, count_over, enters}
+-- `check_entry`: the lengths, then the count.
+use Rattle.checks.specs.Numbers.{passed_on, refuses, passes, requires, not_within, entry_sheet, entry_past, answer_limit, work_limit, count_limit}
+use Rattle.refusals.specs.declared.Refusal.TheVariants.{QuestionLength, AnswerLength, WorkspaceLength, StartCount}
 use Rattle.checks.proofs.check_entry.Goals as goal
 
-pub returns-then-n-ne0 : goal.returns-then-n-ne0
-returns-then-n-ne0 c = search (rules, entry_sheet)
+pub returns-in_err-check_length : goal.returns-in_err-check_length
+returns-in_err-check_length c = passed_on _ _ _ c.from_residual.ensures (entry_sheet _ _ _ _ _ _ c.in_err-check_length.ensures)
 
-pub returns-then-q-lt-QUESTION_LENGTH : goal.returns-then-q-lt-QUESTION_LENGTH
-returns-then-q-lt-QUESTION_LENGTH c = search (rules, question_short)
+pub returns-in_err-require : goal.returns-in_err-require
+returns-in_err-require c = passed_on _ _ _ c.from_residual-in_err-require.ensures (entry_past _ _ _ _ _ _ c.in_ok-check_length.ensures (refuses QuestionLength _ _ (not_within c.within.ensures) _ _ c.in_err-require.ensures))
 
-pub returns-then-q-gt-QUESTION : goal.returns-then-q-gt-QUESTION
-returns-then-q-gt-QUESTION c = search (rules, question_long)
+pub returns-in_err-require-2 : goal.returns-in_err-require-2
+returns-in_err-require-2 c = passed_on _ _ _ c.from_residual-in_err-require-2.ensures (entry_past _ _ _ _ _ _ c.in_ok-check_length.ensures (passes QuestionLength _ _ (not_within c.within.ensures) _ _ c.in_ok-require.ensures (refuses AnswerLength _ _ (answer_limit c.args.answer) _ _ c.in_err-require-2.ensures)))
 
-pub returns-then-answer-lt-ANSWER : goal.returns-then-answer-lt-ANSWER
-returns-then-answer-lt-ANSWER c = search (rules, answer_short)
-
-pub returns-then-work-lt-WORKSPACE : goal.returns-then-work-lt-WORKSPACE
-returns-then-work-lt-WORKSPACE c = search (rules, work_short)
-
-pub returns-then-count-gt-COUNT : goal.returns-then-count-gt-COUNT
-returns-then-count-gt-COUNT c = search (rules, count_over)
+pub returns-in_err-require-3 : goal.returns-in_err-require-3
+returns-in_err-require-3 c = passed_on _ _ _ c.from_residual-in_err-require-3.ensures (entry_past _ _ _ _ _ _ c.in_ok-check_length.ensures (passes QuestionLength _ _ (not_within c.within.ensures) _ _ c.in_ok-require.ensures (passes AnswerLength _ _ (answer_limit c.args.answer) _ _ c.in_ok-require-2.ensures (refuses WorkspaceLength _ _ (work_limit c.args.work) _ _ c.in_err-require-3.ensures))))
 
 pub returns : goal.returns
-returns c = search (rules, enters)
+returns c = entry_past _ _ _ _ _ _ c.in_ok-check_length.ensures (passes QuestionLength _ _ (not_within c.within.ensures) _ _ c.in_ok-require.ensures (passes AnswerLength _ _ (answer_limit c.args.answer) _ _ c.in_ok-require-2.ensures (passes WorkspaceLength _ _ (work_limit c.args.work) _ _ c.in_ok-require-3.ensures (requires StartCount _ _ (count_limit c.args.count) _ c.require-4.ensures))))

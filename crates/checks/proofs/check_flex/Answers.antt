@@ -1,13 +1,12 @@
--- `check_flex`: sheet, ids, question; the first that refuses decides.
-use Rattle.std.proofs.Common.{rules}
-use Rattle.checks.specs.Numbers.{flex_sheet, flex_ids, flex_question}
+-- `check_flex`: the sheet, the ids, the question.
+use Rattle.checks.specs.Numbers.{passed_on, flex_sheet, flex_ids, flex_question}
 use Rattle.checks.proofs.check_flex.Goals as goal
 
-pub returns-then-sheet-ne0 : goal.returns-then-sheet-ne0
-returns-then-sheet-ne0 c = search (rules, flex_sheet)
+pub returns-in_err-check_sheet : goal.returns-in_err-check_sheet
+returns-in_err-check_sheet c = passed_on _ _ _ c.from_residual.ensures (flex_sheet _ _ _ _ _ c.in_err-check_sheet.ensures)
 
-pub returns-then-ids-ne0 : goal.returns-then-ids-ne0
-returns-then-ids-ne0 c = search (rules, flex_ids)
+pub returns-in_err-check_ids : goal.returns-in_err-check_ids
+returns-in_err-check_ids c = passed_on _ _ _ c.from_residual-in_err-check_ids.ensures (flex_ids _ _ _ _ _ c.in_ok-check_sheet.ensures c.in_err-check_ids.ensures)
 
 pub returns : goal.returns
-returns c = search (rules, flex_question)
+returns c = flex_question _ _ _ _ _ c.in_ok-check_sheet.ensures c.in_ok-check_ids.ensures c.flex_question_tests.ensures

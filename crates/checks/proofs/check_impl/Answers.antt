@@ -1,13 +1,12 @@
--- `check_impl`: sheet, ids, question; the first that refuses decides.
-use Rattle.std.proofs.Common.{rules}
-use Rattle.checks.specs.Numbers.{impl_sheet, impl_ids, impl_question}
+-- `check_impl`: the sheet, the ids, the question.
+use Rattle.checks.specs.Numbers.{passed_on, impl_sheet, impl_ids, impl_question}
 use Rattle.checks.proofs.check_impl.Goals as goal
 
-pub returns-then-sheet-ne0 : goal.returns-then-sheet-ne0
-returns-then-sheet-ne0 c = search (rules, impl_sheet)
+pub returns-in_err-check_sheet : goal.returns-in_err-check_sheet
+returns-in_err-check_sheet c = passed_on _ _ _ c.from_residual.ensures (impl_sheet _ _ _ _ _ _ c.in_err-check_sheet.ensures)
 
-pub returns-then-ids-ne0 : goal.returns-then-ids-ne0
-returns-then-ids-ne0 c = search (rules, impl_ids)
+pub returns-in_err-check_ids : goal.returns-in_err-check_ids
+returns-in_err-check_ids c = passed_on _ _ _ c.from_residual-in_err-check_ids.ensures (impl_ids _ _ _ _ _ _ c.in_ok-check_sheet.ensures c.in_err-check_ids.ensures)
 
 pub returns : goal.returns
-returns c = search (rules, impl_question)
+returns c = impl_question _ _ _ _ _ _ c.in_ok-check_sheet.ensures c.in_ok-check_ids.ensures c.impl_question_tests.ensures

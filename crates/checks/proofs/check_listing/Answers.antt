@@ -1,16 +1,15 @@
--- `check_listing`: the sheet's length, then the sheet.
-use Rattle.std.proofs.Common.{rules}
-use Rattle.checks.specs.Numbers.{listing-length, listing-some, listing-within, listing_sheet}
+-- `check_listing`: the length, then the sheet.
+use Rattle.checks.specs.Numbers.{passed_on, listing-length, listing-some, listing-within, listing_sheet}
 use Rattle.checks.proofs.check_listing.Goals as goal
 
-pub returns-then-n-ne0 : goal.returns-then-n-ne0
-returns-then-n-ne0 c = search (rules, listing-length)
+pub returns-in_err-check_length : goal.returns-in_err-check_length
+returns-in_err-check_length c = passed_on _ _ _ c.from_residual.ensures (listing-length _ _ c.in_err-check_length.ensures)
 
 pub check_sheet-requires-clause-s_nonzero : goal.check_sheet-requires-clause-s_nonzero
-check_sheet-requires-clause-s_nonzero c = search (rules, listing-some)
+check_sheet-requires-clause-s_nonzero c = listing-some _ c.in_ok-check_length.ensures
 
 pub check_sheet-requires-clause-s_len_bound : goal.check_sheet-requires-clause-s_len_bound
-check_sheet-requires-clause-s_len_bound c = search (rules, listing-within)
+check_sheet-requires-clause-s_len_bound c = listing-within _ c.in_ok-check_length.ensures
 
 pub returns : goal.returns
-returns c = search (rules, listing_sheet)
+returns c = listing_sheet _ c.in_ok-check_length.ensures _ c.check_sheet.ensures

@@ -1,19 +1,15 @@
--- `sheet_tests`: the first test that fails decides.
-use Rattle.std.proofs.Common.{rules}
-use Rattle.checks.specs.Numbers.{holds_so, test_fails, test_passes}
+-- `sheet_tests`: one test after the other.
+use Rattle.std.proofs.Common.{ap}
+use Rattle.std.proofs.Math.Bool.{not}
+use Rattle.checks.specs.Numbers.{passed_on, refuses, passes, requires}
+use Rattle.refusals.specs.declared.Refusal.TheVariants.{SheetChains, SheetValues, SheetCycle}
 use Rattle.checks.proofs.sheet_tests.Goals as goal
 
-pub returns-then-not-keeps : goal.returns-then-not-keeps
-returns-then-not-keeps c = search (rules, test_fails)
+pub returns-in_err-require : goal.returns-in_err-require
+returns-in_err-require c = passed_on _ _ _ c.from_residual.ensures (refuses SheetChains _ _ (ap not c.sheet_keeps.ensures) _ _ c.in_err-require.ensures)
 
-pub sheet_after_chains-requires-clause-t : goal.sheet_after_chains-requires-clause-t
-sheet_after_chains-requires-clause-t c = search (rules, holds_so)
-
-pub sheet_after_chains-requires-clause-s_len_bound : goal.sheet_after_chains-requires-clause-s_len_bound
-sheet_after_chains-requires-clause-s_len_bound c = search (rules, holds_so)
-
-pub sheet_after_chains-requires-clause-in_bounds : goal.sheet_after_chains-requires-clause-in_bounds
-sheet_after_chains-requires-clause-in_bounds c = search (rules, holds_so)
+pub returns-in_err-require-2 : goal.returns-in_err-require-2
+returns-in_err-require-2 c = passed_on _ _ _ c.from_residual-in_err-require-2.ensures (passes SheetChains _ _ (ap not c.sheet_keeps.ensures) _ _ c.in_ok-require.ensures (refuses SheetValues _ _ (ap not c.sheet_values.ensures) _ _ c.in_err-require-2.ensures))
 
 pub returns : goal.returns
-returns c = search (rules, test_passes)
+returns c = passes SheetChains _ _ (ap not c.sheet_keeps.ensures) _ _ c.in_ok-require.ensures (passes SheetValues _ _ (ap not c.sheet_values.ensures) _ _ c.in_ok-require-2.ensures (requires SheetCycle _ _ (ap not c.sheet_acyclic.ensures.value) _ c.require-3.ensures))

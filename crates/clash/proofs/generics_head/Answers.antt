@@ -1,4 +1,4 @@
--- `generics_head`: a word of the generics' record.
+-- `generics_head`: the field.
 use Rattle.std.proofs.Common.{rules}
 use Rattle.chart.specs.Fields.{field_found}
 use Rattle.clash.proofs.generics_head.Goals as goal

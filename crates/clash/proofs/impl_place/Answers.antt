@@ -1,4 +1,4 @@
--- `impl_place`: the head of the chain, and the place in it.
+-- `impl_place`: by its id.
 use Rattle.std.proofs.Common.{rules}
 use Rattle.clash.specs.Signatures.{impl_at}
 use Rattle.clash.proofs.impl_place.Goals as goal

@@ -5,6 +5,3 @@ use Rattle.clash.proofs.meet_args.Given as goal
 
 abbrev pub invariant-loop-k : goal.invariant-loop-k
 invariant-loop-k l = ArgsMet l.sheet l.places l.ws l.initial.links l.initial.queue l.p l.q l.links l.queue l.e
-
-abbrev pub decreases-loop-k : goal.decreases-loop-k
-decreases-loop-k l = l.q.n - l.k

@@ -1,25 +1,26 @@
 -- `meet_cells`: cell by cell, as the children go.
-use Rattle.std.proofs.Common.{rules}
-use Rattle.clash.specs.Across.{crosses_start, crosses_more, crosses_fewer, cells_on, crosses_on, crosses_over}
+use Rattle.std.proofs.Common.{arith, rules}
+use Rattle.std.proofs.lemmas.Result.{err_from_is_err_and}
+use Rattle.clash.specs.Across.{cells_on, crosses_fewer, crosses_more, crosses_on, crosses_over, crosses_start}
 use Rattle.clash.proofs.meet_cells.Goals as goal
+use Rattle.clash.proofs.meet_cells.Goals.{then-left-eq1+then-links-ref_of+in_ok-e, then-left-eq1+else-links-ref_of, else-left-eq1}
 
-pub loop-c-init : goal.loop-c-init
-loop-c-init c = search (rules, crosses_start)
+pub loop-j-init : goal.loop-j-init
+loop-j-init c = search (rules, crosses_start)
 
-pub returns-then-j-n : goal.returns-then-j-n
-returns-then-j-n c = search (rules, crosses_more)
+pub returns-then-c-eq0 : goal.returns-then-c-eq0
+returns-then-c-eq0 c = crosses_fewer _ _ _ _ _ _ _ _ _ _ _ _ _ _ c.loop-j.invariant c.if-c-eq0.true (λ e. omega (arith, e, c.loop-j-test.true))
 
-pub returns-then-e-eq-CLASH : goal.returns-then-e-eq-CLASH
-returns-then-e-eq-CLASH c = search (rules, cells_on)
+pub returns-in_err-e : goal.returns-in_err-e
+returns-in_err-e c = let p = err_from_is_err_and c.from_residual.result c.from_residual.ensures.1 in rw p.1 (search (rules, cells_on, c.in_err-e.ensures))
 
-pub loop-c-preserved-else-e-eq-CLASH : goal.loop-c-preserved-else-e-eq-CLASH
-loop-c-preserved-else-e-eq-CLASH c = search (rules, crosses_on)
+pub loop-j-preserved : goal.loop-j-preserved
+loop-j-preserved c =
+    elim c.if-left-eq1.branch [
+      | then-left-eq1+then-links-ref_of+in_ok-e w ↦ rw (w.links-is, w.queue-is, w.e-is) (search (rules, crosses_on, w.in_ok-e.ensures))
+      | then-left-eq1+else-links-ref_of w ↦ rw (w.links-is, w.queue-is, w.e-is) (search (rules, crosses_over))
+      | else-left-eq1 w ↦ rw (w.links-is, w.queue-is, w.e-is) (search (rules, crosses_over))
+    ]
 
-pub loop-c-preserved-else-links-wide : goal.loop-c-preserved-else-links-wide
-loop-c-preserved-else-links-wide c = search (rules, crosses_over)
-
-pub loop-c-preserved : goal.loop-c-preserved
-loop-c-preserved c = search (rules, crosses_over)
-
-pub returns-then-j-n-2 : goal.returns-then-j-n-2
-returns-then-j-n-2 c = search (rules, crosses_fewer)
+pub returns-then-c-ne0 : goal.returns-then-c-ne0
+returns-then-c-ne0 c = search (rules, crosses_more)

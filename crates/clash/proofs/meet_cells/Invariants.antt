@@ -4,8 +4,5 @@ use Rattle.table.specs.ChildTypes.{row_at}
 use Rattle.clash.specs.Across.{Crosses}
 use Rattle.clash.proofs.meet_cells.Given as goal
 
-abbrev pub invariant-loop-c : goal.invariant-loop-c
-invariant-loop-c l = Crosses l.sheet l.places l.ws l.initial.links l.initial.queue l.end l.head l.b (row_at l.ws l.y l.n) l.links l.queue l.e l.c l.j
-
-abbrev pub decreases-loop-c : goal.decreases-loop-c
-decreases-loop-c l = l.n - l.j
+abbrev pub invariant-loop-j : goal.invariant-loop-j
+invariant-loop-j l = Crosses l.sheet l.places l.ws l.initial.links l.initial.queue l.end l.head l.b (row_at l.ws l.y l.n) l.links l.queue l.e l.c l.j

@@ -1,19 +1,14 @@
--- `meet_record`: by the kinds, of which Error is one, the ids, then the sides.
+-- `meet_record`: what differs.
 use Rattle.std.proofs.Common.{rules}
-use Rattle.clash.specs.Across.{record_kinds, record_errors, record_ids, record_inverted, record_put}
+use Rattle.clash.specs.Across.{record_errors, record_ids, record_kinds}
+use Rattle.clash.specs.Told.{record_apart}
 use Rattle.clash.proofs.meet_record.Goals as goal
 
 pub returns-then-kind_of-k : goal.returns-then-kind_of-k
-returns-then-kind_of-k c = search (rules, record_kinds)
-
-pub returns-then-k-eq-ERROR : goal.returns-then-k-eq-ERROR
-returns-then-k-eq-ERROR c = search (rules, record_errors)
+returns-then-kind_of-k c = search (rules, record_kinds, record_errors)
 
 pub returns-then-d-id_of : goal.returns-then-d-id_of
 returns-then-d-id_of c = search (rules, record_ids)
 
-pub returns-then-across-eq1 : goal.returns-then-across-eq1
-returns-then-across-eq1 c = search (rules, record_inverted)
-
-pub returns : goal.returns
-returns c = search (rules, record_put)
+pub returns-then-across : goal.returns-then-across
+returns-then-across c = search (rules, record_apart)

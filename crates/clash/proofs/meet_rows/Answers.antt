@@ -1,19 +1,15 @@
--- `meet_rows`: the rows of both, of one length; of one ref, its own.
+-- `meet_rows`: child by child.
 use Rattle.std.proofs.Common.{rules}
-use Rattle.clash.specs.Pairs.{children_few, children_clash, children_meet, children_mirrored}
+use Rattle.clash.specs.Pairs.{children_clash, children_meet}
+use Rattle.clash.specs.Told.{mirrored_told}
+use Rattle.refs.specs.Refs.{side_bit}
 use Rattle.clash.proofs.meet_rows.Goals as goal
 
-pub meet_mirrored-requires : goal.meet_mirrored-requires
-meet_mirrored-requires c = search (rules, children_few)
-
-pub returns-then-b-eq1 : goal.returns-then-b-eq1
-returns-then-b-eq1 c = search (rules, children_mirrored)
+pub returns-then-inverted : goal.returns-then-inverted
+returns-then-inverted c = search (rules, mirrored_told)
 
 pub returns-then-xs-ys : goal.returns-then-xs-ys
 returns-then-xs-ys c = search (rules, children_clash)
 
-pub meet_all-requires : goal.meet_all-requires
-meet_all-requires c = search (rules, children_few)
-
 pub returns : goal.returns
-returns c = search (rules, children_meet)
+returns c = search (rules, children_meet, side_bit)

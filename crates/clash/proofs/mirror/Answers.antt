@@ -1,4 +1,4 @@
--- `mirror`: a word aside, and a pair.
+-- `mirror`: a word aside, and the pair.
 use Rattle.std.proofs.Common.{rules}
 use Rattle.clash.specs.Meeting.{queues_aside}
 use Rattle.clash.proofs.mirror.Goals as goal

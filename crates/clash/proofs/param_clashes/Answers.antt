@@ -1,10 +1,7 @@
--- `param_clashes`: there is room, and the records of the generics' table are found.
+-- `param_clashes`: the table's records are indexed.
 use Rattle.std.proofs.Common.{rules}
-use Rattle.clash.specs.Params.{param_not, param_room, param_few, param-length, param-found}
+use Rattle.clash.specs.Params.{param-found, param-length, param_few, param_room}
 use Rattle.clash.proofs.param_clashes.Goals as goal
-
-pub returns-then-p-q : goal.returns-then-p-q
-returns-then-p-q c = search (rules, param_not)
 
 pub index_chain-m-requires : goal.index_chain-m-requires
 index_chain-m-requires c = search (rules, param_room)
@@ -12,11 +9,8 @@ index_chain-m-requires c = search (rules, param_room)
 pub slice_bounds-args_clash-end : goal.slice_bounds-args_clash-end
 slice_bounds-args_clash-end c = search (rules, param_few)
 
-pub slice_bounds-args_clash-end-then-has_room : goal.slice_bounds-args_clash-end-then-has_room
-slice_bounds-args_clash-end-then-has_room c = search (rules, param-length)
-
-pub returns-then-has_room : goal.returns-then-has_room
-returns-then-has_room c = param-found _ _ c.requires.calling _ c.generics_head-head.ensures _ c.requires.sheet_len_bound _ _ c.index_chain-m.ensures (search rules) _ _ _ c.requires.neat c.requires.all_in c.requires.n_bound c.requires.all_in_2 (search rules) _ c.requires.param_takes (c.has_room.ensures.room (search rules)) _ c.args_clash.ensures
+pub slice_bounds-args_clash-end-2 : goal.slice_bounds-args_clash-end-2
+slice_bounds-args_clash-end-2 c = search (rules, param-length)
 
 pub returns : goal.returns
-returns c = search (rules, param_not)
+returns c = param-found _ _ c.requires.calling _ c.generics_head-head.ensures _ c.requires.sheet_len_bound _ _ c.index_chain-m.ensures (search rules) _ _ _ c.requires.neat c.requires.all_in c.requires.n_bound c.requires.all_in_2 (search rules) _ c.requires.param_takes (c.has_room.ensures.room (search rules)) _ c.args_clash.ensures

@@ -1,4 +1,4 @@
--- `put`: a link and a pair.
+-- `put`: the link and the pair.
 use Rattle.std.proofs.Common.{rules}
 use Rattle.clash.specs.Meeting.{puts_pair}
 use Rattle.clash.proofs.put.Goals as goal

@@ -1,13 +1,20 @@
--- By what the search came to.
+-- By how many results there are.
 use Rattle.std.proofs.Common.{rules}
-use Rattle.closing.specs.Ends.{ends_refused, ends_found, found_if}
+use Rattle.closing.specs.Last.{tail_all}
+use Rattle.closing.specs.Ends.{results_none, results_many, results_one, one_room, one-filled, one_asks}
 use Rattle.closing.proofs.end_impl.Goals as goal
 
-pub end_results-requires-clause-if_one : goal.end_results-requires-clause-if_one
-end_results-requires-clause-if_one c = search (rules, found_if)
+pub close_impl-requires-clause-filled : goal.close_impl-requires-clause-filled
+close_impl-requires-clause-filled c = search (rules, one-filled, tail_all, one_room)
 
-pub returns-in-Refused : goal.returns-in-Refused
-returns-in-Refused c = search (rules, ends_refused)
+pub close_impl-requires-clause-asks_2 : goal.close_impl-requires-clause-asks_2
+close_impl-requires-clause-asks_2 c = search (rules, one_asks, tail_all, one_room)
 
-pub returns-in-Found : goal.returns-in-Found
-returns-in-Found c = search (rules, ends_found)
+pub returns-in-0 : goal.returns-in-0
+returns-in-0 c = search (rules, results_none)
+
+pub returns-in-1 : goal.returns-in-1
+returns-in-1 c = search (rules, results_one, tail_all, one_room)
+
+pub returns-in_default : goal.returns-in_default
+returns-in_default c = search (rules, results_many)

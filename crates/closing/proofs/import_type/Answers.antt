@@ -1,25 +1,17 @@
 -- The last import of a type from a result that may be absent.
-use Rattle.std.proofs.Common.{rules}
-use Rattle.closing.specs.Flex.{brings_none, offered_neat, offered_in, offered_inside, brings_full, brings_adds, brings_some}
+use Rattle.std.proofs.Common.{ap, refl, rules}
+use Rattle.std.specs.Option.{option_copied}
+use Rattle.closing.specs.Flex.{brings_none, offered_inside, brings_full, brings_some}
 use Rattle.closing.proofs.import_type.Goals as goal
 
-pub import_result-ok-requires-clause-neat : goal.import_result-ok-requires-clause-neat
-import_result-ok-requires-clause-neat c = search (rules, offered_neat)
+pub returns-in_default : goal.returns-in_default
+returns-in_default c = brings_none _ _ _ (ap option_copied c.in_default.is) c.requires.packed
 
-pub import_result-ok-requires-clause-a_in_bounds : goal.import_result-ok-requires-clause-a_in_bounds
-import_result-ok-requires-clause-a_in_bounds c = search (rules, offered_in)
+pub import_result-requires-clause-inside : goal.import_result-requires-clause-inside
+import_result-requires-clause-inside c = search (rules, offered_inside)
 
-pub import_result-ok-requires-clause-inside : goal.import_result-ok-requires-clause-inside
-import_result-ok-requires-clause-inside c = search (rules, offered_inside)
-
-pub overflow_add-result : goal.overflow_add-result
-overflow_add-result c = search (rules, brings_adds)
-
-pub returns-then-ok : goal.returns-then-ok
-returns-then-ok c = search (rules, brings_some)
-
-pub returns-then-has : goal.returns-then-has
-returns-then-has c = search (rules, brings_full)
+pub returns-in_err-import_result : goal.returns-in_err-import_result
+returns-in_err-import_result c = search (rules, brings_full)
 
 pub returns : goal.returns
-returns c = search (rules, brings_none)
+returns c = brings_some _ c.in-Some.slot.now _ (ap option_copied c.in-Some.is) c.requires.offers _ _ _ _ c.in_ok-import_result.ensures.imports refl _ refl

@@ -1,19 +1,13 @@
 -- The closing join.
 use Rattle.std.proofs.Common.{rules}
-use Rattle.closing.specs.Last.{query_good, query_nodes, query_length, marks_room, query_joined}
+use Rattle.closing.specs.Last.{query_good, query_nodes, query_joined}
 use Rattle.closing.proofs.join_query.Goals as goal
-
-pub slice_bounds-unify_impl_type-end : goal.slice_bounds-unify_impl_type-end
-slice_bounds-unify_impl_type-end c = search (rules, query_length)
 
 pub unify_impl_type-requires-clause-good : goal.unify_impl_type-requires-clause-good
 unify_impl_type-requires-clause-good c = search (rules, query_good)
 
 pub unify_impl_type-requires-clause-nodes : goal.unify_impl_type-requires-clause-nodes
 unify_impl_type-requires-clause-nodes c = search (rules, query_nodes)
-
-pub unify_impl_type-requires-clause-in_bounds : goal.unify_impl_type-requires-clause-in_bounds
-unify_impl_type-requires-clause-in_bounds c = search (rules, marks_room)
 
 pub returns : goal.returns
 returns c = search (rules, query_joined)

@@ -1,97 +1,3 @@
--- src/lib.rt:479:9
--- src/lib.rt:481:9
--- src/lib.rt:481:9
--- src/lib.rt:484:9
--- src/lib.rt:484:9
--- src/lib.rt:486:16
--- src/lib.rt:486:16
--- src/lib.rt:486:16
--- src/lib.rt:487:9
--- src/lib.rt:488:50
--- src/lib.rt:488:5
--- src/lib.rt:455:1
--- src/lib.rt:455:1
--- src/lib.rt:420:9
--- src/lib.rt:422:9
--- src/lib.rt:422:9
--- src/lib.rt:432:9
--- src/lib.rt:433:5
--- src/lib.rt:434:13
--- src/lib.rt:438:30
--- src/lib.rt:439:17
--- src/lib.rt:439:17
--- src/lib.rt:441:28
--- src/lib.rt:446:49
--- src/lib.rt:446:9
--- src/lib.rt:433:5
--- src/lib.rt:433:5
--- src/lib.rt:400:1
--- src/lib.rt:400:1
--- src/lib.rt:381:20
--- src/lib.rt:379:9
--- src/lib.rt:387:20
--- src/lib.rt:385:9
--- src/lib.rt:390:53
--- src/lib.rt:390:9
--- src/lib.rt:392:26
--- src/lib.rt:393:24
--- src/lib.rt:394:54
--- src/lib.rt:394:13
--- src/lib.rt:361:1
--- src/lib.rt:361:1
--- src/lib.rt:361:1
--- src/lib.rt:361:1
--- src/lib.rt:511:9
--- src/lib.rt:514:20
--- src/lib.rt:513:9
--- src/lib.rt:513:9
--- src/lib.rt:518:9
--- src/lib.rt:519:5
--- src/lib.rt:492:1
--- src/lib.rt:492:1
--- src/lib.rt:619:30
--- src/lib.rt:619:19
--- src/lib.rt:620:5
--- src/lib.rt:621:44
--- src/lib.rt:621:44
--- src/lib.rt:621:44
--- src/lib.rt:621:9
--- src/lib.rt:622:49
--- src/lib.rt:622:5
--- src/lib.rt:598:1
--- src/lib.rt:598:1
--- src/lib.rt:578:5
--- src/lib.rt:579:13
--- src/lib.rt:581:30
--- src/lib.rt:582:17
--- src/lib.rt:582:17
--- src/lib.rt:584:28
--- src/lib.rt:589:9
--- src/lib.rt:578:5
--- src/lib.rt:578:5
--- src/lib.rt:556:1
--- src/lib.rt:556:1
--- src/lib.rt:541:9
--- src/lib.rt:541:9
--- src/lib.rt:541:9
--- src/lib.rt:543:9
--- src/lib.rt:544:16
--- src/lib.rt:545:9
--- src/lib.rt:545:9
--- src/lib.rt:545:9
--- src/lib.rt:547:5
--- src/lib.rt:548:39
--- src/lib.rt:548:39
--- src/lib.rt:548:39
--- src/lib.rt:548:9
--- src/lib.rt:550:26
--- src/lib.rt:551:24
--- src/lib.rt:551:72
--- src/lib.rt:551:40
--- src/lib.rt:524:1
--- src/lib.rt:524:1
--- src/lib.rt:524:1
--- src/lib.rt:524:1
 use Rattle.std.proofs.Common.{rules, arith}
 use Rattle.finder.specs.Recalling.{recalls_room, recalls_start, tail_counts, tail_packed, tail_room, recall_low, recalled_answers, recalled_still, kept_recalls}
 use Rattle.finder.specs.Cycle.{tail_asked, few_impls, question_limit, question_depth, question_refused, begun_low, begun_few, begun_row, question_goes, begun_asking, sets_refused, trying_start, trying_refused, trying_on, trying_end, collecting_start, collecting_few, collecting_low, collecting_element, collecting_on, collecting_refused, collecting_end, element_filled, element_tail, sub-none, sub-last_of, first_asked, asked_refused, asked_low, asked_few, asked_elements, asked_goes, searching_sound, searching_long, searching_taken, searching_takes, searching_stands, searching_indexed, opened_full, opened_unfit, opened_tail, opened_sub, opened_long, opened_part, opened_steps, rest_long, rest_element, rest-sub, rest-steps, beside_rest, beside_sub, trying_asking, trying_up, trying_long, trying_low, trying_few, trying_less, begun_long, collecting_long, rest_part, first_part, sub_long}
@@ -151,14 +57,14 @@ candidate-returns-clause-step t c = opened_steps _ _ _ _ _ _ c.open_one-qs.ensur
 pub candidate-returns-clause-recalls : goal.candidate-returns-clause-recalls
 candidate-returns-clause-recalls t c = c.recall_or_ask-asked.ensures.recalls
 
-pub candidates-find_candidates-found-requires-clause-stands : goal.candidates-find_candidates-found-requires-clause-stands
-candidates-find_candidates-found-requires-clause-stands t c = search (rules, searching_stands)
+pub candidates-find_candidates-requires-clause-stands : goal.candidates-find_candidates-requires-clause-stands
+candidates-find_candidates-requires-clause-stands t c = search (rules, searching_stands)
 
-pub candidates-find_candidates-found-requires-clause-in_bounds : goal.candidates-find_candidates-found-requires-clause-in_bounds
-candidates-find_candidates-found-requires-clause-in_bounds t c = search (rules, searching_long)
+pub candidates-find_candidates-requires-clause-in_bounds : goal.candidates-find_candidates-requires-clause-in_bounds
+candidates-find_candidates-requires-clause-in_bounds t c = search (rules, searching_long)
 
-pub candidates-returns-then-found-ne0 : goal.candidates-returns-then-found-ne0
-candidates-returns-then-found-ne0 t c = search (rules, sets_refused)
+pub candidates-returns-in-Err : goal.candidates-returns-in-Err
+candidates-returns-in-Err t c = sets_refused _ _ _ _ _ _ _ _ _ _ c.requires.searching _ c.in-Err.ensures c.number-number.ensures
 
 pub candidates-next_id-id-requires-clause-indexes : goal.candidates-next_id-id-requires-clause-indexes
 candidates-next_id-id-requires-clause-indexes t c = search (rules, searching_indexed)
@@ -170,13 +76,13 @@ pub candidates-next_id-id-requires-clause-header_impls_bound : goal.candidates-n
 candidates-next_id-id-requires-clause-header_impls_bound t c = search (rules, few_impls)
 
 pub candidates-loop-id-init : goal.candidates-loop-id-init
-candidates-loop-id-init t c = (search (rules, trying_start, c.find_candidates-found.ensures, c.if-found-ne0.false, c.next_id-id.ensures, c.requires), recalls_start _)
+candidates-loop-id-init t c = (search (rules, trying_start, c.in-Ok.ensures, c.next_id-id.ensures, c.requires), recalls_start _)
 
 pub candidates-candidate-one-requires : goal.candidates-candidate-one-requires
 candidates-candidate-one-requires t c = (omega arith, (search rules, (search (rules, trying_asking, c.loop-id.invariant.0), (search (rules, trying_up, c.loop-id.invariant.0), (search (rules, trying_long, c.loop-id.invariant.0, c.requires), (search (rules, trying_low, c.loop-id.invariant.0), (search (rules, trying_few, c.loop-id.invariant.0), c.loop-id.invariant.1)))))))
 
 pub candidates-returns-in-Refused : goal.candidates-returns-in-Refused
-candidates-returns-in-Refused t c = search (rules, trying_refused, c.find_candidates-found.ensures, c.loop-id.invariant.0, c.candidate-one.ensures.step, c.requires)
+candidates-returns-in-Refused t c = search (rules, trying_refused, c.in-Ok.ensures, c.loop-id.invariant.0, c.candidate-one.ensures.step, c.requires)
 
 pub candidates-overflow_add-id : goal.candidates-overflow_add-id
 candidates-overflow_add-id t c = omega arith
@@ -191,19 +97,16 @@ pub candidates-next_id-id-requires-in-loop-id-clause-header_impls_bound : goal.c
 candidates-next_id-id-requires-in-loop-id-clause-header_impls_bound t c = search (rules, few_impls, c.requires)
 
 pub candidates-next_id-id-requires-in-loop-id-clause-n_bound : goal.candidates-next_id-id-requires-in-loop-id-clause-n_bound
-candidates-next_id-id-requires-in-loop-id-clause-n_bound t c = omega (arith, c.find_candidates-found.ensures.few)
-
-pub candidates-next_id-id-requires-in-loop-id-clause-basic_bound : goal.candidates-next_id-id-requires-in-loop-id-clause-basic_bound
-candidates-next_id-id-requires-in-loop-id-clause-basic_bound t c = omega (arith, c.find_candidates-found.ensures.flag, c.requires)
+candidates-next_id-id-requires-in-loop-id-clause-n_bound t c = omega (arith, c.in-Ok.ensures.few)
 
 pub candidates-loop-id-smaller : goal.candidates-loop-id-smaller
 candidates-loop-id-smaller t c = search (rules, trying_less, c.next_id-id-in-loop-id.ensures, c.loop-id-test.true)
 
 pub candidates-loop-id-preserved : goal.candidates-loop-id-preserved
-candidates-loop-id-preserved t c = (trying_on _ _ _ _ _ _ _ _ _ _ c.requires.searching c.find_candidates-found.ensures _ _ _ _ c.loop-id.invariant.0 c.requires.asking.packed c.loop-id-test.true _ _ c.candidate-one.ensures.step _ _ _ c.in-Found.is c.next_id-id-in-loop-id.ensures, c.candidate-one.ensures.recalls)
+candidates-loop-id-preserved t c = (trying_on _ _ _ _ _ _ _ _ _ _ c.requires.searching c.in-Ok.ensures _ _ _ _ c.loop-id.invariant.0 c.requires.asking.packed c.loop-id-test.true _ _ c.candidate-one.ensures.step _ _ _ c.in-Found.is c.next_id-id-in-loop-id.ensures, c.candidate-one.ensures.recalls)
 
 pub candidates-returns : goal.candidates-returns
-candidates-returns t c = search (rules, trying_end)
+candidates-returns t c = search (rules, trying_end, c.in-Ok.ensures, c.loop-id.invariant.0, c.requires)
 
 pub question-overflow_add-result : goal.question-overflow_add-result
 question-overflow_add-result t c = omega arith
@@ -321,9 +224,6 @@ results-result-one-requires t c = (omega arith, (search rules, (search (rules, c
 
 pub results-returns-in-Refused : goal.results-returns-in-Refused
 results-returns-in-Refused t c = search (rules, collecting_refused)
-
-pub results-overflow_add-k : goal.results-overflow_add-k
-results-overflow_add-k t c = omega arith
 
 pub results-loop-k-preserved : goal.results-loop-k-preserved
 results-loop-k-preserved t c = search (rules, collecting_on)

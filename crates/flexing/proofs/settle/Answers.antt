@@ -1,16 +1,13 @@
 -- What a search answered, as the flex call takes it.
 use Rattle.std.proofs.Common.{rules}
-use Rattle.flexing.specs.Kept.{settle_found, settle_18, settle_19, settle_stop}
+use Rattle.flexing.specs.Kept.{settle_found, settle_none, settle_stop}
 use Rattle.flexing.proofs.settle.Goals as goal
-
-pub returns-then-number-eq18 : goal.returns-then-number-eq18
-returns-then-number-eq18 c = search (rules, settle_18)
-
-pub returns-then-number-eq19 : goal.returns-then-number-eq19
-returns-then-number-eq19 c = search (rules, settle_19)
 
 pub returns-in-Found : goal.returns-in-Found
 returns-in-Found c = search (rules, settle_found)
 
-pub returns-else-number-eq19 : goal.returns-else-number-eq19
-returns-else-number-eq19 c = search (rules, settle_stop)
+pub returns-in-SearchLimit : goal.returns-in-SearchLimit
+returns-in-SearchLimit c = settle_none _ _ _ c.in-Refused.is _ _ c.from_number.ensures c.unwrap.ensures c.in-SearchLimit.is
+
+pub returns-in_default : goal.returns-in_default
+returns-in_default c = settle_stop _ _ _ c.in-Refused.is _ _ c.from_number.ensures c.unwrap.ensures c.in_default.not-SearchLimit c.in_default.not-ErrorType

@@ -1,13 +1,16 @@
--- `put_impls`: with those from an id on still to come all are put.
-use Rattle.std.proofs.Common.{rules}
-use Rattle.lines.specs.Lines.{lining_start, lining_more, lining_done}
+-- `put_impls`: one impl more.
+use Rattle.std.proofs.Common.{rules, arith}
+use Rattle.lines.specs.Lines.{lining_start, lining_next, lining_over, impl_there}
 use Rattle.lines.proofs.put_impls.Goals as goal
 
-pub loop-node-init : goal.loop-node-init
-loop-node-init c = search (rules, lining_start)
+pub loop-i-init : goal.loop-i-init
+loop-i-init c = search (rules, lining_start)
 
-pub returns-then-n-i : goal.returns-then-n-i
-returns-then-n-i c = search (rules, lining_done)
+pub put_entry-end-requires : goal.put_entry-end-requires
+put_entry-end-requires c = let h = impl_there _ _ _ _ _ _ c.in-Some.is c.next_admitted.ensures in (omega (arith, h.1), omega (arith, h.0, h.1))
 
-pub loop-node-preserved : goal.loop-node-preserved
-loop-node-preserved c = (search rules, search rules, search rules, search (rules, lining_more))
+pub loop-i-preserved : goal.loop-i-preserved
+loop-i-preserved c = let h = impl_there _ _ _ _ _ _ c.in-Some.is c.next_admitted.ensures in (search rules, omega (arith, h.1), omega (arith, h.0), lining_next _ _ _ _ _ _ _ _ _ _ _ _ c.in-Some.is c.next_admitted.ensures c.put_entry-end.ensures.0 c.loop-i.invariant.3)
+
+pub returns : goal.returns
+returns c = (lining_over _ _ _ _ _ _ _ _ _ c.in_default.is c.next_admitted.ensures c.loop-i.invariant.3, omega arith)

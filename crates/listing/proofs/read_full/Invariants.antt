@@ -1,9 +1,6 @@
--- `read_full`: what is read lies within the buffer.
-use Rattle.std.proofs.Common.{◌-◌, ◌≤◌, length}
+-- `read_full`: no more than the buffer holds.
+use Rattle.std.proofs.Common.{◌≤◌, length}
 use Rattle.listing.proofs.read_full.Given as goal
 
-abbrev pub invariant-loop-done : goal.invariant-loop-done
-invariant-loop-done g l = l.done ≤ length l.buf
-
-abbrev pub decreases-loop-done : goal.decreases-loop-done
-decreases-loop-done g l = length l.initial.buf - l.done
+abbrev pub invariant-loop : goal.invariant-loop
+invariant-loop g l = l.done ≤ length l.buf

@@ -1,16 +1,10 @@
 -- A query exported: its table is never too large.
 use Rattle.std.proofs.Common.{rules}
-use Rattle.loading.specs.Exports.{asks_neat, asks_room, asks_few, asks_inside, exported}
+use Rattle.loading.specs.Exports.{asks_room, asks_inside, exported}
 use Rattle.loading.proofs.export_question.Goals as goal
-
-pub export_types-requires-clause-neat : goal.export_types-requires-clause-neat
-export_types-requires-clause-neat c = search (rules, asks_neat)
 
 pub export_types-requires-clause-places_in_bounds : goal.export_types-requires-clause-places_in_bounds
 export_types-requires-clause-places_in_bounds c = search (rules, asks_room)
-
-pub export_types-requires-clause-m_in_bounds : goal.export_types-requires-clause-m_in_bounds
-export_types-requires-clause-m_in_bounds c = search (rules, asks_few)
 
 pub export_types-requires-clause-inside : goal.export_types-requires-clause-inside
 export_types-requires-clause-inside c = search (rules, asks_inside)

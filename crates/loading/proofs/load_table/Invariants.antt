@@ -1,10 +1,11 @@
--- The question's table. The loop's invariant: the first j nodes are there. The measure is what is left of them.
-use Rattle.std.proofs.Common.{◌-◌, ◌≡◌, length}
+-- The question's table. The loop's invariant: the nodes of the records passed are there.
+use Rattle.std.proofs.Common.{◌≡◌, length}
 use Rattle.loading.specs.Tables.{Loading}
 use Rattle.loading.proofs.load_table.Given as goal
 
-abbrev pub invariant-loop-j : goal.invariant-loop-j
-invariant-loop-j l = (length l.dst ≡ length l.initial.dst) × Loading l.q l.dst l.head l.n l.j
-
-abbrev pub decreases-loop-j : goal.decreases-loop-j
-decreases-loop-j l = l.n - l.j
+abbrev pub invariant-loop-p : goal.invariant-loop-p
+invariant-loop-p l =
+    (goal.iterator-loop-p).can_next l.p-iterator
+    × (goal.iterator-loop-p).is_finite l.p-iterator
+    × (length l.dst ≡ length l.initial.dst)
+    × Loading l.q l.dst l.yielded l.p-iterator

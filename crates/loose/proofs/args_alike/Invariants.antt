@@ -1,10 +1,6 @@
 -- `args_alike`: one by one.
-use Rattle.std.proofs.Common.{◌-◌}
 use Rattle.loose.specs.Loose.{ArgsGone}
 use Rattle.loose.proofs.args_alike.Given as goal
 
 abbrev pub invariant-loop-k : goal.invariant-loop-k
 invariant-loop-k l = ArgsGone l.ws l.initial.labels l.p l.q l.k l.labels
-
-abbrev pub decreases-loop-k : goal.decreases-loop-k
-decreases-loop-k l = l.q.n - l.k

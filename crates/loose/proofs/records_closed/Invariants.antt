@@ -1,10 +1,6 @@
 -- `records_closed`: one by one.
-use Rattle.std.proofs.Common.{◌-◌}
 use Rattle.loose.specs.Loose.{RecordsGone}
 use Rattle.loose.proofs.records_closed.Given as goal
 
 abbrev pub invariant-loop-i : goal.invariant-loop-i
 invariant-loop-i l = RecordsGone l.sheet l.places l.ws l.initial.labels l.l l.down l.n l.i l.labels
-
-abbrev pub decreases-loop-i : goal.decreases-loop-i
-decreases-loop-i l = l.n - l.i

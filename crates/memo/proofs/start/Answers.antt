@@ -2,9 +2,7 @@
 use Rattle.std.proofs.Common.{rules}
 use Rattle.memo.specs.Memo.{starts_clear, starts_short}
 use Rattle.memo.proofs.start.Goals as goal
-
-pub returns-then-ms-ge-ALL_MARKS : goal.returns-then-ms-ge-ALL_MARKS
-returns-then-ms-ge-ALL_MARKS c = search (rules, starts_clear)
+use Rattle.memo.proofs.start.Goals.{then-ms-ge-ALL_MARKS, else-ms-ge-ALL_MARKS}
 
 pub returns : goal.returns
-returns c = search (rules, starts_short)
+returns c = elim c.if-ms-ge-ALL_MARKS.branch [ then-ms-ge-ALL_MARKS w ↦ search (rules, starts_clear) | else-ms-ge-ALL_MARKS w ↦ search (rules, starts_short) ]

@@ -1,7 +1,17 @@
--- `word_of`: by its definition.
-use Rattle.std.proofs.Common.{rules}
+-- `word_of`: the number of a verdict is its code.
+use Rattle.std.proofs.Common.{◌≡◌, ◌+◌, ◌*◌, ◌∙◌, ap, refl}
 use Rattle.memo.specs.Memo.{entry_is}
+use Rattle.memo.specs.Verdicts.{code_of}
+use Rattle.memo.specs.declared.verdict.UnifyResult.{UnifyResult}
+use Rattle.memo.specs.declared.verdict.UnifyResult.TheVariants.{Success, Failure, Indeterminate}
+use Rattle.memo.specs.contracts.verdict.UnifyResult.{the_type}
+use denote.Enum.Declared.{tag_of}
 use Rattle.memo.proofs.word_of.Goals as goal
 
+number : (v : UnifyResult) → tag_of the_type v ≡ code_of v
+number Success = refl
+number Failure = refl
+number Indeterminate = refl
+
 pub returns : goal.returns
-returns c = search (rules, entry_is)
+returns c = ap (λ n. 4 * (512 * c.args.x + c.args.y) + n) (number c.args.v) ∙ entry_is c.args.x c.args.y (code_of c.args.v)

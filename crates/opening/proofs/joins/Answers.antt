@@ -1,10 +1,7 @@
 -- `joins`: the question's arguments are the first of four.
 use Rattle.std.proofs.Common.{rules}
-use Rattle.opening.specs.Meeting.{four-length, query_nodes, joins_question}
+use Rattle.opening.specs.Meeting.{query_nodes, joins_question}
 use Rattle.opening.proofs.joins.Goals as goal
-
-pub slice_bounds-join_impl_type-end : goal.slice_bounds-join_impl_type-end
-slice_bounds-join_impl_type-end c = search (rules, four-length)
 
 pub join_impl_type-requires-clause-nodes_2 : goal.join_impl_type-requires-clause-nodes_2
 join_impl_type-requires-clause-nodes_2 c = search (rules, query_nodes)

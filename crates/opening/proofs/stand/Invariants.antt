@@ -1,10 +1,7 @@
 -- `stand`: one word after the other.
-use Rattle.std.proofs.Common.{◌-◌, ◌≡◌, length}
+use Rattle.std.proofs.Common.{◌≡◌, length}
 use Rattle.opening.specs.Standing.{Standing}
 use Rattle.opening.proofs.stand.Given as goal
 
 abbrev pub invariant-loop-k : goal.invariant-loop-k
-invariant-loop-k l = Standing l.base l.n l.k l.w l.ps × (length l.ps ≡ length l.initial.ps)
-
-abbrev pub decreases-loop-k : goal.decreases-loop-k
-decreases-loop-k l = l.n - l.k
+invariant-loop-k l = Standing l.base l.n l.k l.ps × (length l.ps ≡ length l.initial.ps)

@@ -37,11 +37,5 @@ decreases-rows l = 10 * l.left + 8
 abbrev pub invariant-beside-loop-j : goal.invariant-beside-loop-j
 invariant-beside-loop-j l = Beside l.sheet l.places l.ws l.initial.m l.head (row_at l.ws l.z l.n) l.b l.m l.c l.j
 
-abbrev pub decreases-beside-loop-j : goal.decreases-beside-loop-j
-decreases-beside-loop-j l = l.n - l.j
-
 abbrev pub invariant-pairs-loop-j : goal.invariant-pairs-loop-j
 invariant-pairs-loop-j l = Rows l.sheet l.places l.ws l.initial.m l.xs l.ys l.b l.m l.j
-
-abbrev pub decreases-pairs-loop-j : goal.decreases-pairs-loop-j
-decreases-pairs-loop-j l = l.xs.n - l.j

@@ -11,6 +11,3 @@ decreases-own_all l = 2 * l.left + 1
 
 abbrev pub invariant-own_all-loop-j : goal.invariant-own_all-loop-j
 invariant-own_all-loop-j l = Owning l.sheet l.places l.ws l.initial.m l.row l.m l.j
-
-abbrev pub decreases-own_all-loop-j : goal.decreases-own_all-loop-j
-decreases-own_all-loop-j l = l.row.n - l.j

@@ -5,6 +5,3 @@ use Rattle.order.proofs.fails.Given as goal
 
 abbrev pub invariant-loop-k : goal.invariant-loop-k
 invariant-loop-k l = Asked l.sheet l.places l.ws l.p l.q l.m l.k
-
-abbrev pub decreases-loop-k : goal.decreases-loop-k
-decreases-loop-k l = l.q.n - l.k

@@ -1,16 +1,9 @@
--- `join`: the smaller class under the larger.
-use Rattle.std.proofs.Common.{rules}
-use Rattle.order.specs.Joined.{joins_not, joins_left, joins_right}
+-- `join`: the smaller class goes under the larger.
+use Rattle.order.specs.Halts.{joins_over, joins_under}
 use Rattle.order.proofs.join.Goals as goal
 
-pub returns-then-a-ge-MANY : goal.returns-then-a-ge-MANY
-returns-then-a-ge-MANY c = search (rules, joins_not)
-
-pub returns-then-b-ge-MANY : goal.returns-then-b-ge-MANY
-returns-then-b-ge-MANY c = search (rules, joins_not)
-
 pub returns-then-b-a : goal.returns-then-b-a
-returns-then-b-a c = search (rules, joins_left)
+returns-then-b-a c = joins_under _ _ _ _ _ _ _ _ _ _ c.in-Some.ensures c.in-Some-size.ensures c.if-b-a.true c.hang.ensures
 
 pub returns : goal.returns
-returns c = search (rules, joins_right)
+returns c = joins_over _ _ _ _ _ _ _ _ _ _ c.in-Some.ensures c.in-Some-size.ensures c.if-b-a.false c.hang-2.ensures

@@ -1,4 +1,4 @@
--- `kind`: by what the ref is.
+-- `kind`: by what it is.
 use Rattle.std.proofs.Common.{rules}
 use Rattle.order.specs.Words.{kind-node, kind_param_lem, kind_record}
 use Rattle.order.proofs.kind.Goals as goal

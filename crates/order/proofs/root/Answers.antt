@@ -1,10 +1,7 @@
--- `root`: along links, or by its record.
+-- `root`: by its first link.
 use Rattle.std.proofs.Common.{rules}
-use Rattle.order.specs.Words.{roots_none, roots_up}
+use Rattle.order.specs.Halts.{roots_first}
 use Rattle.order.proofs.root.Goals as goal
 
-pub find_own-requires : goal.find_own-requires
-find_own-requires c = search (rules, roots_none)
-
-pub returns : goal.returns
-returns c = search (rules, roots_up)
+pub returns-in_default : goal.returns-in_default
+returns-in_default c = search (rules, roots_first)

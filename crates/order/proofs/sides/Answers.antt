@@ -1,13 +1,10 @@
--- `sides`: the flag where they are inverted.
+-- `sides`: whether they may meet.
 use Rattle.std.proofs.Common.{rules}
-use Rattle.order.specs.Going.{compared_flag, compared_bit}
+use Rattle.order.specs.Halts.{compared_met, compared_sides}
 use Rattle.order.proofs.sides.Goals as goal
 
 pub returns-then-not-kind_flag : goal.returns-then-not-kind_flag
-returns-then-not-kind_flag c = search (rules, compared_flag)
+returns-then-not-kind_flag c = search (rules, compared_met)
 
-pub returns-else-not-kind_flag : goal.returns-else-not-kind_flag
-returns-else-not-kind_flag c = search (rules, compared_bit)
-
-pub returns-else-b-eq1 : goal.returns-else-b-eq1
-returns-else-b-eq1 c = search (rules, compared_bit)
+pub returns : goal.returns
+returns c = search (rules, compared_sides)

@@ -1,7 +1,7 @@
--- `step`: one link, or none.
+-- `step`: one link on.
 use Rattle.std.proofs.Common.{rules}
 use Rattle.order.specs.Words.{steps_up}
 use Rattle.order.proofs.step.Goals as goal
 
-pub returns : goal.returns
-returns c = search (rules, steps_up)
+pub returns-in_default : goal.returns-in_default
+returns-in_default c = search (rules, steps_up)

@@ -8,6 +8,3 @@ read_query-requires c = search (rules, param_few)
 
 pub returns-then-k-n : goal.returns-then-k-n
 returns-then-k-n c = search (rules, param_read)
-
-pub returns : goal.returns
-returns c = search (rules, param-none)

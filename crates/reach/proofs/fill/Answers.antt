@@ -6,20 +6,8 @@ use Rattle.reach.proofs.fill.Goals as goal
 pub index-requires : goal.index-requires
 index-requires c = search (rules, whole_room)
 
-pub put_signatures-requires-clause-checked : goal.put_signatures-requires-clause-checked
-put_signatures-requires-clause-checked c = search (rules, whole_checked)
-
 pub put_signatures-requires-clause-generics : goal.put_signatures-requires-clause-generics
 put_signatures-requires-clause-generics c = search (rules, generics_indexed)
 
-pub put_signatures-requires-clause-sheet_len_bound : goal.put_signatures-requires-clause-sheet_len_bound
-put_signatures-requires-clause-sheet_len_bound c = search (rules, whole_short)
-
 pub put_params-requires-clause-generics : goal.put_params-requires-clause-generics
 put_params-requires-clause-generics c = search (rules, generics_indexed)
-
-pub put_params-requires-clause-sheet_len_bound : goal.put_params-requires-clause-sheet_len_bound
-put_params-requires-clause-sheet_len_bound c = search (rules, whole_short)
-
-pub returns : goal.returns
-returns c = search (rules, whole_taken)

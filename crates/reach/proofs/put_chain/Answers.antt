@@ -1,19 +1,10 @@
--- `put_chain`: record by record.
-use Rattle.std.proofs.Common.{rules}
-use Rattle.reach.specs.Params.{adding_start, adding_end, adding_full, adding_index, adding_on}
+-- `put_chain`: the next record, with how many were before it.
+use Rattle.std.proofs.Common.{rules, arith, inl}
+use Rattle.reach.specs.Params.{adding_on}
 use Rattle.reach.proofs.put_chain.Goals as goal
 
-pub loop-k-init : goal.loop-k-init
-loop-k-init c = (search rules, search rules, search (rules, adding_start))
-
-pub returns-then-p-eq0 : goal.returns-then-p-eq0
-returns-then-p-eq0 c = search (rules, adding_end)
-
-pub put_param-requires-clause-k_in_bounds : goal.put_param-requires-clause-k_in_bounds
-put_param-requires-clause-k_in_bounds c = search (rules, adding_index)
-
 pub loop-k-preserved : goal.loop-k-preserved
-loop-k-preserved c = (search rules, search rules, search (rules, adding_on))
-
-pub returns : goal.returns
-returns c = search (rules, adding_full)
+loop-k-preserved c =
+    let h = c.in-Some.ensures.steps in
+    let t = adding_on _ _ _ _ _ _ _ c.loop-k.invariant.4 _ _ h.0 _ _ _ h.1 h.2 c.put_param.ensures in
+    ((tt, tt, inl (omega (arith, t.steps.count))), tt, search rules, search rules, t)

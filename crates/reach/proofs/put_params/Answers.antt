@@ -3,9 +3,6 @@ use Rattle.std.proofs.Common.{rules}
 use Rattle.reach.specs.Params.{called_short, params_few, params_short, params-put}
 use Rattle.reach.proofs.put_params.Goals as goal
 
-pub put_chain-requires-clause-sheet_len_bound : goal.put_chain-requires-clause-sheet_len_bound
-put_chain-requires-clause-sheet_len_bound c = search (rules, called_short)
-
 pub put_chain-requires-clause-head_in_bounds : goal.put_chain-requires-clause-head_in_bounds
 put_chain-requires-clause-head_in_bounds c = search (rules, params_few)
 

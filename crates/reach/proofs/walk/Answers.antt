@@ -1,13 +1,8 @@
--- `walk`: the arguments, and then all that they reach.
-use Rattle.std.proofs.Common.{rules}
-use Rattle.reach.specs.Counts.{tells_all, tells_walked}
+-- `walk`: what the queue's end says where it was worked off.
+use Rattle.std.proofs.Common.{refl}
+use Rattle.std.proofs.lemmas.Option.{IfSome_then}
+use Rattle.reach.specs.Counts.{tells_walked}
 use Rattle.reach.proofs.walk.Goals as goal
 
-pub returns-then-e-eq-FULL : goal.returns-then-e-eq-FULL
-returns-then-e-eq-FULL c = search (rules, tells_all)
-
-pub returns-then-m-eq-FULL : goal.returns-then-m-eq-FULL
-returns-then-m-eq-FULL c = search (rules, tells_all)
-
 pub returns : goal.returns
-returns c = search (rules, tells_walked)
+returns c = IfSome_then c.run.result c.run.ensures (λ r e. tells_walked c.args.sheet.now c.args.with c.args.places.now _ _ _ _ _ c.in_ok-end.end r c.args.args refl c.in_ok-end.ensures e)

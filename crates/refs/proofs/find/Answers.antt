@@ -1,7 +1,7 @@
--- `find`: the first link, and on.
+-- `find`: by the first link.
 use Rattle.std.proofs.Common.{rules}
-use Rattle.refs.specs.Links.{finds_far}
+use Rattle.refs.specs.Links.{finds_first}
 use Rattle.refs.proofs.find.Goals as goal
 
-pub returns : goal.returns
-returns c = search (rules, finds_far)
+pub returns-in-Some : goal.returns-in-Some
+returns-in-Some c = search (rules, finds_first)

@@ -2,8 +2,5 @@
 use Rattle.refs.specs.Links.{Finds}
 use Rattle.refs.proofs.find_far.Given as goal
 
-abbrev pub invariant-loop-left : goal.invariant-loop-left
-invariant-loop-left l = Finds l.links l.t l.x
-
-abbrev pub decreases-loop-left : goal.decreases-loop-left
-decreases-loop-left l = l.left
+abbrev pub invariant-loop : goal.invariant-loop
+invariant-loop l = Finds l.links l.t l.x

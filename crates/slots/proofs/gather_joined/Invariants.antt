@@ -1,10 +1,7 @@
 -- `gather_joined`: k of the results are added.
-use Rattle.std.proofs.Common.{◌≤◌, ◌-◌, ◌≡◌, length}
+use Rattle.std.proofs.Common.{◌≤◌, ◌≡◌, length}
 use Rattle.slots.specs.Gathering.{JoinGathering}
 use Rattle.slots.proofs.gather_joined.Given as goal
 
 abbrev pub invariant-loop-k : goal.invariant-loop-k
-invariant-loop-k l = JoinGathering l.initial.ws l.ws l.element l.from l.n l.found l.m l.k × (l.k ≤ l.m) × (l.found ≤ 4) × (length l.ws ≡ length l.initial.ws)
-
-abbrev pub decreases-loop-k : goal.decreases-loop-k
-decreases-loop-k l = l.m - l.k
+invariant-loop-k l = JoinGathering l.initial.ws l.ws l.element l.from l.n l.found l.m l.k × (l.found ≤ 4) × (length l.ws ≡ length l.initial.ws)

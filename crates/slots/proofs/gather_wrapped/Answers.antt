@@ -4,16 +4,16 @@ use Rattle.slots.specs.Gathering.{filled_next, gathering_none, gathering_more, g
 use Rattle.slots.proofs.gather_wrapped.Goals as goal
 
 pub loop-k-init : goal.loop-k-init
-loop-k-init c = (search (rules, gathering_none), search rules)
+loop-k-init c = search (rules, gathering_none)
 
-pub add_wrapped-one-requires-clause-filled : goal.add_wrapped-one-requires-clause-filled
-add_wrapped-one-requires-clause-filled c = search (rules, filled_next)
+pub add_wrapped-requires-clause-filled : goal.add_wrapped-requires-clause-filled
+add_wrapped-requires-clause-filled c = search (rules, filled_next)
 
-pub returns-in-Refused : goal.returns-in-Refused
-returns-in-Refused c = search (rules, gathering_stops)
+pub returns-in-Err : goal.returns-in-Err
+returns-in-Err c = search (rules, gathering_stops)
 
 pub loop-k-preserved : goal.loop-k-preserved
-loop-k-preserved c = (search (rules, gathering_more), search rules)
+loop-k-preserved c = search (rules, gathering_more)
 
 pub returns : goal.returns
 returns c = search (rules, gathering_done)

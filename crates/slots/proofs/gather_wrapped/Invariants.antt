@@ -1,11 +1,7 @@
 -- `gather_wrapped`: k of the results are added.
-use Rattle.std.proofs.Common.{◌≤◌, ◌-◌}
 use Rattle.slots.specs.Adding.{under}
 use Rattle.slots.specs.Gathering.{Gathering}
 use Rattle.slots.proofs.gather_wrapped.Given as goal
 
 abbrev pub invariant-loop-k : goal.invariant-loop-k
-invariant-loop-k l = Gathering (under l.id) l.initial.ws l.ws l.from l.n l.found l.m l.k × (l.k ≤ l.m)
-
-abbrev pub decreases-loop-k : goal.decreases-loop-k
-decreases-loop-k l = l.m - l.k
+invariant-loop-k l = Gathering (under l.id) l.initial.ws l.ws l.from l.n l.found l.m l.k

@@ -16,8 +16,8 @@ leaf_step-requires-clause-kind_bound c = search (rules, auto_fits_kind)
 pub leaf_step-requires-clause-id_bound : goal.leaf_step-requires-clause-id_bound
 leaf_step-requires-clause-id_bound c = search (rules, auto_fits_id)
 
-pub returns-in-Nothing : goal.returns-in-Nothing
-returns-in-Nothing c = search (rules, auto_none)
+pub returns-in-None : goal.returns-in-None
+returns-in-None c = search (rules, auto_none)
 
-pub returns-in-Leaf : goal.returns-in-Leaf
-returns-in-Leaf c = search (rules, auto_one)
+pub returns-in-Some : goal.returns-in-Some
+returns-in-Some c = search (rules, auto_one)

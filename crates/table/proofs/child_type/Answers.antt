@@ -8,12 +8,9 @@
 -- src/lib.rt:249:19
 -- src/lib.rt:249:5
 -- src/lib.rt:242:1
-use Rattle.table.specs.ChildTypes.{digit_small, child_type_at}
+use Rattle.table.specs.ChildTypes.{child_type_at}
 use borrow.Author.Rules.{rules}
 use Rattle.table.proofs.child_type.Goals as goal
-
-pub type_read-requires-clause-t_bound : goal.type_read-requires-clause-t_bound
-type_read-requires-clause-t_bound c = search (rules, digit_small)
 
 pub returns : goal.returns
 returns c = search (rules, child_type_at)

@@ -1,13 +1,7 @@
--- `invert_if`: by whether it inverts, and whether the type is inverted.
-use Rattle.table.specs.Reads.{invert_odd, invert_even, invert_not}
-use borrow.Author.Rules.{rules}
+-- `invert_if`: the lowest bit is the inversion.
+use Rattle.table.specs.Reads.{invert_bit}
+use Rattle.std.proofs.Common.{rules}
 use Rattle.table.proofs.invert_if.Goals as goal
 
-pub returns-then-t-eq1 : goal.returns-then-t-eq1
-returns-then-t-eq1 c = search (rules, invert_odd)
-
-pub returns-else-t-eq1 : goal.returns-else-t-eq1
-returns-else-t-eq1 c = search (rules, invert_even)
-
-pub returns-else-inverted : goal.returns-else-inverted
-returns-else-inverted c = search (rules, invert_not)
+pub returns : goal.returns
+returns c = search (rules, invert_bit)

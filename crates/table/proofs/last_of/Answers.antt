@@ -3,8 +3,8 @@ use Rattle.table.specs.Writes.{last_none, last_some}
 use Rattle.std.proofs.Common.{rules}
 use Rattle.table.proofs.last_of.Goals as goal
 
-pub returns-then-cs-eq0 : goal.returns-then-cs-eq0
-returns-then-cs-eq0 c = search (rules, last_none)
+pub returns-then-is_empty : goal.returns-then-is_empty
+returns-then-is_empty c = search (rules, last_none)
 
 pub returns : goal.returns
 returns c = search (rules, last_some)

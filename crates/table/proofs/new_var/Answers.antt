@@ -1,10 +1,6 @@
--- `new_var`: the node behind the last, unless the table is full.
-use Rattle.table.specs.Writes.{push_room, push_full}
-use borrow.Author.Rules.{rules}
+-- `new_var`: the node behind the last.
+use Rattle.table.specs.Writes.{push_room}
 use Rattle.table.proofs.new_var.Goals as goal
 
-pub returns-then-n-lt-NODES : goal.returns-then-n-lt-NODES
-returns-then-n-lt-NODES c = search (rules, push_room)
-
-pub returns : goal.returns
-returns c = search (rules, push_full)
+pub returns-clause-pushes : goal.returns-clause-pushes
+returns-clause-pushes c = push_room _ _ _ _ c.in_ok-n.ensures.number c.in_ok-n.ensures.room c.requires c.write_unknown.ensures

@@ -1,13 +1,7 @@
 -- `next_apart`: the children passed are alike.
 use borrow.Author.Rules.{rules}
-use Rattle.table.specs.Alike.{parent_low, child_low, alike_none, alike_more}
+use Rattle.table.specs.Alike.{parent_low, child_low, alike_more}
 use Rattle.table.proofs.next_apart.Goals as goal
-
-pub loop-j-init : goal.loop-j-init
-loop-j-init c = search (rules, alike_none)
-
-pub are_alike-requires-clause-packed : goal.are_alike-requires-clause-packed
-are_alike-requires-clause-packed c = search (rules, parent_low, child_low)
 
 pub are_alike-requires-clause-x_bound : goal.are_alike-requires-clause-x_bound
 are_alike-requires-clause-x_bound c = search (rules, parent_low, child_low)

@@ -6,14 +6,8 @@ use Rattle.table.proofs.relabel_class.Goals as goal
 pub loop-i-init : goal.loop-i-init
 loop-i-init c = search (rules, firsts-none)
 
-pub relabel_node-requires-clause-table_length_in_bounds : goal.relabel_node-requires-clause-table_length_in_bounds
-relabel_node-requires-clause-table_length_in_bounds c = search (rules, firsts_long, firsts_in)
-
 pub relabel_node-requires-clause-n_in_bounds : goal.relabel_node-requires-clause-n_in_bounds
 relabel_node-requires-clause-n_in_bounds c = search (rules, firsts_long, firsts_in)
-
-pub relabel_node-requires-clause-t_bound : goal.relabel_node-requires-clause-t_bound
-relabel_node-requires-clause-t_bound c = search (rules, firsts_long, firsts_in)
 
 pub loop-i-preserved : goal.loop-i-preserved
 loop-i-preserved c = search (rules, firsts_more)

@@ -1,5 +1,4 @@
 -- `relabel_class`: the nodes passed are relabelled.
-use Prim.Native.Nat.{◌-◌, ◌≤◌}
 use Rattle.rules.specs.Types.{relabel}
 use Rattle.rules.specs.Transfer.{type_of_word}
 use Rattle.table.specs.Packing.{types_of, Rewritten}
@@ -7,7 +6,4 @@ use Rattle.table.specs.Joins.{firsts}
 use Rattle.table.proofs.relabel_class.Given as goal
 
 abbrev pub invariant-loop-i : goal.invariant-loop-i
-invariant-loop-i l = Rewritten l.initial.ws l.ws (firsts (relabel l.lo (type_of_word l.t)) l.i (types_of l.initial.ws)) × (l.i ≤ l.n)
-
-abbrev pub decreases-loop-i : goal.decreases-loop-i
-decreases-loop-i l = l.n - l.i
+invariant-loop-i l = Rewritten l.initial.ws l.ws (firsts (relabel l.lo (type_of_word l.t)) l.i (types_of l.initial.ws))

@@ -6,12 +6,6 @@ use Rattle.table.proofs.relabel_node.Goals as goal
 pub returns-then-u-lo : goal.returns-then-u-lo
 returns-then-u-lo c = search (rules, relabel_not)
 
-pub set_up-requires-clause-table_length_in_bounds : goal.set_up-requires-clause-table_length_in_bounds
-set_up-requires-clause-table_length_in_bounds c = search (rules, invert_small)
-
-pub set_up-requires-clause-n_in_bounds : goal.set_up-requires-clause-n_in_bounds
-set_up-requires-clause-n_in_bounds c = search (rules, invert_small)
-
 pub set_up-requires-clause-u_bound : goal.set_up-requires-clause-u_bound
 set_up-requires-clause-u_bound c = search (rules, invert_small)
 

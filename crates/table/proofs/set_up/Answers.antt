@@ -7,8 +7,5 @@ use Rattle.table.proofs.set_up.Goals as goal
 pub put_head-requires-clause-n_lt_limit_nodes : goal.put_head-requires-clause-n_lt_limit_nodes
 put_head-requires-clause-n_lt_limit_nodes c = search (rules, node_low)
 
-pub put_head-requires-clause-table_length_in_bounds : goal.put_head-requires-clause-table_length_in_bounds
-put_head-requires-clause-table_length_in_bounds c = search (rules, node_low)
-
 pub returns : goal.returns
 returns c = search (rules, set_up)

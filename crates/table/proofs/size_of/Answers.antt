@@ -6,11 +6,5 @@ use Rattle.table.proofs.size_of.Goals as goal
 pub returns-then-n-count-clause-is : goal.returns-then-n-count-clause-is
 returns-then-n-count-clause-is c = search (rules, size_in)
 
-pub returns-then-n-count-clause-small : goal.returns-then-n-count-clause-small
-returns-then-n-count-clause-small c = search (rules, size_in)
-
 pub returns-else-n-count-clause-is : goal.returns-else-n-count-clause-is
 returns-else-n-count-clause-is c = search (rules, size_past)
-
-pub returns-else-n-count-clause-small : goal.returns-else-n-count-clause-small
-returns-else-n-count-clause-small c = search (rules, size_past)

@@ -3,8 +3,5 @@ use Rattle.table.specs.Joins.{sizes_fit}
 use borrow.Author.Rules.{rules}
 use Rattle.table.proofs.sizes.Goals as goal
 
-pub returns-clause-is : goal.returns-clause-is
-returns-clause-is c = search (rules, sizes_fit)
-
 pub returns-clause-small : goal.returns-clause-small
 returns-clause-small c = search (rules, sizes_fit)

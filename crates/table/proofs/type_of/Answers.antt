@@ -5,6 +5,3 @@ use Rattle.table.proofs.type_of.Goals as goal
 
 pub returns-clause-is : goal.returns-clause-is
 returns-clause-is c = search (rules, made_type, type_small)
-
-pub returns-clause-small : goal.returns-clause-small
-returns-clause-small c = search (rules, made_type, type_small)

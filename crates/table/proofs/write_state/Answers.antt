@@ -7,14 +7,5 @@ use Rattle.table.proofs.write_state.Goals as goal
 pub root_head-h-requires-clause-n_lt_limit_nodes : goal.root_head-h-requires-clause-n_lt_limit_nodes
 root_head-h-requires-clause-n_lt_limit_nodes c = search (rules, node_low)
 
-pub root_head-h-requires-clause-size_bound : goal.root_head-h-requires-clause-size_bound
-root_head-h-requires-clause-size_bound c = search (rules, node_low)
-
-pub copy_node-requires-clause-n_lt_limit_nodes : goal.copy_node-requires-clause-n_lt_limit_nodes
-copy_node-requires-clause-n_lt_limit_nodes c = search (rules, node_low)
-
-pub copy_node-requires-clause-table_length_in_bounds : goal.copy_node-requires-clause-table_length_in_bounds
-copy_node-requires-clause-table_length_in_bounds c = search (rules, node_low)
-
 pub returns : goal.returns
 returns c = search (rules, wrote_state)

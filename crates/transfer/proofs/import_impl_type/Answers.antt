@@ -3,5 +3,5 @@ use Rattle.std.proofs.Common.{rules}
 use Rattle.transfer.specs.Imports.{imports_impl}
 use Rattle.transfer.proofs.import_impl_type.Goals as goal
 
-pub returns : goal.returns
-returns c = search (rules, imports_impl)
+pub returns-clause-imports : goal.returns-clause-imports
+returns-clause-imports g c = search (rules, imports_impl)

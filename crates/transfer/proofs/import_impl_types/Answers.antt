@@ -1,7 +1,7 @@
--- `import_impl_types`: `import` of the row of their arguments.
+-- `import_impl_types`: `import` of their arguments.
 use Rattle.std.proofs.Common.{rules}
 use Rattle.transfer.specs.Imports.{imports_impls}
 use Rattle.transfer.proofs.import_impl_types.Goals as goal
 
-pub returns : goal.returns
-returns c = search (rules, imports_impls)
+pub returns-clause-imports : goal.returns-clause-imports
+returns-clause-imports g c = search (rules, imports_impls)

@@ -4,7 +4,7 @@ use Rattle.transfer.specs.Imports.{cleared_mapping, imports}
 use Rattle.transfer.proofs.import_types.Goals as goal
 
 pub transfer_types-requires-clause-mapping : goal.transfer_types-requires-clause-mapping
-transfer_types-requires-clause-mapping c = search (rules, cleared_mapping)
+transfer_types-requires-clause-mapping g c = search (rules, cleared_mapping)
 
-pub returns : goal.returns
-returns c = search (rules, imports)
+pub returns-clause-imports : goal.returns-clause-imports
+returns-clause-imports g c = search (rules, imports)

@@ -1,22 +1,14 @@
 -- What a Param stands for.
-use Rattle.std.proofs.Common.{rules}
-use Rattle.transfer.specs.Leaves.{param_fits, param-turned, param_adds, param_is, param_other, param_not}
+use Rattle.std.proofs.Common.{rules, refl, subst}
+use Rattle.transfer.specs.Outcomes.{GivenWords}
+use Rattle.transfer.proofs.Params.{param_absent, param_else, param_given}
 use Rattle.transfer.proofs.param_type.Goals as goal
 
-pub invert_if-u-requires : goal.invert_if-u-requires
-invert_if-u-requires c = search (rules, param_fits)
+pub returns-in_default : goal.returns-in_default
+returns-in_default g c = search (rules, param_absent)
 
-pub invert_if-requires : goal.invert_if-requires
-invert_if-requires c = search (rules, param-turned)
-
-pub overflow_add-result : goal.overflow_add-result
-overflow_add-result c = search (rules, param_adds)
-
-pub returns-then-kind_of-eq-PARAM : goal.returns-then-kind_of-eq-PARAM
-returns-then-kind_of-eq-PARAM c = search (rules, param_is)
-
-pub returns-then-with : goal.returns-then-with
-returns-then-with c = search (rules, param_other)
+pub returns-then-kind_of-ne-PARAM : goal.returns-then-kind_of-ne-PARAM
+returns-then-kind_of-ne-PARAM g c = search (rules, param_else)
 
 pub returns : goal.returns
-returns c = search (rules, param_not)
+returns g c = param_given _ _ _ _ c.in-Some.is (subst GivenWords c.in-Some.is c.requires) _ _ _ _ _ _ _ _ c.word-p.ensures c.invert_if-u.ensures c.invert_if.ensures c.kind_of.ensures c.if-kind_of-ne-PARAM.false c.id_of.ensures refl c.inverted_of.ensures c.is_inverted.ensures

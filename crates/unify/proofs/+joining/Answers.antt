@@ -1,36 +1,25 @@
 -- The cycle of `unify`: each layer comes to the rule's layer of its name, and the fuel falls.
-use Rattle.std.proofs.Common.{rules, arith, ◌∙◌}
+use Rattle.std.proofs.Common.{rules, arith, ◌∙◌, refl, ⊎_elim}
 use Rattle.unify.specs.Layers.{unify-none, found_roots, found_fuelled, unify_on, unify_through, roots_same, roots_opposed, roots_apart, two_apart, left-node, states_left, states_right, states_both, known_roots}
-use Rattle.unify.specs.Noting.{root_small, root_small_2, code_small, begun_ready, kept_failure, kept_indeterminate, kept_on}
+use Rattle.unify.specs.Noting.{root_small, root_small_2, kept_again, kept_on}
 use Rattle.unify.specs.Known.{below_fuelled, still_roots, joined_later, error_left, error_right, known_differ, known_meet}
-use Rattle.unify.specs.Children.{children_each, children-last, children_fail, counts_same, last-none-left, last_none_right, last-left, last_right, last_fuelled, last-met}
+use Rattle.unify.specs.Children.{children_each, children-last, children_fail, last-none-left, last_none_right, last-left, last_right, last_fuelled, last-met}
 use Rattle.unify.specs.Pairs.{pairs_none, pair_left, pair_right, pair_fuelled, pairs_stop, pairs_more, pairs_end}
 use Rattle.unify.specs.Passing.{pairs_matched, pairs_on}
 use Rattle.unify.proofs.+joining.Goals as goal
-
-pub unify_children-unify_each-requires : goal.unify_children-unify_each-requires
-unify_children-unify_each-requires t c = (omega arith, (search rules, (search rules, (search (rules, counts_same), (search rules, search rules)))))
+use Rattle.unify.proofs.+joining.Goals.{unify_known-then-kind-eq-KIND_ERROR-via-then-kind-eq-KIND_ERROR, unify_known-then-kind-eq-KIND_ERROR-via-else-kind-eq-KIND_ERROR+then-kind-eq-KIND_ERROR-2, unify_states-then-kind-eq-KIND_UNKNOWN-via-then-kind-eq-KIND_UNKNOWN, unify_states-then-kind-eq-KIND_UNKNOWN-via-else-kind-eq-KIND_UNKNOWN+then-kind-eq-KIND_UNKNOWN-2}
 
 pub unify_children-returns-then-child_count : goal.unify_children-returns-then-child_count
 unify_children-returns-then-child_count t c = search (rules, children_each)
 
-pub unify_children-unify_last-requires : goal.unify_children-unify_last-requires
-unify_children-unify_last-requires t c = (omega arith, (search rules, (search rules, (search rules, search rules))))
-
 pub unify_children-returns-then-kind-eq-KIND_CLOSURE : goal.unify_children-returns-then-kind-eq-KIND_CLOSURE
 unify_children-returns-then-kind-eq-KIND_CLOSURE t c = search (rules, children-last)
 
-pub unify_children-returns : goal.unify_children-returns
-unify_children-returns t c = search (rules, children_fail)
+pub unify_children-returns-else-kind-eq-KIND_CLOSURE : goal.unify_children-returns-else-kind-eq-KIND_CLOSURE
+unify_children-returns-else-kind-eq-KIND_CLOSURE t c = search (rules, children_fail)
 
 pub unify_each-loop-v-init : goal.unify_each-loop-v-init
 unify_each-loop-v-init t c = (search rules, (search rules, (omega arith, search (rules, pairs_none))))
-
-pub unify_each-next_pair-j-requires-clause-packed : goal.unify_each-next_pair-j-requires-clause-packed
-unify_each-next_pair-j-requires-clause-packed t c =
-    let here = c.loop-v.invariant in
-    let count = c.child_count-m.ensures in
-    here.1.1.1.good.packed
 
 pub unify_each-next_pair-j-requires-clause-cases : goal.unify_each-next_pair-j-requires-clause-cases
 unify_each-next_pair-j-requires-clause-cases t c =
@@ -59,9 +48,6 @@ unify_each-returns-then-stops t c =
     let on = pairs_on _ _ _ _ _ _ _ _ _ _ _ _ c.requires.good c.requires.known_roots here.1.1.1 count c.requires.x_len _ here.1.1.0 c.next_pair-j.ensures in
     pairs_stop _ _ _ _ _ _ _ _ _ _ _ _ _ _ c.requires.good c.requires.known_roots on count c.requires.x_len c.if-j-m.false c.child-a.ensures c.met_child-b.ensures _ _ _ _ _ _ c.unify_in-r.ensures c.and-v.ensures c.stops.ensures c.if-stops.true
 
-pub unify_each-loop-v-smaller : goal.unify_each-loop-v-smaller
-unify_each-loop-v-smaller t c = omega (arith, c.next_pair-j.ensures.alike.low)
-
 pub unify_each-loop-v-preserved : goal.unify_each-loop-v-preserved
 unify_each-loop-v-preserved t c =
     let here = c.loop-v.invariant in
@@ -87,10 +73,11 @@ pub unify_in-returns : goal.unify_in-returns
 unify_in-returns t c = search (rules, unify_on)
 
 pub unify_known-returns-then-kind-eq-KIND_ERROR : goal.unify_known-returns-then-kind-eq-KIND_ERROR
-unify_known-returns-then-kind-eq-KIND_ERROR t c = search (rules, error_left)
-
-pub unify_known-returns-then-kind-eq-KIND_ERROR-2 : goal.unify_known-returns-then-kind-eq-KIND_ERROR-2
-unify_known-returns-then-kind-eq-KIND_ERROR-2 t c = search (rules, error_right)
+unify_known-returns-then-kind-eq-KIND_ERROR t c =
+    elim c.then-kind-eq-KIND_ERROR.branch [
+      | unify_known-then-kind-eq-KIND_ERROR-via-then-kind-eq-KIND_ERROR w ↦ search (rules, error_left)
+      | unify_known-then-kind-eq-KIND_ERROR-via-else-kind-eq-KIND_ERROR+then-kind-eq-KIND_ERROR-2 w ↦ search (rules, error_right)
+    ]
 
 pub unify_known-unify_children-requires : goal.unify_known-unify_children-requires
 unify_known-unify_children-requires t c = (omega arith, (search rules, (search rules, (search rules, search (rules, below_fuelled)))))
@@ -102,10 +89,7 @@ pub unify_known-returns : goal.unify_known-returns
 unify_known-returns t c = search (rules, known_differ)
 
 pub unify_last-returns-then-m-eq0 : goal.unify_last-returns-then-m-eq0
-unify_last-returns-then-m-eq0 t c = search (rules, last-none-left)
-
-pub unify_last-returns-then-n-eq0 : goal.unify_last-returns-then-n-eq0
-unify_last-returns-then-n-eq0 t c = search (rules, last_none_right)
+unify_last-returns-then-m-eq0 t c = ⊎_elim (λ z. search (rules, last-none-left)) (λ z. search (rules, last_none_right)) c.then-m-eq0.either
 
 pub unify_last-unify_in-requires : goal.unify_last-unify_in-requires
 unify_last-unify_in-requires t c =
@@ -114,20 +98,14 @@ unify_last-unify_in-requires t c =
 pub unify_last-returns : goal.unify_last-returns
 unify_last-returns t c = search (rules, last-met)
 
-pub unify_noted-recall-kept-requires-clause-x_bound : goal.unify_noted-recall-kept-requires-clause-x_bound
-unify_noted-recall-kept-requires-clause-x_bound t c = search (rules, root_small)
+pub unify_noted-recall-requires-clause-x_bound : goal.unify_noted-recall-requires-clause-x_bound
+unify_noted-recall-requires-clause-x_bound t c = search (rules, root_small)
 
-pub unify_noted-recall-kept-requires-clause-y_bound : goal.unify_noted-recall-kept-requires-clause-y_bound
-unify_noted-recall-kept-requires-clause-y_bound t c = search (rules, root_small_2)
+pub unify_noted-recall-requires-clause-y_bound : goal.unify_noted-recall-requires-clause-y_bound
+unify_noted-recall-requires-clause-y_bound t c = search (rules, root_small_2)
 
-pub unify_noted-returns-then-kept-eq1 : goal.unify_noted-returns-then-kept-eq1
-unify_noted-returns-then-kept-eq1 t c = search (rules, kept_failure)
-
-pub unify_noted-returns-then-kept-eq2 : goal.unify_noted-returns-then-kept-eq2
-unify_noted-returns-then-kept-eq2 t c = search (rules, kept_indeterminate)
-
-pub unify_noted-unify_roots-r-requires : goal.unify_noted-unify_roots-r-requires
-unify_noted-unify_roots-r-requires t c = (omega arith, (search rules, (search rules, (search (rules, begun_ready), search rules))))
+pub unify_noted-returns-in-Some : goal.unify_noted-returns-in-Some
+unify_noted-returns-in-Some t c = search (rules, kept_again)
 
 pub unify_noted-end-requires-clause-x_bound : goal.unify_noted-end-requires-clause-x_bound
 unify_noted-end-requires-clause-x_bound t c = search (rules, root_small)
@@ -135,12 +113,9 @@ unify_noted-end-requires-clause-x_bound t c = search (rules, root_small)
 pub unify_noted-end-requires-clause-y_bound : goal.unify_noted-end-requires-clause-y_bound
 unify_noted-end-requires-clause-y_bound t c = search (rules, root_small_2)
 
-pub unify_noted-end-requires-clause-code_bound : goal.unify_noted-end-requires-clause-code_bound
-unify_noted-end-requires-clause-code_bound t c = search (rules, code_small)
-
 pub unify_noted-returns : goal.unify_noted-returns
 unify_noted-returns t c =
-    kept_on _ _ _ _ _ _ _ _ _ _ _ _ _ c.requires.good c.requires.two_roots c.requires.fuelled (search rules) c.code_of-code.ensures c.unify_roots-r.ensures c.end.ensures
+    kept_on _ _ _ _ _ _ _ _ _ _ _ _ _ c.requires.good c.requires.two_roots c.requires.fuelled (search rules) refl c.unify_roots-r.ensures c.end.ensures
 
 pub unify_roots-unify_states-requires : goal.unify_roots-unify_states-requires
 unify_roots-unify_states-requires t c = (omega arith, (search rules, (search (rules, two_apart), (search rules, search rules))))
@@ -158,19 +133,20 @@ pub unify_roots-returns : goal.unify_roots-returns
 unify_roots-returns t c = search (rules, roots_opposed)
 
 pub unify_states-returns-then-kind-eq-KIND_UNKNOWN : goal.unify_states-returns-then-kind-eq-KIND_UNKNOWN
-unify_states-returns-then-kind-eq-KIND_UNKNOWN t c = search (rules, states_left)
-
-pub unify_states-returns-then-kind-eq-KIND_UNKNOWN-2 : goal.unify_states-returns-then-kind-eq-KIND_UNKNOWN-2
-unify_states-returns-then-kind-eq-KIND_UNKNOWN-2 t c = search (rules, states_right)
+unify_states-returns-then-kind-eq-KIND_UNKNOWN t c =
+    elim c.then-kind-eq-KIND_UNKNOWN.branch [
+      | unify_states-then-kind-eq-KIND_UNKNOWN-via-then-kind-eq-KIND_UNKNOWN w ↦ search (rules, states_left)
+      | unify_states-then-kind-eq-KIND_UNKNOWN-via-else-kind-eq-KIND_UNKNOWN+then-kind-eq-KIND_UNKNOWN-2 w ↦ search (rules, states_right)
+    ]
 
 pub unify_states-unify_known-v-requires : goal.unify_states-unify_known-v-requires
 unify_states-unify_known-v-requires t c =
-    (omega arith, (search rules, (known_roots _ _ _ _ _ c.kind.ensures c.kind-2.ensures c.if-kind-eq-KIND_UNKNOWN.false c.if-kind-eq-KIND_UNKNOWN-2.false c.requires.roots, (search rules, search rules))))
+    (omega arith, (search rules, (known_roots _ _ _ _ _ c.kind.ensures c.kind-else-kind-eq-KIND_UNKNOWN.ensures c.if-kind-eq-KIND_UNKNOWN.false c.if-kind-eq-KIND_UNKNOWN-2.false c.requires.roots, (search rules, search rules))))
 
 pub unify_states-join_on_success-requires-clause-roots : goal.unify_states-join_on_success-requires-clause-roots
 unify_states-join_on_success-requires-clause-roots t c =
-    λ e. still_roots _ _ _ _ _ _ _ c.requires.good c.requires.roots (known_roots _ _ _ _ _ c.kind.ensures c.kind-2.ensures c.if-kind-eq-KIND_UNKNOWN.false c.if-kind-eq-KIND_UNKNOWN-2.false c.requires.roots) _ _ _ c.unify_known-v.ensures e
+    λ e. still_roots _ _ _ _ _ _ _ c.requires.good c.requires.roots (known_roots _ _ _ _ _ c.kind.ensures c.kind-else-kind-eq-KIND_UNKNOWN.ensures c.if-kind-eq-KIND_UNKNOWN.false c.if-kind-eq-KIND_UNKNOWN-2.false c.requires.roots) _ _ _ c.unify_known-v.ensures e
 
 pub unify_states-returns : goal.unify_states-returns
 unify_states-returns t c =
-    states_both _ _ _ _ _ _ c.kind.ensures _ c.kind-2.ensures _ _ _ _ _ _ _ _ c.if-kind-eq-KIND_UNKNOWN.false c.if-kind-eq-KIND_UNKNOWN-2.false (λ e. joined_later _ _ _ _ _ _ _ c.requires.good c.requires.roots (known_roots _ _ _ _ _ c.kind.ensures c.kind-2.ensures c.if-kind-eq-KIND_UNKNOWN.false c.if-kind-eq-KIND_UNKNOWN-2.false c.requires.roots) _ _ _ c.unify_known-v.ensures e) c.unify_known-v.ensures c.join_on_success.ensures
+    states_both _ _ _ _ _ _ c.kind.ensures _ c.kind-else-kind-eq-KIND_UNKNOWN.ensures _ _ _ _ _ _ _ _ c.if-kind-eq-KIND_UNKNOWN.false c.if-kind-eq-KIND_UNKNOWN-2.false (λ e. joined_later _ _ _ _ _ _ _ c.requires.good c.requires.roots (known_roots _ _ _ _ _ c.kind.ensures c.kind-else-kind-eq-KIND_UNKNOWN.ensures c.if-kind-eq-KIND_UNKNOWN.false c.if-kind-eq-KIND_UNKNOWN-2.false c.requires.roots) _ _ _ c.unify_known-v.ensures e) c.unify_known-v.ensures c.join_on_success.ensures

@@ -1,10 +1,7 @@
 -- `occurs_at`: the memo behind the marks stays.
 use Rattle.std.proofs.Common.{rules}
-use Rattle.unify.specs.Trying.{marks_length, marks_enough, marks_back}
+use Rattle.unify.specs.Trying.{marks_enough, marks_back}
 use Rattle.unify.proofs.occurs_at.Goals as goal
-
-pub slice_bounds-occurs-end-2 : goal.slice_bounds-occurs-end-2
-slice_bounds-occurs-end-2 c = search (rules, marks_length)
 
 pub occurs-requires-clause-ws_in_bounds : goal.occurs-requires-clause-ws_in_bounds
 occurs-requires-clause-ws_in_bounds c = search (rules, marks_enough)

@@ -1,10 +1,7 @@
 -- `own_inverse_anew`: the memo behind the marks stays.
 use Rattle.std.proofs.Common.{rules}
-use Rattle.unify.specs.Trying.{marks_length, marks_enough, marks_back}
+use Rattle.unify.specs.Trying.{marks_enough, marks_back}
 use Rattle.unify.proofs.own_inverse_anew.Goals as goal
-
-pub slice_bounds-self_inverse-end-2 : goal.slice_bounds-self_inverse-end-2
-slice_bounds-self_inverse-end-2 c = search (rules, marks_length)
 
 pub self_inverse-requires-clause-ws_in_bounds : goal.self_inverse-requires-clause-ws_in_bounds
 self_inverse-requires-clause-ws_in_bounds c = search (rules, marks_enough)

@@ -1,13 +1,7 @@
--- `stops`: by the verdict.
+-- `stops`: only where none is tried after the first that does not succeed.
 use Rattle.std.proofs.Common.{rules}
-use Rattle.unify.specs.Trying.{stops_success, stops_failure, stops_indeterminate}
+use Rattle.unify.proofs.Success.{stops_told}
 use Rattle.unify.proofs.stops.Goals as goal
 
-pub returns-in-Success : goal.returns-in-Success
-returns-in-Success c = search (rules, stops_success)
-
-pub returns-in-Failure : goal.returns-in-Failure
-returns-in-Failure c = search (rules, stops_failure)
-
-pub returns-in-Indeterminate : goal.returns-in-Indeterminate
-returns-in-Indeterminate c = search (rules, stops_indeterminate)
+pub returns-then-not-whole : goal.returns-then-not-whole
+returns-then-not-whole c = search (rules, stops_told)

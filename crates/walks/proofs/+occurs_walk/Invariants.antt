@@ -1,5 +1,5 @@
 -- `occurs_in` and `occurs_among`: the rank falls from a type to the children of its root; of the children passed none has anything of v.
-use Rattle.std.proofs.Common.{◌+◌, ◌*◌, ◌-◌, ◌/◌}
+use Rattle.std.proofs.Common.{◌+◌, ◌*◌, ◌/◌}
 use Rattle.rules.specs.RootRank.{rank}
 use Rattle.table.specs.Packing.{types_of}
 use Rattle.walks.specs.Occurs.{Scan}
@@ -13,6 +13,3 @@ decreases-occurs_in l = 2 * rank (types_of l.ws.now) (l.t / 2) + 1
 
 abbrev pub invariant-occurs_among-loop-i : goal.invariant-occurs_among-loop-i
 invariant-occurs_among-loop-i l = Scan (types_of l.ws) l.v l.n l.i l.marks
-
-abbrev pub decreases-occurs_among-loop-i : goal.decreases-occurs_among-loop-i
-decreases-occurs_among-loop-i l = l.m - l.i

@@ -3,8 +3,8 @@ use Rattle.std.proofs.Common.{rules}
 use Rattle.walks.specs.SelfInverse.{own_none, own_flag}
 use Rattle.walks.proofs.own_inverse_of.Goals as goal
 
-pub returns-then-k-eq0 : goal.returns-then-k-eq0
-returns-then-k-eq0 c = search (rules, own_none)
+pub returns-then-k-ne0 : goal.returns-then-k-ne0
+returns-then-k-ne0 c = search (rules, own_flag)
 
-pub returns : goal.returns
-returns c = search (rules, own_flag)
+pub returns-else-k-ne0 : goal.returns-else-k-ne0
+returns-else-k-ne0 c = search (rules, own_none)

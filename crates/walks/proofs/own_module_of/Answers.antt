@@ -3,17 +3,17 @@ use Rattle.std.proofs.Common.{rules}
 use Rattle.walks.specs.Modules.{in_opaques, in_structs, in_enums, in_unions, in_none}
 use Rattle.walks.proofs.own_module_of.Goals as goal
 
-pub returns-then-k-eq-KIND_OPAQUE : goal.returns-then-k-eq-KIND_OPAQUE
-returns-then-k-eq-KIND_OPAQUE c = search (rules, in_opaques)
+pub returns-in-3 : goal.returns-in-3
+returns-in-3 c = search (rules, in_opaques)
 
-pub returns-then-k-eq-KIND_STRUCT : goal.returns-then-k-eq-KIND_STRUCT
-returns-then-k-eq-KIND_STRUCT c = search (rules, in_structs)
+pub returns-in-4 : goal.returns-in-4
+returns-in-4 c = search (rules, in_structs)
 
-pub returns-then-k-eq-KIND_ENUM : goal.returns-then-k-eq-KIND_ENUM
-returns-then-k-eq-KIND_ENUM c = search (rules, in_enums)
+pub returns-in-5 : goal.returns-in-5
+returns-in-5 c = search (rules, in_enums)
 
-pub returns-then-k-eq-KIND_UNION : goal.returns-then-k-eq-KIND_UNION
-returns-then-k-eq-KIND_UNION c = search (rules, in_unions)
+pub returns-in-6 : goal.returns-in-6
+returns-in-6 c = search (rules, in_unions)
 
-pub returns : goal.returns
-returns c = search (rules, in_none)
+pub returns-in_default : goal.returns-in_default
+returns-in_default c = search (rules, in_none)

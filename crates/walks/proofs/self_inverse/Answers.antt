@@ -1,10 +1,7 @@
 -- `self_inverse`: at the start no node is marked.
 use Rattle.std.proofs.Common.{rules}
-use Rattle.walks.specs.SelfInverse.{own_start, inverted_end}
+use Rattle.walks.specs.SelfInverse.{own_start}
 use Rattle.walks.proofs.self_inverse.Goals as goal
 
 pub self_inverse_in-requires-clause-own : goal.self_inverse_in-requires-clause-own
 self_inverse_in-requires-clause-own c = search (rules, own_start)
-
-pub returns : goal.returns
-returns c = search (rules, inverted_end)

@@ -1,16 +1,12 @@
--- `chain_length`: the records passed and those still to come are the chain's.
-use borrow.Author.Rules.{rules}
-use Rattle.rules.specs.WordLaws.{count_start, count_end, count_on, count_full}
+-- `chain_length`: as many as the chain has.
+use Rattle.std.proofs.Common.{arith, inl, ap, length}
+use Rattle.std.proofs.lemmas.Iterator.Consumers.{count_from_yields_List, YieldsList-from_first}
+use Rattle.rules.specs.Sheet.{chain}
+use Rattle.words.specs.Chain.{chain_within}
 use Rattle.words.proofs.chain_length.Goals as goal
 
-pub loop-n-init : goal.loop-n-init
-loop-n-init c = search (rules, count_start)
-
-pub returns-then-i-eq0 : goal.returns-then-i-eq0
-returns-then-i-eq0 c = search (rules, count_end)
-
-pub loop-n-preserved : goal.loop-n-preserved
-loop-n-preserved c = search (rules, count_on)
+pub count-requires-clause-fits : goal.count-requires-clause-fits
+count-requires-clause-fits c = inl (omega (arith, chain_within c.args.s.now c.args.head, ap length c.records.ensures))
 
 pub returns : goal.returns
-returns c = search (rules, count_full)
+returns c = count_from_yields_List c.records.result _ c.count.ensures.ran (YieldsList-from_first (λ x. x) (λ places. places) (chain c.args.s.now c.args.head) c.records.ensures)

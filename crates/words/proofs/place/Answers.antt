@@ -1,19 +1,15 @@
--- `place` walks the chain: what is left of it holds the record at what is left of the position.
-use borrow.Author.Rules.{rules}
-use Rattle.rules.specs.WordLaws.{walk_start, walk_spent, walk_end, walk_here, walk_on}
+-- `place`: the record that the chain has at the position.
+use Rattle.std.proofs.Common.{◌∙◌, ap, sym}
+use Rattle.std.proofs.lemmas.Option.{unwrap_or-slice_get}
+use Rattle.std.proofs.lemmas.Iterator.Adapters.{option_map_id}
+use Rattle.std.proofs.lemmas.Iterator.Consumers.{nth_from_yields_List, YieldsList-from_first}
+use Rattle.std.specs.Option.{unwrap_or}
+use Rattle.rules.specs.Sheet.{chain}
 use Rattle.words.proofs.place.Goals as goal
 
-pub loop-left-init : goal.loop-left-init
-loop-left-init c = search (rules, walk_start)
-
-pub returns-then-i-eq0 : goal.returns-then-i-eq0
-returns-then-i-eq0 c = search (rules, walk_end)
-
-pub returns-then-k-eq0 : goal.returns-then-k-eq0
-returns-then-k-eq0 c = search (rules, walk_here)
-
-pub loop-left-preserved : goal.loop-left-preserved
-loop-left-preserved c = search (rules, walk_on)
-
 pub returns : goal.returns
-returns c = search (rules, walk_spent)
+returns c =
+    c.unwrap_or.ensures
+    ∙ ap (λ o. unwrap_or o 0) (sym (option_map_id c.nth.result)
+    ∙ nth_from_yields_List {s = c.records.result} c.nth.result c.nth.new.self c.args.id c.nth.ensures.ran (YieldsList-from_first (λ x. x) (λ places. places) (chain c.args.s.now c.args.head) c.records.ensures))
+    ∙ unwrap_or-slice_get (chain c.args.s.now c.args.head) c.args.id 0

@@ -1,6 +1,6 @@
--- `all_questions`: the questions are behind one another.
-use Rattle.std.proofs.Common.{◌-◌}
+-- `all_questions`: fewer arguments are left each time.
+use Rattle.std.proofs.Common.{length}
 use Rattle.ask.proofs.arguments.all_questions.Given as goal
 
-abbrev pub decreases-loop-at : goal.decreases-loop-at
-decreases-loop-at l = l.end - l.at
+abbrev pub decreases-loop-rest : goal.decreases-loop-rest
+decreases-loop-rest l = length l.rest

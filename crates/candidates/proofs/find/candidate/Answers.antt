@@ -1,5 +1,5 @@
 -- `candidate`: the cases of the first test.
-use Rattle.std.proofs.Common.{rules}
+use Rattle.std.proofs.Common.{rules, ◌∙◌}
 use Rattle.candidates.specs.Find.{tested_yes, tested_no}
 use Rattle.candidates.proofs.find.candidate.Goals as goal
 
@@ -7,4 +7,4 @@ pub returns-then-wanted : goal.returns-then-wanted
 returns-then-wanted c = search (rules, tested_yes)
 
 pub returns-else-wanted : goal.returns-else-wanted
-returns-else-wanted c = search (rules, tested_no)
+returns-else-wanted c = c.if-wanted.false ∙ search (rules, tested_no)

@@ -1,16 +1,12 @@
--- `next_admitted`: none so far.
-use Rattle.std.proofs.Common.{rules}
-use Rattle.candidates.specs.Find.{admitted_start, admitted-found, admitted_on, admitted_end}
+-- `next_admitted`: the first id that the set has.
+use Rattle.std.proofs.Common.{rules, tests, ◌≡◌, true, false, ◌+◌, ◌*◌}
+use Rattle.std.proofs.lemmas.Iterator.{first_from_Range}
+use Rattle.candidates.specs.Layout.{rows_sets}
+use Rattle.candidates.specs.Bits.{on}
+use Rattle.candidates.specs.Find.{admitted_from}
 use Rattle.candidates.proofs.find.next_admitted.Goals as goal
 
-pub loop-i-init : goal.loop-i-init
-loop-i-init c = search (rules, admitted_start)
-
-pub returns-then-on : goal.returns-then-on
-returns-then-on c = search (rules, admitted-found)
-
-pub loop-i-preserved : goal.loop-i-preserved
-loop-i-preserved c = search (rules, admitted_on)
-
 pub returns : goal.returns
-returns c = search (rules, admitted_end)
+returns c =
+    let has = on c.args.ws.now (rows_sets + 12 * c.args.node) in
+    admitted_from _ _ _ _ _ _ c.impls.ensures (first_from_Range _ _ _ c.find.result (λ i. has i ≡ true) (λ i. has i ≡ false) c.find.ensures.ran (λ x q k. search (rules, tests)) (λ x q k. search (rules, tests)))

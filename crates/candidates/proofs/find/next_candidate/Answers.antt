@@ -1,16 +1,10 @@
--- `next_candidate`: none so far.
-use Rattle.std.proofs.Common.{rules}
-use Rattle.candidates.specs.Find.{candidate_start, candidate_found, candidate_on, candidate_end}
+-- `next_candidate`: the first id that passes the test.
+use Rattle.std.proofs.Common.{rules, tests, ◌≡◌, true, false}
+use Rattle.std.proofs.lemmas.Iterator.{first_from_Range}
+use Rattle.candidates.specs.Find.{tested, candidate_from}
 use Rattle.candidates.proofs.find.next_candidate.Goals as goal
 
-pub loop-i-init : goal.loop-i-init
-loop-i-init c = search (rules, candidate_start)
-
-pub returns-then-candidate : goal.returns-then-candidate
-returns-then-candidate c = search (rules, candidate_found)
-
-pub loop-i-preserved : goal.loop-i-preserved
-loop-i-preserved c = search (rules, candidate_on)
-
 pub returns : goal.returns
-returns c = search (rules, candidate_end)
+returns c =
+    let is = tested c.args.s.now c.args.ws.now c.args.nodes.now c.args.t c.args.basic in
+    candidate_from _ _ _ _ _ _ _ _ c.impls.ensures (first_from_Range _ _ _ c.find.result (λ i. is i ≡ true) (λ i. is i ≡ false) c.find.ensures.ran (λ x q k. search (rules, tests)) (λ x q k. search (rules, tests)))

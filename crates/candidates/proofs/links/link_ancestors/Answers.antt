@@ -1,13 +1,13 @@
--- `link_ancestors`: the cases of parent and prelude.
+-- `link_ancestors`: the parent, or the prelude, or neither.
 use Rattle.std.proofs.Common.{rules}
-use Rattle.candidates.specs.Links.{parent-edges, prelude_edges, no_prelude_edges}
+use Rattle.candidates.specs.Links.{parent_at, prelude_at, no_prelude_edges}
 use Rattle.candidates.proofs.links.link_ancestors.Goals as goal
 
-pub returns-then-p-ne0 : goal.returns-then-p-ne0
-returns-then-p-ne0 c = search (rules, parent-edges)
+pub returns-in-Some : goal.returns-in-Some
+returns-in-Some c = search (rules, parent_at)
 
-pub returns-then-q-ne0 : goal.returns-then-q-ne0
-returns-then-q-ne0 c = search (rules, prelude_edges)
+pub returns-in-Some-checked_sub : goal.returns-in-Some-checked_sub
+returns-in-Some-checked_sub c = search (rules, prelude_at)
 
-pub returns-else-q-ne0 : goal.returns-else-q-ne0
-returns-else-q-ne0 c = search (rules, no_prelude_edges)
+pub returns-in_default-checked_sub : goal.returns-in_default-checked_sub
+returns-in_default-checked_sub c = search (rules, no_prelude_edges)

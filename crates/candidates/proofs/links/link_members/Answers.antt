@@ -1,16 +1,12 @@
--- `link_members`: with the edges of the records still to come those of the whole chain are added.
+-- `link_members`: one record more.
 use Rattle.std.proofs.Common.{rules}
-use Rattle.candidates.specs.Links.{linking_on, walking_start, walking_spent, walking_end, walking_on}
+use Rattle.rules.specs.Lists.{concat_map}
+use Rattle.candidates.specs.Links.{linking_on, adds_none, adds_more}
 use Rattle.candidates.proofs.links.link_members.Goals as goal
 
-pub loop-left-init : goal.loop-left-init
-loop-left-init c = search (rules, walking_start)
+pub loop-m-init : goal.loop-m-init
+unfolding concat_map
+loop-m-init c = (search rules, search rules, search (rules, adds_none))
 
-pub returns-then-i-eq0 : goal.returns-then-i-eq0
-returns-then-i-eq0 c = search (rules, walking_end)
-
-pub loop-left-preserved : goal.loop-left-preserved
-loop-left-preserved c = (search rules, search (rules, linking_on), search (rules, walking_on))
-
-pub returns : goal.returns
-returns c = search (rules, walking_spent)
+pub loop-m-preserved : goal.loop-m-preserved
+loop-m-preserved c = (search rules, search (rules, linking_on), search (rules, adds_more))

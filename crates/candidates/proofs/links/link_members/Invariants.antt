@@ -1,11 +1,9 @@
--- `link_members`: with the edges of the records still to come those of the whole chain are added.
+-- `link_members`: the edges of the records so far are added.
 use Rattle.std.proofs.Common.{◌≡◌, length}
+use Rattle.rules.specs.Lists.{concat_map}
 use Rattle.rules.specs.Candidates.{member_edges}
-use Rattle.candidates.specs.Links.{Linking, Walking}
+use Rattle.candidates.specs.Links.{Linking, Adds}
 use Rattle.candidates.proofs.links.link_members.Given as goal
 
-abbrev pub invariant-loop-left : goal.invariant-loop-left
-invariant-loop-left l = (length l.ws ≡ length l.initial.ws) × Linking l.x l.s l.ws × Walking (member_edges l.s) l.x l.s l.head l.initial.ws l.ws l.i l.left
-
-abbrev pub decreases-loop-left : goal.decreases-loop-left
-decreases-loop-left l = l.left
+abbrev pub invariant-loop-m : goal.invariant-loop-m
+invariant-loop-m l = (length l.ws ≡ length l.initial.ws) × Linking l.x l.s l.ws × Adds l.x (concat_map (member_edges l.s) l.yielded) l.initial.ws l.ws

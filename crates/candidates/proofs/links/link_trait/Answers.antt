@@ -1,10 +1,10 @@
--- `link_trait`: the cases of a trait?.
+-- `link_trait`: a trait, or none.
 use Rattle.std.proofs.Common.{rules}
-use Rattle.candidates.specs.Links.{trait_none, trait_some}
+use Rattle.candidates.specs.Links.{trait_none, trait_at}
 use Rattle.candidates.proofs.links.link_trait.Goals as goal
 
-pub returns-then-t-eq0 : goal.returns-then-t-eq0
-returns-then-t-eq0 c = search (rules, trait_none)
+pub returns-in-Some : goal.returns-in-Some
+returns-in-Some c = search (rules, trait_at)
 
-pub returns : goal.returns
-returns c = search (rules, trait_some)
+pub returns-in_default : goal.returns-in_default
+returns-in_default c = search (rules, trait_none)

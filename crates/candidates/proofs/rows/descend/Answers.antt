@@ -1,13 +1,10 @@
--- `descend`: rows grow with each visit.
+-- `descend`: rows grow.
 use Rattle.std.proofs.Common.{rules}
-use Rattle.candidates.specs.Spread.{settling_none, settling_room, settling_more}
+use Rattle.candidates.specs.Spread.{settling_none, settling_more}
 use Rattle.candidates.proofs.rows.descend.Goals as goal
 
 pub loop-x-init : goal.loop-x-init
-loop-x-init c = (search rules, search rules, search (rules, settling_none))
-
-pub visit-requires : goal.visit-requires
-visit-requires c = (search (rules, settling_room), search rules)
+loop-x-init c = search (rules, settling_none)
 
 pub loop-x-preserved : goal.loop-x-preserved
-loop-x-preserved c = (search rules, search rules, search (rules, settling_more))
+loop-x-preserved c = (search rules, search (rules, settling_more))

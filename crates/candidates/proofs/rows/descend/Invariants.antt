@@ -1,10 +1,7 @@
--- `descend`: rows grow with each visit.
-use Rattle.std.proofs.Common.{◌-◌, ◌≡◌, length}
+-- `descend`: rows grow.
+use Rattle.std.proofs.Common.{◌≡◌, length}
 use Rattle.candidates.specs.Spread.{Settling}
 use Rattle.candidates.proofs.rows.descend.Given as goal
 
 abbrev pub invariant-loop-x : goal.invariant-loop-x
-invariant-loop-x l = (length l.ws ≡ length l.initial.ws) × (1540 ≡ length l.t) × Settling l.n l.m l.initial.ws l.ws
-
-abbrev pub decreases-loop-x : goal.decreases-loop-x
-decreases-loop-x l = l.n - l.x
+invariant-loop-x l = (length l.ws ≡ length l.initial.ws) × Settling l.n l.m l.initial.ws l.ws

@@ -1,10 +1,10 @@
--- `gather`: the nodes below y have been looked at.
+-- `gather`: what the nodes before the next have is taken.
 use Rattle.std.proofs.Common.{◌-◌, ◌≡◌, length}
-use Rattle.candidates.specs.Spread.{Taking}
+use Rattle.candidates.specs.Spread.{or_end, Below, Taking}
 use Rattle.candidates.proofs.rows.gather.Given as goal
 
-abbrev pub invariant-loop-y : goal.invariant-loop-y
-invariant-loop-y l = (length l.ws ≡ length l.initial.ws) × Taking l.n l.m l.x l.y l.initial.ws l.ws l.changed
+abbrev pub invariant-loop-next : goal.invariant-loop-next
+invariant-loop-next l = (length l.ws ≡ length l.initial.ws) × Below l.n l.next × Taking l.n l.m l.x (or_end l.n l.next) l.initial.ws l.ws l.changed
 
-abbrev pub decreases-loop-y : goal.decreases-loop-y
-decreases-loop-y l = l.n - l.y
+abbrev pub decreases-loop-next : goal.decreases-loop-next
+decreases-loop-next l = l.n - or_end l.n l.next

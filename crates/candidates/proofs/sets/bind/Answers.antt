@@ -2,15 +2,15 @@
 use Rattle.std.proofs.Common.{rules}
 use Rattle.candidates.specs.Sets.{bind_past, bind_shut, bind_kept, bind_entered}
 use Rattle.candidates.proofs.sets.bind.Goals as goal
-
-pub returns-then-i-ge384 : goal.returns-then-i-ge384
-returns-then-i-ge384 c = search (rules, bind_past)
+use Rattle.candidates.proofs.sets.bind.Goals.{else-i-lt-NODES-via-then-i-lt-NODES+then-open+else-may_enter, else-i-lt-NODES-via-then-i-lt-NODES+else-open, else-i-lt-NODES-via-else-i-lt-NODES}
 
 pub returns-then-may_enter : goal.returns-then-may_enter
 returns-then-may_enter c = search (rules, bind_entered)
 
-pub returns-else-may_enter : goal.returns-else-may_enter
-returns-else-may_enter c = search (rules, bind_kept)
-
-pub returns-else-open : goal.returns-else-open
-returns-else-open c = search (rules, bind_shut)
+pub returns-else-i-lt-NODES : goal.returns-else-i-lt-NODES
+returns-else-i-lt-NODES c =
+    elim c.else-i-lt-NODES.branch [
+      | else-i-lt-NODES-via-then-i-lt-NODES+then-open+else-may_enter w ↦ search (rules, bind_kept)
+      | else-i-lt-NODES-via-then-i-lt-NODES+else-open w ↦ search (rules, bind_shut)
+      | else-i-lt-NODES-via-else-i-lt-NODES w ↦ search (rules, bind_past)
+    ]

@@ -1,16 +1,10 @@
--- `bind_chain`: with the bindings still to come those of the whole chain are entered.
+-- `bind_chain`: one binding more.
 use Rattle.std.proofs.Common.{rules}
-use Rattle.candidates.specs.Sets.{binding_on, walking_start, walking_spent, walking_end, walking_on}
+use Rattle.candidates.specs.Sets.{binding_on, enters_none, enters_more}
 use Rattle.candidates.proofs.sets.bind_chain.Goals as goal
 
-pub loop-left-init : goal.loop-left-init
-loop-left-init c = search (rules, walking_start)
+pub loop-b-init : goal.loop-b-init
+loop-b-init c = (search rules, search rules, search (rules, enters_none))
 
-pub returns-then-i-eq0 : goal.returns-then-i-eq0
-returns-then-i-eq0 c = search (rules, walking_end)
-
-pub loop-left-preserved : goal.loop-left-preserved
-loop-left-preserved c = (search rules, search (rules, binding_on), search (rules, walking_on))
-
-pub returns : goal.returns
-returns c = search (rules, walking_spent)
+pub loop-b-preserved : goal.loop-b-preserved
+loop-b-preserved c = (search rules, search (rules, binding_on), search (rules, enters_more))

@@ -1,13 +1,14 @@
 -- `may_enter`: the cases of flags and trait?.
-use Rattle.std.proofs.Common.{rules}
-use Rattle.candidates.specs.Sets.{enter_manual, enter_unsafe, enter_trait}
+use Rattle.std.proofs.lemmas.Grind.{common_steps}
+use Rattle.std.proofs.Common.{arith}
+use Rattle.rules.specs.Candidates.{may_enter}
+use Rattle.rules.specs.Sheet.{impl_trait}
 use Rattle.candidates.proofs.sets.may_enter.Goals as goal
 
-pub returns-then-flags-eq1 : goal.returns-then-flags-eq1
-returns-then-flags-eq1 c = search (rules, enter_manual)
+pub returns-then-not-impl_flag-2 : goal.returns-then-not-impl_flag-2
+unfolding may_enter impl_trait
+returns-then-not-impl_flag-2 c = grind (arith, common_steps)
 
-pub returns-then-flags-eq1-2 : goal.returns-then-flags-eq1-2
-returns-then-flags-eq1-2 c = search (rules, enter_unsafe)
-
-pub returns : goal.returns
-returns c = search (rules, enter_trait)
+pub returns-else-not-impl_flag-2 : goal.returns-else-not-impl_flag-2
+unfolding may_enter impl_trait
+returns-else-not-impl_flag-2 c = grind (arith, common_steps)

@@ -1,6 +1,6 @@
 -- `get_member`: a child names its definition, an import what it is resolved to.
-use Rattle.chart.specs.Scope.{child_member, import_member}
 use borrow.Author.Rules.{rules}
+use Rattle.chart.specs.Scope.{child_member, import_member}
 use Rattle.chart.proofs.scope.get_member.Goals as goal
 
 pub returns-then-field_at-eq0 : goal.returns-then-field_at-eq0

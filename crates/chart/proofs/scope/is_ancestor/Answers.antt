@@ -1,19 +1,12 @@
--- `is_ancestor` walks from child to parent: what is sought stands among those still to come.
-use Rattle.chart.specs.Scope.{ancestors_start, ancestors_spent, ancestors_here, ancestors_top, ancestors_on}
-use borrow.Author.Rules.{rules}
+-- `is_ancestor`: it stands among the ancestors.
+use Rattle.std.proofs.Common.{rules, tests, ◌∙◌, eqb}
+use Rattle.std.proofs.lemmas.Iterator.Consumers.{YieldsList-from_first}
+use Rattle.std.proofs.lemmas.Iterator.Search.{any_from_yields_List}
+use Rattle.rules.specs.Candidates.{ancestors}
+use Rattle.chart.specs.Tests.{in_listed}
 use Rattle.chart.proofs.scope.is_ancestor.Goals as goal
 
-pub loop-left-init : goal.loop-left-init
-loop-left-init c = search (rules, ancestors_start)
-
-pub returns-then-d-a : goal.returns-then-d-a
-returns-then-d-a c = search (rules, ancestors_here)
-
-pub returns-then-p-eq0 : goal.returns-then-p-eq0
-returns-then-p-eq0 c = search (rules, ancestors_top)
-
-pub loop-left-preserved : goal.loop-left-preserved
-loop-left-preserved c = search (rules, ancestors_on)
-
 pub returns : goal.returns
-returns c = search (rules, ancestors_spent)
+returns c =
+    any_from_yields_List (λ d. eqb c.args.a d) _ _ _ c.any.ensures.ran (YieldsList-from_first (λ x. x) (λ ds. ds) (ancestors c.args.s.now c.args.src) c.ancestors.ensures) (λ x b q k. search (rules, tests))
+    ∙ in_listed c.args.a (ancestors c.args.s.now c.args.src)

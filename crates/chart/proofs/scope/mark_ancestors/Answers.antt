@@ -1,10 +1,7 @@
--- `mark_ancestors`: words cleared, then marked.
-use Rattle.chart.specs.Ancestors.{blank_self, ancestors-made}
-use borrow.Author.Rules.{rules}
+-- `mark_ancestors`: the words of the definitions are marked.
+use Rattle.std.proofs.Common.{rules, arith}
+use Rattle.chart.specs.Ancestors.{ancestors-made}
 use Rattle.chart.proofs.scope.mark_ancestors.Goals as goal
 
-pub mark_up-requires : goal.mark_up-requires
-mark_up-requires c = search (rules, blank_self)
-
 pub returns : goal.returns
-returns c = search (rules, ancestors-made)
+returns c = ancestors-made _ _ _ _ _ _ (omega arith) c.requires (search rules) (search rules)

@@ -18,11 +18,5 @@ decreases-within l = 4 * l.left
 abbrev pub invariant-among-loop-j : goal.invariant-among-loop-j
 invariant-among-loop-j l = Kept l.initial.marks l.marks
 
-abbrev pub decreases-among-loop-j : goal.decreases-among-loop-j
-decreases-among-loop-j l = l.n - l.j
-
-abbrev pub invariant-among_cells-loop-c : goal.invariant-among_cells-loop-c
-invariant-among_cells-loop-c l = Passes l.sheet l.head l.initial.marks l.marks l.c l.j
-
-abbrev pub decreases-among_cells-loop-c : goal.decreases-among_cells-loop-c
-decreases-among_cells-loop-c l = 8 - l.j
+abbrev pub invariant-among_cells-loop-j : goal.invariant-among_cells-loop-j
+invariant-among_cells-loop-j l = Passes l.sheet l.head l.initial.marks l.marks l.c l.j

@@ -1,4 +1,4 @@
--- `cyclic`: unknowns and type parameters, then the records.
+-- `cyclic`: from any ref.
 use Rattle.std.proofs.Common.{rules}
 use Rattle.clash.specs.Cycles.{cyclic_first, cyclic_then}
 use Rattle.clash.proofs.cycles.cyclic.Goals as goal

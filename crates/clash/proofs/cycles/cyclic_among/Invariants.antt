@@ -3,8 +3,5 @@ use Rattle.std.proofs.Common.{◌-◌}
 use Rattle.clash.specs.Cycles.{Kept}
 use Rattle.clash.proofs.cycles.cyclic_among.Given as goal
 
-abbrev pub invariant-loop-k : goal.invariant-loop-k
-invariant-loop-k l = Kept l.initial.marks l.marks
-
-abbrev pub decreases-loop-k : goal.decreases-loop-k
-decreases-loop-k l = l.n - l.k
+abbrev pub invariant-loop-r : goal.invariant-loop-r
+invariant-loop-r l = Kept l.initial.marks l.marks

@@ -1,19 +1,14 @@
 -- `id_fits`, kind by kind.
-use Rattle.std.proofs.Common.{rules}
-use Rattle.values.specs.Known.{id_param, id_fn, id_key, id_none, id_owned}
+use Rattle.std.proofs.Common.{rules, refl}
+use Rattle.chart.specs.Numbers.{kind_apart}
+use Rattle.values.specs.Known.{id_param, id_fn, id_key, id_owned}
 use Rattle.values.proofs.fits.id_fits.Goals as goal
 
-pub returns-then-k-eq-KIND_PARAM : goal.returns-then-k-eq-KIND_PARAM
-returns-then-k-eq-KIND_PARAM c = search (rules, id_param)
+pub returns-in-Param : goal.returns-in-Param
+returns-in-Param c = search (rules, id_param)
 
-pub returns-then-k-eq-KIND_FN : goal.returns-then-k-eq-KIND_FN
-returns-then-k-eq-KIND_FN c = search (rules, id_fn)
+pub returns-in-Fn : goal.returns-in-Fn
+returns-in-Fn c = search (rules, id_fn, id_key)
 
-pub returns-then-k-eq-KIND_KEY : goal.returns-then-k-eq-KIND_KEY
-returns-then-k-eq-KIND_KEY c = search (rules, id_key)
-
-pub returns-then-h-eq0 : goal.returns-then-h-eq0
-returns-then-h-eq0 c = search (rules, id_none)
-
-pub returns : goal.returns
-returns c = search (rules, id_owned)
+pub returns-in_default : goal.returns-in_default
+returns-in_default c = id_owned _ _ _ _ (kind_apart _ _ _ refl c.in_default.not-Param) (kind_apart _ _ _ refl c.in_default.not-Fn) (kind_apart _ _ _ refl c.in_default.not-Key) c.owned.ensures

@@ -1,10 +1,10 @@
--- `longer`: by whether there is room for one more.
-use Rattle.std.proofs.Common.{rules}
+-- `longer`: up to the size of a slice.
+use borrow.Author.Rules.{rules}
 use Rattle.values.specs.Folds.{longer_up, longer_full}
 use Rattle.values.proofs.folds.longer.Goals as goal
 
 pub returns-then-m-lt-PLANE_WORD : goal.returns-then-m-lt-PLANE_WORD
 returns-then-m-lt-PLANE_WORD c = search (rules, longer_up)
 
-pub returns : goal.returns
-returns c = search (rules, longer_full)
+pub returns-else-m-lt-PLANE_WORD : goal.returns-else-m-lt-PLANE_WORD
+returns-else-m-lt-PLANE_WORD c = search (rules, longer_full)

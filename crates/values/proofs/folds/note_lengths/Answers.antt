@@ -1,13 +1,9 @@
--- `note_lengths`: all that lies further on is noted.
-use Rattle.std.proofs.Common.{rules}
-use Rattle.values.specs.Folds.{fold-none, fold_done, lengths_more}
+-- `note_lengths`: one more than its next.
+use Rattle.std.proofs.Common.{rules, ◌≡◌, ◌∙◌}
+use Rattle.values.specs.Folds.{longer, chain_length, length_none, length_right}
 use Rattle.values.proofs.folds.note_lengths.Goals as goal
 
-pub loop-i-init : goal.loop-i-init
-loop-i-init c = search (rules, fold-none)
-
-pub loop-i-preserved : goal.loop-i-preserved
-loop-i-preserved c = search (rules, lengths_more)
-
 pub returns : goal.returns
-returns c = search (rules, fold_done)
+returns c =
+    c.note.ensures (chain_length c.args.s.now) (length_none c.args.s.now)
+    (λ us i m r k p o e q. let z : r ≡ longer m = search rules in z ∙ length_right c.args.s.now i m c.requires.0 p o e)

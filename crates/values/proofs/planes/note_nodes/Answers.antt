@@ -1,17 +1,17 @@
--- `note_nodes`: all that lies further on is noted.
-use Rattle.std.proofs.Common.{rules}
-use Rattle.values.specs.Folds.{fold-none}
-use Rattle.values.specs.Tables.{known_fold, nodes_more, most-made}
+-- `note_nodes`: the most of the chain from a place, from the record there and its next.
+use Rattle.std.proofs.Common.{rules, arith, ◌≡◌, max}
+use Rattle.values.specs.Value.{node_mark, node-same}
+use Rattle.values.specs.Folds.{chain_most, most-none, most_step}
+use Rattle.values.specs.Tables.{plane_cores, plane_lengths, known_below, most-made}
 use Rattle.values.proofs.planes.note_nodes.Goals as goal
 
-pub loop-i-init : goal.loop-i-init
-loop-i-init c = search (rules, fold-none)
-
-pub node_mark-v-requires : goal.node_mark-v-requires
-node_mark-v-requires c = search (rules, known_fold)
-
-pub loop-i-preserved : goal.loop-i-preserved
-loop-i-preserved c = search (rules, nodes_more)
+pub note-requires : goal.note-requires
+note-requires c = record { room = search rules; runs = λ us i m k. let known = known_below _ _ _ us.now plane_cores c.requires (omega arith) k in search rules }
 
 pub returns : goal.returns
-returns c = search (rules, most-made)
+returns c =
+    let f = node_mark c.args.s.now c.args.w.now c.args.ws.now plane_lengths in
+    let w = c.args.w.now in
+    most-made _ _ _ _ c.requires f plane_cores 1 (omega arith) (omega arith)
+    (c.note.ensures (chain_most f w) (most-none f w)
+    (λ us i m r k p o e q. let z : r ≡ max (node_mark c.args.s.now c.args.w.now us.now plane_lengths i) m = search rules in most_step f w i m _ r p o e (node-same _ _ _ plane_cores (omega arith) k.same c.args.s.now c.args.w.now i) z))

@@ -1,11 +1,7 @@
 -- `note_counts`: so many header words are counted.
-use Rattle.std.proofs.Common.{◌-◌, ◌≡◌, length}
-use Rattle.rules.specs.Layout.{header_length}
+use Rattle.std.proofs.Common.{◌≡◌, length}
 use Rattle.values.specs.Tables.{Counted}
 use Rattle.values.proofs.prepare.note_counts.Given as goal
 
 abbrev pub invariant-loop-h : goal.invariant-loop-h
 invariant-loop-h l = (length l.ws ≡ length l.initial.ws) × Counted l.s l.h l.ws
-
-abbrev pub decreases-loop-h : goal.decreases-loop-h
-decreases-loop-h l = header_length - l.h

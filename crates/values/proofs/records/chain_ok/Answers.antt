@@ -1,23 +1,28 @@
--- `chain_ok`: the records still to come decide.
-use Rattle.std.proofs.Common.{rules}
-use Rattle.values.specs.Verdict.{walk_begin, walk_out, walk-last, walk_member, walk_stop, walk_more}
-use borrow.Author.Tests.{not-true, not-false}
+-- `chain_ok`: the records that are left decide.
+use Rattle.std.proofs.Common.{rules, inl, arith, ap, length, ◌∙◌}
+use Rattle.std.specs.Iterator.Adapters.{enumerate_source, enumerate_count}
+use Rattle.chart.specs.Index.{chain-within}
+use Rattle.values.specs.Verdict.{walk_begin, walk_member, walk_stop, walk_more, walk_out}
 use Rattle.values.proofs.records.chain_ok.Goals as goal
 
-pub loop-left-init : goal.loop-left-init
-loop-left-init c = search (rules, walk_begin)
+pub loop-d-init-derived : goal.loop-d-init-derived
+loop-d-init-derived c =
+    let fits = ap length (c.enumerate-d-items.ensures.source ∙ c.records.ensures) in
+    ((tt, tt, inl (rw c.into_iter-d-iterator.ensures.into_iter_gives (omega (arith, chain-within c.args.s.now c.next.result, fits, c.enumerate-d-items.ensures.count)))), tt)
 
-pub returns-then-i-eq0 : goal.returns-then-i-eq0
-returns-then-i-eq0 c = search (rules, walk-last)
+pub loop-d-init : goal.loop-d-init
+loop-d-init c =
+    let made = c.into_iter-d-iterator.ensures.into_iter_gives in
+    walk_begin _ _ _ _ _ (ap enumerate_count made ∙ c.enumerate-d-items.ensures.count) c.next.ensures (ap enumerate_source made ∙ c.enumerate-d-items.ensures.source ∙ c.records.ensures)
 
 pub record_ok-requires : goal.record_ok-requires
-record_ok-requires c = search (rules, walk_member)
+record_ok-requires c = (c.requires.0, walk_member _ _ _ _ c.loop-d.invariant _ _ c.in-Some.ensures.steps.0 c.requires.1)
 
 pub returns-then-not-record_ok : goal.returns-then-not-record_ok
-returns-then-not-record_ok c = search (rules, walk_stop, not-true)
+returns-then-not-record_ok c = walk_stop _ _ _ _ c.loop-d.invariant _ _ c.in-Some.ensures.steps.0 _ _ c.in-Some.ensures.steps.1 c.record_ok.ensures (search rules)
 
-pub loop-left-preserved : goal.loop-left-preserved
-loop-left-preserved c = search (rules, walk_more, not-false)
+pub loop-d-preserved : goal.loop-d-preserved
+loop-d-preserved c = walk_more _ _ _ _ c.loop-d.invariant _ _ c.in-Some.ensures.steps.0 _ _ c.in-Some.ensures.steps.1 c.record_ok.ensures _ c.in-Some.ensures.steps.2 (search rules)
 
 pub returns : goal.returns
 returns c = search (rules, walk_out)

@@ -1,9 +1,7 @@
--- `chain_ok`: the records still to come decide.
+-- `chain_ok`: the records that are left decide.
+use Rattle.std.specs.Iterator.Adapters.{enumerate_source, enumerate_count}
 use Rattle.values.specs.Verdict.{Walk}
 use Rattle.values.proofs.records.chain_ok.Given as goal
 
-abbrev pub invariant-loop-left : goal.invariant-loop-left
-invariant-loop-left l = Walk l.s l.h l.d l.left l.i
-
-abbrev pub decreases-loop-left : goal.decreases-loop-left
-decreases-loop-left l = l.left
+abbrev pub invariant-loop-d : goal.invariant-loop-d
+invariant-loop-d l = Walk l.s l.h (enumerate_count l.d-iterator) (enumerate_source l.d-iterator)

@@ -1,14 +1,9 @@
--- `chains_ok`: the chains still to come decide.
-use Rattle.std.proofs.Common.{rules}
-use borrow.Author.Tests.{not-true, not-false}
-use Rattle.values.specs.Verdict.{chains_done, chains_stop, chains_more}
+-- `chains_ok`: one chain after the other.
+use Rattle.std.proofs.Common.{rules, tests, ◌∙◌, refl}
+use Rattle.std.proofs.lemmas.Iterator.{YieldsList-from_range}
+use Rattle.std.proofs.lemmas.Iterator.Search.{all_from_yields_List}
+use Rattle.values.specs.Verdict.{chain_ok, chains_listed}
 use Rattle.values.proofs.records.chains_ok.Goals as goal
 
-pub returns-then-not-chain_ok : goal.returns-then-not-chain_ok
-returns-then-not-chain_ok c = search (rules, chains_stop, not-true)
-
-pub loop-left-preserved : goal.loop-left-preserved
-loop-left-preserved c = search (rules, chains_more, not-false)
-
 pub returns : goal.returns
-returns c = search (rules, chains_done)
+returns c = all_from_yields_List (chain_ok c.args.s.now) _ _ _ c.all.ensures.ran (YieldsList-from_range 1 11 10 refl refl) (λ x b q k. search (rules, tests)) ∙ chains_listed c.args.s.now

@@ -1,7 +1,0 @@
--- `main`: the workspace's length by a law, since so many words are too many to count.
-use Rattle.std.proofs.Common.{ℕ, sym}
-use Rattle.std.proofs.Math.ListN.{length-replicate}
-use Rattle.call_cases.proofs.main.Goals as goal
-
-pub slice_bounds-run_all-end : goal.slice_bounds-run_all-end
-slice_bounds-run_all-end c = sym (length-replicate {0} {A = ℕ} 662794 0)

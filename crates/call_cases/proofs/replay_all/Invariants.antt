@@ -1,9 +1,0 @@
--- `replay_all`: so many cases.
-use Rattle.std.proofs.Common.{◌-◌, ◌≤◌}
-use Rattle.call_cases.proofs.replay_all.Given as goal
-
-abbrev pub invariant-loop-i : goal.invariant-loop-i
-invariant-loop-i g l = l.i ≤ l.n
-
-abbrev pub decreases-loop-i : goal.decreases-loop-i
-decreases-loop-i g l = l.n - l.i

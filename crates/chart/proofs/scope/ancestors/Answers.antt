@@ -1,0 +1,7 @@
+-- `ancestors`: from the source upwards.
+use borrow.Author.Rules.{rules}
+use Rattle.chart.specs.Scope.{upward_from}
+use Rattle.chart.proofs.scope.ancestors.Goals as goal
+
+pub returns : goal.returns
+returns c = search (rules, upward_from)

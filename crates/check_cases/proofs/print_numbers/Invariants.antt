@@ -1,9 +1,0 @@
--- `print_numbers`: fourteen lines.
-use Rattle.std.proofs.Common.{◌-◌, ◌≤◌}
-use Rattle.check_cases.proofs.print_numbers.Given as goal
-
-abbrev pub invariant-loop-k : goal.invariant-loop-k
-invariant-loop-k g l = l.k ≤ 14
-
-abbrev pub decreases-loop-k : goal.decreases-loop-k
-decreases-loop-k g l = 14 - l.k

@@ -1,9 +1,0 @@
--- `skip`: so many words are read.
-use Rattle.std.proofs.Common.{◌-◌, ◌≤◌}
-use Rattle.check_cases.proofs.skip.Given as goal
-
-abbrev pub invariant-loop-i : goal.invariant-loop-i
-invariant-loop-i g l = l.i ≤ l.n
-
-abbrev pub decreases-loop-i : goal.decreases-loop-i
-decreases-loop-i g l = l.n - l.i

@@ -1,9 +1,0 @@
--- `label_linked`: record by record.
-use Rattle.std.proofs.Common.{◌-◌}
-use Rattle.loose.proofs.label_linked.Given as goal
-
-abbrev pub invariant-loop-k : goal.invariant-loop-k
-invariant-loop-k l = Unit {0}
-
-abbrev pub decreases-loop-k : goal.decreases-loop-k
-decreases-loop-k l = l.n - l.k

@@ -1,8 +1,0 @@
--- `witness`: record by record.
-use Rattle.loose.proofs.witness.Goals as goal
-
-pub loop-k-init : goal.loop-k-init
-loop-k-init c = tt
-
-pub loop-k-preserved : goal.loop-k-preserved
-loop-k-preserved c = tt

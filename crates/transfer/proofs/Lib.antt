@@ -1,0 +1,2 @@
+mod Params
+mod Each

@@ -1,9 +1,0 @@
--- `print_steps`: one after the other.
-use Rattle.std.proofs.Common.{◌≤◌, ◌-◌}
-use Rattle.type_cases.proofs.print_steps.Given as goal
-
-abbrev pub invariant-loop-k : goal.invariant-loop-k
-invariant-loop-k g l = l.k ≤ 10
-
-abbrev pub decreases-loop-k : goal.decreases-loop-k
-decreases-loop-k g l = 10 - l.k

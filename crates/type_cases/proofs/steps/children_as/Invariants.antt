@@ -1,9 +1,0 @@
--- `children_as`: one after the other.
-use Rattle.std.proofs.Common.{◌≤◌, ◌-◌}
-use Rattle.type_cases.proofs.steps.children_as.Given as goal
-
-abbrev pub invariant-loop-i : goal.invariant-loop-i
-invariant-loop-i l = l.i ≤ l.m
-
-abbrev pub decreases-loop-i : goal.decreases-loop-i
-decreases-loop-i l = l.m - l.i

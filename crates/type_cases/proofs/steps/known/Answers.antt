@@ -1,0 +1,10 @@
+-- `known`: what was tested fits a node.
+use Rattle.std.proofs.Common.{rules}
+use Rattle.type_cases.specs.Steps.{tested-words, known_pushed}
+use Rattle.type_cases.proofs.steps.known.Goals as goal
+
+pub new_known-requires-clause-type_words : goal.new_known-requires-clause-type_words
+new_known-requires-clause-type_words c = search (rules, tested-words)
+
+pub returns : goal.returns
+returns c = search (rules, known_pushed)
