@@ -14,7 +14,7 @@ ghost use Rattle.acyclic.specs.Walk.{Walking, Walked};
 
 use chart::layout;
 
-// The head of the children of the node at a place: an unknown has none.
+// The head of the children of the node at a place: an unknown has none. One kind alone is told from the others, so its number is compared and no `Kind` made.
 fn children_head(s: &[u32], p: usize) -> usize
     ensures { result ≡ children_head s.now p }
 {
@@ -63,6 +63,8 @@ fn walk(s: &[u32], ws: &mut [u32], head: u32, node: usize, fuel: usize) -> bool
     finish(ws, node);
     true
 }
+
+// Slice and buffer stay two parameters from here on: a struct of both, lent by `&mut`, would have to promise in each contract that the slice stays.
 
 // Whether no type of the table from a head reaches itself, with a buffer as long as the slice.
 fn walk_table(s: &[u32], head: u32, ws: &mut [u32]) -> bool

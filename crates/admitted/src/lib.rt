@@ -10,13 +10,14 @@ ghost use Rattle.candidates.specs.Index.{Indexes};
 ghost use Rattle.admitted.specs.Modules.{listed, Puts, Gathers, inherent_mod};
 ghost use Rattle.admitted.specs.Found.{Stands, Sets, Finds, Gives};
 
-use candidates::{find, index};
+use candidates::find;
+use candidates::index::Records;
 use refusals::Refusal;
 
 // The most nodes that candidates come from: a source's, a trait's, and those of four arguments.
 const MOST: usize = 6;
 
-// Some nodes, of a fixed size: the first n words.
+// Some nodes: the first n words. A length beside a buffer of fixed size, since the search has no heap and copies what is found.
 #[derive(Clone, Copy)]
 pub struct Nodes {
     pub n: usize,
@@ -133,14 +134,16 @@ fn sets(
     requires args_len_bound { length args.now ≤ 4 }
     ensures { Sets s.now src (types_of types.now) t args.now result }
 {
-    let count = index::definitions(s, ws);
+    let records = Records { s, ws };
+    let count = records.definitions();
     let own = Nodes::none().with(general(src));
-    let two = own.with_within(count, index::trait_def(s, ws, t) as usize);
-    let k = (index::inherent(s, ws, t) as usize).min(args.len());
+    let two = own.with_within(count, records.trait_def(t) as usize);
+    let k = (records.inherent(t) as usize).min(args.len());
     put_modules(s, types, &args[..k], two, count)
 }
 
-// `find_impl_candidates`: of a question by its trait?, the type words of its arguments, and basic (1) or not (0).
+// `find_impl_candidates`: of a question by its trait?, the type words of its arguments, and basic (1) or not. Basic stays a word: the call's own is handed on,
+// the contract is for every word, and a bool would ask of each caller to make one.
 pub fn find_impl_candidates(
     s: &[u32],
     ws: &[u32],

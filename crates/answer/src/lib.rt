@@ -25,7 +25,7 @@ fn link(left: usize, p: usize) -> u32
     if left == 0 { 0 } else { p as u32 }
 }
 
-// Writes words from a place on.
+// Writes words from a place on: `copy_from_slice`, with the contract that each record's writer needs.
 fn put(out: &mut [u32], p: usize, from: &[u32])
     requires { p + length from.now ≤ length out.old }
     ensures { Wrote out.old out.new p from.now }
@@ -171,7 +171,8 @@ fn write_body(fork: &[u32], drop: &[u32], table: &[u32], types: &[u32], out: &mu
     write_types(types, out, e)
 }
 
-// Writes the first six words: tree head, drop tree head, table head, words used, inverted, self-inverse. n and m tree nodes and c type nodes follow.
+// Writes the first six words: tree head, drop tree head, table head, words used, inverted, self-inverse. n and m tree nodes and c type nodes follow: the lengths
+// of what was written behind them, of which nothing is read here.
 fn write_head(
     n: usize,
     m: usize,

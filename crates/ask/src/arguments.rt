@@ -4,7 +4,7 @@ ghost use Rattle.std.specs.Prelude.{◌<◌, length, IfSome};
 use crate::failure::Failure;
 use std::alloc::Global;
 
-/// Who asks, and the count of steps that the first question begins with.
+// Who asks, and the count of steps that the first question begins with.
 #[derive(Clone, Copy, Debug, PartialEq, Eq)]
 pub struct Numbers {
     pub source: u32,
@@ -12,28 +12,28 @@ pub struct Numbers {
     pub count: u32,
 }
 
-/// Which call a question is for.
+// Which call a question is for.
 #[derive(Clone, Copy, Debug, PartialEq, Eq)]
 pub enum Call {
     Impl { basic: u32 },
     Flex,
 }
 
-/// A question in a file.
+// A question in a file.
 #[derive(Clone, Copy, Debug)]
 pub struct Question<'a> {
     pub call: Call,
     pub file: &'a str,
 }
 
-/// One question, or those of a sitting.
+// One question, or those of a sitting.
 #[derive(Debug, Drop)]
 pub enum Questions<'a> {
     One(Question<'a>),
     Several(Vec<Question<'a>>),
 }
 
-/// What is asked for; `raw` asks for the words of the answers too.
+// What is asked for; `raw` asks for the words of the answers too.
 #[derive(Debug, Drop)]
 pub struct Asked<'a> {
     pub sheet: &'a str,
@@ -87,7 +87,7 @@ fn first_question(args: &[String]) -> Option<(Question<'_>, &[String])>
     }
 }
 
-// All questions of a sitting; there has to be one.
+// All questions of a sitting; there has to be one. (How many arguments a question takes is known once it is read.)
 fn all_questions(alloc: Global, args: &[String]) -> Result<Vec<Question<'_>>, Failure<'_>> {
     let mut questions = Vec::new(alloc);
     let mut rest = args;
@@ -102,7 +102,7 @@ fn all_questions(alloc: Global, args: &[String]) -> Result<Vec<Question<'_>>, Fa
     Ok(questions)
 }
 
-/// What the arguments ask for.
+// What the arguments ask for.
 pub fn parse(alloc: Global, args: &[String]) -> Result<Asked<'_>, Failure<'_>> {
     let (args, raw) = match args {
         [front @ .., last] if last.as_str() == "raw" => (front, true),

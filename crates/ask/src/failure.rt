@@ -3,7 +3,9 @@ use notation::read::NoWord;
 use std::alloc::AllocFailed;
 use std::io;
 
-/// Why a file gave no words.
+// Below, one `From` for each error that `?` meets: it converts in one step, and no one impl can stand for several types.
+
+// Why a file gave no words.
 #[derive(Debug, Drop)]
 pub enum Unread {
     Io(io::Error),
@@ -28,7 +30,7 @@ impl<T: Drop> From<AllocFailed<T>> for Unread {
     }
 }
 
-/// What ended the program: its arguments are wrong, a file could not be read, or a print failed or memory ran out.
+// What ended the program: its arguments are wrong, a file could not be read, or a print failed or memory ran out.
 #[derive(Debug, Drop)]
 pub enum Failure<'a> {
     Usage,

@@ -4,7 +4,7 @@
 //     ask flex SHEET QUESTION SOURCE GENERICS COUNT [raw]
 //     ask sitting SHEET SOURCE GENERICS COUNT (impl QUESTION BASIC | flex QUESTION).. [raw]
 //
-// Every question is asked in a sitting, by the spent count that it lends: it goes on from one question to the next. The workspace is lent from main's own frame.
+// Every question is asked in a sitting, whose spent count goes on from one question to the next. The workspace is lent from main's own frame.
 #![tactic(auto)]
 
 mod arguments;
@@ -16,8 +16,14 @@ use arguments::{Call, Numbers, Question, Questions};
 use failure::{Failure, Unread};
 use print::{Answered, Refused, Steps};
 use refusals::Refusal;
+use sitting::Sitting;
 use std::rt::Files;
 use std::{env, io};
+
+// One word more than the limit allows is enough to be refused.
+const SHEET: usize = 4097;
+
+const QUESTION: usize = 1025;
 
 const USAGE: &str = "\
 usage: ask impl SHEET QUESTION SOURCE GENERICS BASIC COUNT [raw]
@@ -27,17 +33,17 @@ SHEET and QUESTION are files of decimal words; spaces, line ends and | stand bet
 and # begins a comment. raw prints the answer's words too. The questions of a sitting are asked
 in turn, each from the count of steps that the one before it left; the first from COUNT.";
 
-// What the questions of a sitting share, and the steps spent in it so far.
+// What all questions share, and the sitting that they are asked in.
 #[derive(Drop)]
-struct Sitting<'a> {
+struct Asker<'a> {
     sheet: &'a [u32],
     numbers: Numbers,
     raw: bool,
     workspace: &'a mut [u32],
-    spent: u32,
+    sitting: Sitting,
 }
 
-impl<'a> Sitting<'a> {
+impl<'a> Asker<'a> {
     // Makes a call.
     fn call(&mut self, call: Call, question: &[u32], answer: &mut [u32]) -> Result<(), Refusal> {
         let Numbers {
@@ -47,18 +53,12 @@ impl<'a> Sitting<'a> {
         } = self.numbers;
         let sheet = self.sheet;
         let workspace = &mut *self.workspace;
-        let spent = &mut self.spent;
-        let number = match call {
-            Call::Impl { basic } => sitting::vine_sitting_find_impl(
-                sheet, question, source, generics, basic, answer, workspace, spent,
+        let sitting = &mut self.sitting;
+        match call {
+            Call::Impl { basic } => sitting.find_impl(
+                sheet, question, source, generics, basic, answer, workspace,
             ),
-            Call::Flex => sitting::vine_sitting_find_flex(
-                sheet, question, source, generics, answer, workspace, spent,
-            ),
-        };
-        match Refusal::from_number(number) {
-            Some(refusal) => Err(refusal),
-            None => Ok(()),
+            Call::Flex => sitting.find_flex(sheet, question, source, generics, answer, workspace),
         }
     }
 
@@ -68,13 +68,13 @@ impl<'a> Sitting<'a> {
         rt: &(impl Files + Print + AllocGlobal),
         question: Question<'q>,
     ) -> Result<(), Failure<'q>> {
-        let words = files::read_file(rt, question.file)?;
+        let words = files::read_file(rt, question.file, QUESTION)?;
         let mut answer = [0u32; 10240];
-        let start = self.spent;
+        let start = self.sitting.spent;
         let outcome = self.call(question.call, words.as_slice(), &mut answer);
         let steps = Steps {
             start,
-            count: self.spent,
+            count: self.sitting.spent,
         };
         match outcome {
             Err(refusal) => print!(rt; "{}", Refused { refusal, steps })?,
@@ -101,7 +101,7 @@ impl<'a> Sitting<'a> {
         for (i, question) in questions.iter().enumerate() {
             println!(rt; "question {}", i + 1)?;
             self.ask(rt, *question)?;
-            println!(rt; "spent: {}", self.spent)?;
+            println!(rt; "spent: {}", self.sitting.spent)?;
         }
         Ok(())
     }
@@ -114,17 +114,19 @@ fn run<'a>(
     workspace: &mut [u32],
 ) -> Result<(), Failure<'a>> {
     let asked = arguments::parse(rt.alloc(), args)?;
-    let sheet = files::read_file(rt, asked.sheet)?;
-    let mut sitting = Sitting {
+    let sheet = files::read_file(rt, asked.sheet, SHEET)?;
+    let mut asker = Asker {
         sheet: sheet.as_slice(),
         numbers: asked.numbers,
         raw: asked.raw,
         workspace,
-        spent: asked.numbers.count,
+        sitting: Sitting {
+            spent: asked.numbers.count,
+        },
     };
     match asked.questions {
-        Questions::One(question) => sitting.ask(rt, question),
-        Questions::Several(questions) => sitting.ask_all(rt, questions.as_slice()),
+        Questions::One(question) => asker.ask(rt, question),
+        Questions::Several(questions) => asker.ask_all(rt, questions.as_slice()),
     }
 }
 

@@ -6,7 +6,7 @@ use refusals::Refusal;
 use std::fmt;
 use std::fmt::Write;
 
-/// The steps that a call spent, by the counts before and after it.
+// The steps that a call spent, by the counts before and after it.
 #[derive(Clone, Copy, Debug, PartialEq, Eq)]
 pub struct Steps {
     pub start: u32,
@@ -21,7 +21,7 @@ impl fmt::Display for Steps {
     }
 }
 
-/// A call that was turned away: the number and what it means, and the steps.
+// A call that was turned away: the number and what it means, and the steps.
 #[derive(Clone, Copy, Debug)]
 pub struct Refused {
     pub refusal: Refusal,
@@ -73,7 +73,7 @@ impl<'a> fmt::Display for Line<'a> {
     }
 }
 
-/// A call that was answered: the steps, the trees, the types, and its words where they are asked for.
+// A call that was answered: the steps, the trees, the types, and its words where they are asked for.
 #[derive(Clone, Copy, Debug)]
 pub struct Answered<'a> {
     pub call: Call,

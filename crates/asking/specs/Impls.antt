@@ -1,8 +1,8 @@
 -- The impl call behind its checks: what it relies on, and that it comes to the rules' `impl_within`.
-use Rattle.std.specs.Prelude.{ℕ, ◌≤◌, ◌<◌, ◌≡◌, List, [], ◌∷◌, eqb, ltb, length, take, replicate, Option, Some, None, IsSome, Err}
+use Rattle.std.specs.Prelude.{ℕ, ◌≤◌, ◌<◌, ◌≡◌, List, [], ◌∷◌, eqb, ltb, length, take, replicate, Ok, Err}
 use Rattle.std.specs.Prelude.{Result as Tried}
 use Rattle.std.proofs.Math.Path.{refl, ap}
-use Rattle.std.proofs.Common.{sym, ◌∙◌, subst, ⊎_elim, length-take, get_or-take, rules}
+use Rattle.std.proofs.Common.{sym, ◌∙◌, subst, length-take, get_or-take}
 use Rattle.std.proofs.Math.Option.{none}
 use native.Mathlib.Omega.{arith}
 use Rattle.std.proofs.Math.Dec.{leb, leb→le}
@@ -12,7 +12,6 @@ use Rattle.rules.specs.Limits.{limit_sheet, limit_question, limit_depth}
 use Rattle.rules.specs.Layout.{header_definitions, header_generics}
 use Rattle.rules.specs.Types.{Types, ImplType}
 use Rattle.rules.specs.Run.{Run, Out, within}
-use Rattle.rules.specs.RunLaws.{Between}
 use Rattle.rules.specs.Search.{Result, question}
 use Rattle.rules.specs.Check.{refusal, impl_checks, of_sheet, of_ids}
 use Rattle.rules.specs.CheckLaws.{unrefused, not_not}
@@ -22,22 +21,20 @@ use Rattle.rules.specs.Lists.{holds}
 use Rattle.rules.specs.Calls.{question_types, impl_query, impl_search, impl_within}
 use Rattle.rules.specs.SearchKeeps.{AllKept}
 use Rattle.table.specs.Packing.{types_of, Packed, Becomes}
-use Rattle.refusals.specs.declared.Refusal.{Refusal}
 use Rattle.refusals.specs.declared.Stopped.{Stopped}
-use Rattle.refusals.specs.Numbers.{Reads as Told, end_number, end_count}
-use Rattle.slots.specs.declared.Asked.{Asked}
-use Rattle.slots.specs.declared.Asked.TheVariants.{Found, Refused}
-use Rattle.slots.specs.Turns.{Answers}
+use Rattle.refusals.specs.Numbers.{end_number, end_count}
+use Rattle.slots.specs.declared.Results.{Results}
+use Rattle.slots.specs.Turns.{Asked, count_of, Answers}
 use Rattle.queries.specs.declared.Query.{Query}
 use Rattle.queries.specs.Queries.{query_of}
 use Rattle.queries.specs.Few.{few_query}
 use Rattle.steps.specs.declared.Finder.{Finder}
-use Rattle.steps.specs.Asking.{finder_of, Searching, Asking}
+use Rattle.steps.specs.Asking.{finder_of, Searching}
 use Rattle.loading.specs.Nodes.{Fitting}
 use Rattle.loading.specs.Exports.{Asks, Reads, Exports}
 use Rattle.loading.specs.Checked.{impl_fitting, impl_asks}
-use Rattle.closing.specs.Searched.{search_in, search_number, impl_kept}
-use Rattle.closing.specs.Ends.{Front, IfOne, IfFound, EndsResults, EndsImpl, front_self, results_front, ends_call, ends_refused, ends_found, found_if, searched_one}
+use Rattle.closing.specs.Searched.{impl_kept}
+use Rattle.closing.specs.Ends.{Front, IfOne, EndsResults, EndsImpl, front_self, results_front, ends_call, ends_refused, ends_found, searched_one}
 use Rattle.closing.specs.Ended.{Ends}
 
 -- A question that passed its checks: its table fits, and its query's types are nodes of it.
@@ -90,26 +87,10 @@ new_table = omega arith
 pub new_map : 256 ≤ length (replicate {A = ℕ} 256 0)
 new_map = omega arith
 
-pub new_front : 2564 ≤ length (replicate {A = ℕ} 2564 0)
-new_front = omega arith
-
 -- The count after.
-unfoldable pub count_of : Asked → ℕ
-count_of (Found c n) = c
-count_of (Refused m c) = c
-
-pub count-found : (a : Asked) (c n : ℕ) → a ≡ Found c n → c ≡ count_of a
-unfolding count_of
-count-found a c n e = rw e refl
-
-pub count_refused : (a : Asked) (m c : ℕ) → a ≡ Refused m c → c ≡ count_of a
-unfolding count_of
-count_refused a m c e = rw e refl
-
 count-after : (o : Out (List Result) × ℕ) (a : Asked) (out : Words) → Answers o a out → count_of a ≡ o.1
-unfolding count_of
-count-after o (Found c n) out w = ap (λ (x : Out (List Result) × ℕ). x.1) (sym (w.found c n refl).is)
-count-after o (Refused m c) out w = ap (λ (x : Out (List Result) × ℕ). x.1) (sym (w.refuses m c refl))
+count-after o (Ok h) out w = ap (λ (x : Out (List Result) × ℕ). x.1) (sym (w.found h refl).is)
+count-after o (Err k) out w = ap (λ (x : Out (List Result) × ℕ). x.1) (sym (w.refuses k refl))
 
 module _ (s sets q : Words) (f : Finder) (basic count : ℕ) (h : Impls s sets q f basic) (us vs : Words) (asked : Query) (x : Exports (question_types q) (impl_query q) us asked) (searched : Asked)
     (w : Answers (within (ltb f.limit) (question 16 (finder_of s f) (eqb basic 1) (types_of us) (query_of asked)) count) searched vs) where
@@ -121,34 +102,21 @@ module _ (s sets q : Words) (f : Finder) (basic count : ℕ) (h : Impls s sets q
   answers : Answers (within (ltb f.limit) (impl_search (finder_of s f) (eqb basic 1) q) count) searched vs
   answers = subst (λ (m : Run (List Result)). Answers (within (ltb f.limit) m count) searched vs) (sym searches) w
 
-  pub ask_one : IfFound searched asked vs
-  ask_one = searched_one _ searched vs (types_of us) asked answers
+  pub ask_if_one : (h : Results) → searched ≡ Ok h → IfOne h.n asked vs
+  ask_if_one = searched_one _ searched vs (types_of us) asked answers
       (λ rs e. subst (λ (ts : Types). AllKept ts rs) (ap (λ (y : ImplType × Types). y.1) x.is) (impl_kept (finder_of s f) basic q h.sheet_short h.passed (ltb f.limit) (eqb basic 1) count rs _ (λ i. (e i, (within (ltb f.limit) (impl_search (finder_of s f) (eqb basic 1) q) count).1)))) x.asks
 
   ask_ends : (buf out : Words) (r : Tried ℕ Stopped) → 662794 ≤ length vs → EndsImpl s (question_types q) (impl_query q) (query_of asked) searched vs buf out (end_number r) → end_count r ≡ count_of searched → Ends (impl_within (ltb f.limit) (finder_of s f) (eqb basic 1) q count) buf out r
   unfolding impl_within
   ask_ends buf out r long e k = record {
-    closed = ends_call s q (question_types q) (impl_query q) (query_of asked) searched vs buf out (end_number r) e refl refl (ap (λ (y : ImplType × Types). y.0) (sym x.is)) vs _ (front_self vs (omega arith)) answers
-        (λ m z. search_number (ltb f.limit) 16 (finder_of s f) (eqb basic 1) (types_of us) (query_of asked) count m (ap (λ (y : Run (List Result)). (within (ltb f.limit) y count).0) (sym searches) ∙ z));
+    closed = ends_call s q (question_types q) (impl_query q) (query_of asked) searched vs buf out (end_number r) e refl refl (ap (λ (y : ImplType × Types). y.0) (sym x.is)) vs _ (front_self vs (omega arith)) answers;
     count = k ∙ count-after _ searched vs answers;
   }
 
-  -- n results, and what they come to.
-  module _ (c n : ℕ) (e : searched ≡ Found c n) where
-    pub ask_if_one : IfOne n asked vs
-    ask_if_one = found_if searched asked vs c n ask_one e
+  -- Results, and what they come to.
+  pub ask_answers : (k : Results) → searched ≡ Ok k → (buf out : Words) (v : ℕ) (r : Tried ℕ Stopped) → 662794 ≤ length vs → EndsResults s (question_types q) (impl_query q) (query_of asked) k.n vs buf out v → end_number r ≡ v → end_count r ≡ k.count → Ends (impl_within (ltb f.limit) (finder_of s f) (eqb basic 1) q count) buf out r
+  ask_answers k e buf out v r long z en ec = ask_ends buf out r long (subst (λ i. EndsImpl s (question_types q) (impl_query q) (query_of asked) searched vs buf out i) (sym en) (ends_found s (question_types q) (impl_query q) (query_of asked) searched vs buf out k v e z)) (ec ∙ ap count_of (sym e))
 
-    pub ask_answers : (buf out : Words) (v : ℕ) (r : Tried ℕ Stopped) → 662794 ≤ length vs → EndsResults s (question_types q) (impl_query q) (query_of asked) n vs buf out v → end_number r ≡ v → end_count r ≡ c → Ends (impl_within (ltb f.limit) (finder_of s f) (eqb basic 1) q count) buf out r
-    ask_answers buf out v r long k en ec = ask_ends buf out r long (subst (λ i. EndsImpl s (question_types q) (impl_query q) (query_of asked) searched vs buf out i) (sym en) (ends_found s (question_types q) (impl_query q) (query_of asked) searched vs buf out c n v e k)) (ec ∙ count-found searched c n e)
-
-  -- A refusal, which document 01 has.
-  module _ (m c : ℕ) (e : searched ≡ Refused m c) where
-    ask_in : Between 14 19 m
-    ask_in = search_in (ltb f.limit) 16 (finder_of s f) (eqb basic 1) (types_of us) (query_of asked) count m (ap (λ (o : Out (List Result) × ℕ). o.0) (w.refuses m c e))
-
-    pub ask_told : (o : Option Refusal) → Told m o → IsSome o
-    ask_told None t = absurd (⊎_elim (λ z. let h = ask_in in omega arith) (λ z. let h = ask_in in omega arith) t)
-    ask_told (Some w) t = search rules
-
-    pub ask_refuses : (buf : Words) (o : Option Refusal) (w : Refusal) → 662794 ≤ length vs → Told m o → o ≡ Some w → Ends (impl_within (ltb f.limit) (finder_of s f) (eqb basic 1) q count) buf buf (Err (record { refusal = w; count = c }))
-    ask_refuses buf o w long t d = ask_ends buf buf (Err (record { refusal = w; count = c })) long (subst (λ i. EndsImpl s (question_types q) (impl_query q) (query_of asked) searched vs buf buf i) (sym (subst (λ x. Told m x) d t)) (ends_refused s (question_types q) (impl_query q) (query_of asked) searched vs buf m c e)) (count_refused searched m c e)
+  -- A refusal.
+  pub ask_refuses : (k : Stopped) → searched ≡ Err k → (buf : Words) → 662794 ≤ length vs → Ends (impl_within (ltb f.limit) (finder_of s f) (eqb basic 1) q count) buf buf (Err k)
+  ask_refuses k e buf long = ask_ends buf buf (Err k) long (ends_refused s (question_types q) (impl_query q) (query_of asked) searched vs buf k e) (ap count_of (sym e))

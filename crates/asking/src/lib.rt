@@ -15,7 +15,7 @@ ghost use Rattle.asking.specs.Impls.{Questions, Impls};
 
 use queries::Query;
 use refusals::{Refusal, Stopped};
-use slots::Asked;
+use slots::Results;
 use steps::Finder;
 
 // The words of a type table, and of a mapping of its nodes.
@@ -23,7 +23,7 @@ const TABLE: usize = 1025;
 
 const NODES: usize = 256;
 
-// The words of slots 0 and 1.
+// The words of the question's table and of its first result.
 const FRONT: usize = 2564;
 
 // How deep a search goes.
@@ -42,7 +42,7 @@ fn export_asked(question: &[u32], ws: &mut [u32]) -> Query
     loading::export_question(&table, query, ws, &mut map)
 }
 
-// What n results of the search come to. The search is over: its slice serves the joins' memo, and its first result is kept aside.
+// What n results of the search come to. The search is over: its first result is read, and the slice behind it serves the joins' memo.
 fn end_asked(
     sheet: &[u32],
     question: &[u32],
@@ -53,19 +53,15 @@ fn end_asked(
 ) -> Result<(), Refusal>
     requires questions { Questions question.now }
     requires if_one { IfOne n asked ws.old }
-    requires in_bounds { 2564 ≤ length ws.old }
+    requires in_bounds { 2820 ≤ length ws.old }
     requires limit_answer_in_bounds { limit_answer ≤ length answer.old }
     ensures { EndsResults sheet.now (question_types question.now) (impl_query question.now) (query_of asked) n ws.old answer.old answer.new (verdict_number result) }
 {
-    let mut found = [0u32; FRONT];
-    found.copy_from_slice(&ws[..FRONT]);
+    let (found, memo) = ws.split_at_mut(FRONT);
     let mut table = [0u32; TABLE];
-    let mut out = [0u32; TABLE];
     loading::load_table(question, &mut table);
     let query = loading::read_question(question);
-    closing::end_impl(
-        sheet, query, asked, n, &found, &mut table, &mut out, ws, answer,
-    )
+    closing::end_impl(sheet, query, asked, n, found, &mut table, memo, answer)
 }
 
 // The impl call, once its checks have passed and the sets of its source stand.
@@ -86,14 +82,9 @@ pub fn ask_impl(
     ensures { Ends (impl_within (ltb f.limit) (finder_of sheet.now f) (eqb basic 1) question.now count) answer.old answer.new result }
 {
     let asked = export_asked(question, ws);
-    match finder::question(sheet, sets, ws, f, basic, asked, DEPTH, count) {
-        Asked::Found { count, n } => match end_asked(sheet, question, asked, n, ws, answer) {
-            Ok(()) => Ok(count),
-            Err(refusal) => Err(Stopped { refusal, count }),
-        },
-        Asked::Refused { number, count } => {
-            let refusal = Refusal::from_number(number).unwrap();
-            Err(Stopped { refusal, count })
-        }
+    let Results { n, count } = finder::question(sheet, sets, ws, f, basic, asked, DEPTH, count)?;
+    match end_asked(sheet, question, asked, n, ws, answer) {
+        Ok(()) => Ok(count),
+        Err(refusal) => Err(Stopped { refusal, count }),
     }
 }

@@ -17,18 +17,35 @@ pub struct Leaf {
     pub id: u32,
 }
 
-// Kinds of trees, and of types.
+// The kind of a tree, and kinds of types.
 const DEF: u32 = layout::TREE_DEF as u32;
-
-const FORK_CLOSURE: u32 = layout::TREE_FORK_CLOSURE as u32;
-
-const DROP_CLOSURE: u32 = layout::TREE_DROP_CLOSURE as u32;
 
 const FN: u32 = layout::KIND_FN as u32;
 
 const CLOSURE: u32 = layout::KIND_CLOSURE as u32;
 
 const DEFAULT: u32 = layout::KIND_DEFAULT as u32;
+
+// A trait with built-in impls: the header word of duplicate or erase, the bit of a closure's flex, and the kind of a closure's tree.
+#[derive(Clone, Copy)]
+struct BuiltIn {
+    set: usize,
+    bit: usize,
+    closure: u32,
+    ghost some: { 0 < bit },
+}
+
+const FORK: BuiltIn = BuiltIn {
+    set: layout::DUPLICATE,
+    bit: layout::FLEX_FORK,
+    closure: layout::TREE_FORK_CLOSURE as u32,
+};
+
+const DROP: BuiltIn = BuiltIn {
+    set: layout::ERASE,
+    bit: layout::FLEX_DROP,
+    closure: layout::TREE_DROP_CLOSURE as u32,
+};
 
 // duplicate or erase, where header word h has it.
 fn set_impl(s: &[u32], h: usize) -> Option<Leaf>
@@ -38,36 +55,29 @@ fn set_impl(s: &[u32], h: usize) -> Option<Leaf>
     Some(Leaf { kind: DEF, id })
 }
 
-// A closure's own, where its flex has that bit.
-fn closure_impl(s: &[u32], bit: usize, kind: u32, id: u32) -> Option<Leaf>
-    requires { 0 < bit }
-    ensures { leaves result ≡ own_leaf s.now bit kind id }
+// A closure's own, where its flex has the bit.
+fn closure_impl(s: &[u32], built: BuiltIn, id: u32) -> Option<Leaf>
+    ensures { leaves result ≡ own_leaf s.now built.bit built.closure id }
 {
     let flex = chart::closure_flex(s, id as usize);
-    if flex / bit % 2 == 1 {
-        Some(Leaf { kind, id })
+    if flex / built.bit % 2 == 1 {
+        Some(Leaf {
+            kind: built.closure,
+            id,
+        })
     } else {
         None
     }
 }
 
 // By the kind, the inversion and the id of a type.
-fn auto_of(
-    s: &[u32],
-    h: usize,
-    bit: usize,
-    tree: u32,
-    kind: u32,
-    inverted: bool,
-    id: u32,
-) -> Option<Leaf>
-    requires { 0 < bit }
-    ensures { leaves result ≡ auto_of s.now h bit tree kind inverted id }
+fn auto_of(s: &[u32], built: BuiltIn, kind: u32, inverted: bool, id: u32) -> Option<Leaf>
+    ensures { leaves result ≡ auto_of s.now built.set built.bit built.closure kind inverted id }
 {
     match kind {
-        DEFAULT => set_impl(s, h),
-        FN if !inverted => set_impl(s, h),
-        CLOSURE if !inverted => closure_impl(s, bit, tree, id),
+        DEFAULT => set_impl(s, built.set),
+        FN if !inverted => set_impl(s, built.set),
+        CLOSURE if !inverted => closure_impl(s, built, id),
         _ => None,
     }
 }
@@ -81,16 +91,15 @@ fn inversion(table: &[u32], u: u32) -> bool
     flipped != inverted
 }
 
-// `find_auto_impls_fork` and `_drop`, by the header word, the bit of flex and the kind of tree.
-fn find_auto_impl(s: &[u32], table: &[u32], t: u32, h: usize, bit: usize, tree: u32) -> Option<Leaf>
-    requires { 0 < bit }
-    ensures { leaves result ≡ find_auto_impl s.now h bit tree (kind (types_of table.now) (type_of_word t)) }
+// `find_auto_impls_fork` and `_drop`.
+fn find_auto_impl(s: &[u32], table: &[u32], t: u32, built: BuiltIn) -> Option<Leaf>
+    ensures { leaves result ≡ find_auto_impl s.now built.set built.bit built.closure (kind (types_of table.now) (type_of_word t)) }
 {
     let u = table::find(table, t);
     let kind = table::kind_of(table, u / 2);
     let id = table::id_of(table, u / 2);
     let inverted = inversion(table, u);
-    auto_of(s, h, bit, tree, kind, inverted, id)
+    auto_of(s, built, kind, inverted, id)
 }
 
 // `find_auto_impls`: for a trait? and the type words of its arguments. One trait set as both counts as Fork.
@@ -102,16 +111,9 @@ pub fn find_auto_impls(s: &[u32], table: &[u32], tr: u32, args: &[u32]) -> Optio
     }
     let t = words::word(args, 0);
     if tr == words::word(s, layout::FORK) {
-        find_auto_impl(
-            s,
-            table,
-            t,
-            layout::DUPLICATE,
-            layout::FLEX_FORK,
-            FORK_CLOSURE,
-        )
+        find_auto_impl(s, table, t, FORK)
     } else if tr == words::word(s, layout::DROP) {
-        find_auto_impl(s, table, t, layout::ERASE, layout::FLEX_DROP, DROP_CLOSURE)
+        find_auto_impl(s, table, t, DROP)
     } else {
         None
     }

@@ -1,10 +1,13 @@
 // What a call gives beside what is stored of it.
-ghost use Rattle.std.specs.Prelude.{◌≡◌, ◌↔◌, IsTrue, IfNone, All, length, take, drop};
+ghost use Rattle.std.specs.Prelude.{◌≡◌, ◌↔◌, Some, IsTrue, IfNone, All, length, take, drop};
 
 use cases::{Call, End};
 
 // What buffers are full of before a call.
 const MARK: u32 = 0xaaaa_aaaa;
+
+// The words of the answer buffer; no more are read of a stored answer.
+pub const ANSWER: usize = 10304;
 
 // What a call came to, and whether all of it is what is stored.
 #[derive(Clone, Copy, Debug, PartialEq, Eq)]
@@ -38,22 +41,23 @@ fn workspace_holds(end: End, workspace: &[u32]) -> bool
     holds(workspace, if untouched { MARK } else { 0 })
 }
 
-// Makes a stored call on buffers full of marks, of which it says how much is lent, and compares what it gives.
+// Makes a stored call on buffers full of marks, of which it says how much is lent, and compares what it gives with what is stored.
 pub fn replay<F: FnOnce(&mut [u32], &mut [u32]) -> End>(
     call: &Call,
+    stored: &[u32],
     workspace: &mut [u32],
     make: F,
 ) -> Seen
     requires { (answer : _) (work : _) → F.pre make answer work }
-    ensures { IsTrue result.right → result.end ≡ call.now.end }
+    ensures { IsTrue result.right → Some result.end ≡ call.now.end }
 {
-    let mut answer = [MARK; 10304];
+    let mut answer = [MARK; ANSWER];
     workspace.fill(MARK);
     let most = call.lent.answer.min(answer.len());
     let lent = call.lent.workspace.min(workspace.len());
     let end = make(&mut answer[..most], &mut workspace[..lent]);
-    let right = end == call.end
-        && answer_holds(call.answer.as_slice(), &answer)
-        && workspace_holds(call.end, workspace);
+    let right = Some(end) == call.end
+        && answer_holds(stored, &answer)
+        && workspace_holds(end, workspace);
     Seen { end, right }
 }

@@ -10,42 +10,47 @@ mod sittings;
 use calls::Outcome;
 use cases::{Case, End, Form, Tally};
 use compare::Seen;
-use refusals::Refusal;
+use refusals::Stopped;
 use std::alloc::Global;
-use std::io::{BufReader, Read};
+use std::io::Read;
 use std::rt::Files;
-use std::{env, fs, io};
+use std::{env, io};
 
 // The numbers of refusals, and 0.
 const NUMBERS: usize = 27;
 
 fn end_of(outcome: Outcome) -> End {
     match outcome {
-        Outcome::Answered { count } => End {
+        Ok(count) => End {
             refusal: None,
             count,
         },
-        Outcome::Refused { number, count } => End {
-            refusal: Refusal::from_number(number),
+        Err(Stopped { refusal, count }) => End {
+            refusal: Some(refusal),
             count,
         },
     }
 }
 
-// Replays a case; a listing is no call, and is passed over.
-fn replay(case: &Case, workspace: &mut [u32]) -> Option<Seen> {
+// Replays a case with its stored answer; a listing is no call, and is passed over.
+fn replay(case: &Case, stored: &[u32], workspace: &mut [u32]) -> Option<Seen> {
     let sheet = case.sheet.as_slice();
     let question = case.call.question.as_slice();
     let source = case.asker.source;
     let generics = case.asker.generics;
     let count = case.count;
     match case.call.form {
-        Form::Impl { basic } => Some(compare::replay(&case.call, workspace, |answer, workspace| {
-            end_of(calls::try_find_impl(
-                sheet, question, source, generics, basic, answer, workspace, count,
-            ))
-        })),
-        Form::Flex => Some(compare::replay(&case.call, workspace, |answer, workspace| {
+        Form::Impl { basic } => Some(compare::replay(
+            &case.call,
+            stored,
+            workspace,
+            |answer, workspace| {
+                end_of(calls::try_find_impl(
+                    sheet, question, source, generics, basic, answer, workspace, count,
+                ))
+            },
+        )),
+        Form::Flex => Some(compare::replay(&case.call, stored, workspace, |answer, workspace| {
             end_of(calls::find_flex(sheet, question, source, generics, answer, workspace, count))
         })),
         Form::Listing => None,
@@ -61,7 +66,8 @@ fn replay_all<R: Read>(
 ) -> io::Result<()> {
     for _ in 0..cases::read_word(source)? {
         let case = Case::read(alloc, source)?;
-        if let Some(seen) = replay(&case, workspace) {
+        let stored = cases::read_words(alloc, source, compare::ANSWER)?;
+        if let Some(seen) = replay(&case, stored.as_slice(), workspace) {
             tally.count(cases::number(seen.end.refusal), seen.right);
         }
     }
@@ -85,11 +91,9 @@ fn run(
     path: &str,
     workspace: &mut [u32],
 ) -> io::Result<()> {
-    let file = match fs::open(rt, path) {
-        Ok(file) => file,
-        Err(why) => return programs::fail(rt, path, &why),
+    let Some(mut source) = programs::open(rt, path)? else {
+        return Ok(());
     };
-    let mut source = BufReader::new(rt.alloc(), file)?;
     let mut tally = Tally::new();
     replay_all(rt.alloc(), &mut source, workspace, &mut tally)?;
     sittings::replay_all(rt, &mut source, workspace, &mut tally)?;

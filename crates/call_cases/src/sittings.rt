@@ -1,40 +1,45 @@
 // Stored sittings: calls in turn on one sheet from one source, each from the spent count that the one before it left.
 use crate::compare::Seen;
 use crate::{NUMBERS, compare};
-use cases::{Call, End, Form, Sitting, Tally};
+use cases::{Asker, Call, End, Form, Sitting, Tally};
 use refusals::Refusal;
 use std::io;
 use std::io::Read;
 
-// What a call of a sitting comes to, by its number and the spent count after it.
-fn end_of(number: u32, count: u32) -> End {
+// What a call of a sitting comes to.
+fn end_of(found: Result<(), Refusal>, sitting: sitting::Sitting) -> End {
     End {
-        refusal: Refusal::from_number(number),
-        count,
+        refusal: found.err(),
+        count: sitting.spent,
     }
 }
 
-// Replays a call of a sitting from a spent count.
-fn replay_call(sitting: &Sitting, call: &Call, spent: u32, workspace: &mut [u32]) -> Seen {
+// Replays a call of a sitting with its stored answer, from a spent count.
+fn replay_call(
+    sitting: &Sitting,
+    call: &Call,
+    stored: &[u32],
+    spent: u32,
+    workspace: &mut [u32],
+) -> Seen {
     let sheet = sitting.sheet.as_slice();
     let question = call.question.as_slice();
-    let source = sitting.asker.source;
-    let generics = sitting.asker.generics;
+    let Asker { source, generics } = sitting.asker;
     match call.form {
-        Form::Impl { basic } => compare::replay(call, workspace, |answer, workspace| {
-            let mut spent = spent;
-            let number = sitting::vine_sitting_find_impl(
-                sheet, question, source, generics, basic, answer, workspace, &mut spent,
+        Form::Impl { basic } => compare::replay(call, stored, workspace, |answer, workspace| {
+            let mut sitting = sitting::Sitting { spent };
+            let found = sitting.find_impl(
+                sheet, question, source, generics, basic, answer, workspace,
             );
-            end_of(number, spent)
+            end_of(found, sitting)
         }),
-        Form::Flex | Form::Listing => compare::replay(call, workspace, |answer, workspace| {
-            let mut spent = spent;
-            let number = sitting::vine_sitting_find_flex(
-                sheet, question, source, generics, answer, workspace, &mut spent,
-            );
-            end_of(number, spent)
-        }),
+        Form::Flex | Form::Listing => {
+            compare::replay(call, stored, workspace, |answer, workspace| {
+                let mut sitting = sitting::Sitting { spent };
+                let found = sitting.find_flex(sheet, question, source, generics, answer, workspace);
+                end_of(found, sitting)
+            })
+        }
     }
 }
 
@@ -57,7 +62,8 @@ fn replay_calls<R: Read>(
     let mut spent = sitting.count;
     for _ in 0..sitting.calls {
         let call = Call::read(rt.alloc(), source)?;
-        let seen = replay_call(sitting, &call, spent, workspace);
+        let stored = cases::read_words(rt.alloc(), source, compare::ANSWER)?;
+        let seen = replay_call(sitting, &call, stored.as_slice(), spent, workspace);
         spent = seen.end.count;
         tally.count(cases::number(seen.end.refusal), seen.right);
         print_end(rt, seen.end)?;

@@ -1,14 +1,13 @@
 -- A call behind its entry checks: the checks of sheet, ids and question, then what the search comes to; the workspace's first words are cleared.
-use Rattle.std.specs.Prelude.{ℕ, ◌≤◌, ◌<◌, ◌≡◌, refl, Bool, true, false, ◌≢◌, [], ◌∷◌, ◌++◌, length}
+use Rattle.std.specs.Prelude.{ℕ, ◌≤◌, ◌<◌, ◌≡◌, refl, Bool, true, false, ◌≢◌, [], ◌∷◌, ◌++◌, Result, Err, length}
 use Rattle.std.proofs.Math.Path.{sym, ap, subst}
 use Rattle.std.proofs.Common.{◌∙◌, arith}
 use Rattle.std.proofs.Math.Option.{Option, none, some, some-ne-none}
 use Rattle.rules.specs.Lists.{Words}
 use Rattle.rules.specs.Limits.{limit_sheet, limit_question, limit_answer, limit_workspace, limit_count}
-use Rattle.rules.specs.Run.{Out, refused}
+use Rattle.rules.specs.Run.{Out}
 use Rattle.rules.specs.Check.{Checks, refusal, of_sheet, of_ids, of_impl_question, of_flex_question, impl_checks, flex_checks}
 use Rattle.rules.specs.CheckLaws.{Checked}
-use Rattle.rules.specs.CheckNumbers.{impl_check_numbers, flex_check_numbers}
 use Rattle.rules.specs.CheckedTables.{Ready}
 use Rattle.rules.proofs.CheckedTables.{impl_ready, flex_ready}
 use Rattle.rules.specs.Calls.{answer_after}
@@ -17,8 +16,13 @@ use Rattle.checks.specs.Numbers.{number, finder}
 use Rattle.steps.specs.Asking.{Searching}
 use Rattle.asking.specs.Impls.{Impls}
 use Rattle.flexing.specs.Asked.{Flexing}
-use Rattle.calls.specs.declared.Ended.{Ended}
-use Rattle.calls.specs.Ended.{Ends}
+use Rattle.refusals.specs.declared.Refusal.{Refusal}
+use Rattle.refusals.specs.declared.Stopped.{Stopped}
+use Rattle.refusals.specs.Numbers.{number_of, number_some}
+use Rattle.closing.specs.Ended.{Ends}
+use Rattle.calls.specs.declared.Kind.{Kind}
+use Rattle.calls.specs.declared.Kind.TheVariants.{Impl, Flex}
+use Rattle.calls.specs.Kinds.{checks_of, behind, check_some}
 use Rattle.calls.specs.Prepared.{Passed, Prepared}
 
 -- The lengths and the count that entry has tested; the workspace's part has exactly its words.
@@ -31,15 +35,9 @@ pub record Entered (s q : Words) (answer work count : ℕ) : Type 0 where
   pub work_is : work ≡ limit_workspace
   pub count_low : count ≤ limit_count
 
--- An impl call that passed its checks.
-pub record ImplPassed (s q : Words) (source generics basic : ℕ) : Type 0 where
-  pub passed : refusal (impl_checks (finder s source generics) basic q) ≡ none
-  pub sheet_short : length s ≤ limit_sheet
-  pub short : length q ≤ limit_question
-
--- A flex call that passed its checks.
-pub record FlexPassed (s q : Words) (source generics : ℕ) : Type 0 where
-  pub passed : refusal (flex_checks (finder s source generics) q) ≡ none
+-- A call that passed its checks.
+pub record CallPassed (k : Kind) (s q : Words) (source generics : ℕ) : Type 0 where
+  pub passed : refusal (checks_of k (finder s source generics) q) ≡ none
   pub sheet_short : length s ≤ limit_sheet
   pub short : length q ≤ limit_question
 
@@ -62,51 +60,42 @@ searching s source generics sets h p = record {
   long = p.long;
 }
 
-module _ (s q : Words) (source generics basic : ℕ) (h : ImplPassed s q source generics basic) where
-  ready : Ready (finder s source generics) q
-  ready = impl_ready (finder s source generics) basic q h.sheet_short h.passed
+module _ (s q : Words) (source generics : ℕ) where
+  ready : (k : Kind) → CallPassed k s q source generics → Ready (finder s source generics) q
+  ready (Impl basic) h = impl_ready (finder s source generics) basic q h.sheet_short h.passed
+  ready Flex h = flex_ready (finder s source generics) q h.sheet_short h.passed
 
-  impl_checked : Checked s
-  unfolding impl_checks
-  impl_checked = refusal_first (of_sheet s) (of_ids (finder s source generics) basic) (refusal_first (of_sheet s ++ of_ids (finder s source generics) basic) (of_impl_question (finder s source generics) q) h.passed)
+  checked : (k : Kind) → CallPassed k s q source generics → Checked s
+  unfolding impl_checks flex_checks
+  checked (Impl basic) h = refusal_first (of_sheet s) (of_ids (finder s source generics) basic) (refusal_first (of_sheet s ++ of_ids (finder s source generics) basic) (of_impl_question (finder s source generics) q) h.passed)
+  checked Flex h = refusal_first (of_sheet s) (of_ids (finder s source generics) 0) (refusal_first (of_sheet s ++ of_ids (finder s source generics) 0) (of_flex_question (finder s source generics) q) h.passed)
 
-  pub impl_prepares : Passed s source generics
-  impl_prepares = record { question = q; ready = ready; checked = impl_checked }
+  pub call_prepares : (k : Kind) → CallPassed k s q source generics → Passed s source generics
+  call_prepares k h = record { question = q; ready = ready k h; checked = checked k h }
 
-  pub impl_call : (sets : Words) → Prepared s source generics sets → Impls s sets q (record { source = source; generics = generics; limit = 2000 }) basic
-  impl_call sets c = record {
-    searching = searching s source generics sets impl_prepares c;
-    passed = h.passed;
-    sheet_short = h.sheet_short;
-    short = h.short;
-  }
+  pub impl_call : (k : Kind) (basic : ℕ) → CallPassed k s q source generics → k ≡ Impl basic → (sets : Words) → Prepared s source generics sets → Impls s sets q (record { source = source; generics = generics; limit = 2000 }) basic
+  impl_call k basic h e sets c =
+      let i = subst (λ (x : Kind). CallPassed x s q source generics) e h in
+      record {
+        searching = searching s source generics sets (call_prepares k h) c;
+        passed = i.passed;
+        sheet_short = h.sheet_short;
+        short = h.short;
+      }
 
-module _ (s q : Words) (source generics : ℕ) (h : FlexPassed s q source generics) where
-  flex_ready' : Ready (finder s source generics) q
-  flex_ready' = flex_ready (finder s source generics) q h.sheet_short h.passed
+  pub flex_call : (k : Kind) → CallPassed k s q source generics → k ≡ Flex → (sets : Words) → Prepared s source generics sets → Flexing s sets q (record { source = source; generics = generics; limit = 2000 })
+  flex_call k h e sets c =
+      let i = subst (λ (x : Kind). CallPassed x s q source generics) e h in
+      record {
+        searching = searching s source generics sets (call_prepares k h) c;
+        passed = i.passed;
+        sheet_short = h.sheet_short;
+        short = h.short;
+        low = omega arith;
+      }
 
-  flex_checked : Checked s
-  unfolding flex_checks
-  flex_checked = refusal_first (of_sheet s) (of_ids (finder s source generics) 0) (refusal_first (of_sheet s ++ of_ids (finder s source generics) 0) (of_flex_question (finder s source generics) q) h.passed)
-
-  pub flex_prepares : Passed s source generics
-  flex_prepares = record { question = q; ready = flex_ready'; checked = flex_checked }
-
-  pub flex_call : (sets : Words) → Prepared s source generics sets → Flexing s sets q (record { source = source; generics = generics; limit = 2000 })
-  flex_call sets c = record {
-    searching = searching s source generics sets flex_prepares c;
-    passed = h.passed;
-    sheet_short = h.sheet_short;
-    short = h.short;
-    low = omega arith;
-  }
-
--- What a call behind entry comes to: the number of its checks, or what it is once they have passed.
-unfoldable pub behind : Option ℕ → Out Words × ℕ → ℕ → Out Words × ℕ
-behind checks o c = elim checks [ some n ↦ (refused n, c) | none ↦ o ]
-
--- And the workspace's part is cleared.
-pub record Behind (o : Out Words × ℕ) (buf out ws ws' : Words) (r : Ended) : Type 0 where
+-- A call behind entry ends, and the workspace's part is cleared.
+pub record Behind (o : Out Words × ℕ) (buf out ws ws' : Words) (r : Result ℕ Stopped) : Type 0 where
   pub ends : Ends o buf out r
   pub last : Words
   pub long : length last ≡ length ws
@@ -129,44 +118,29 @@ number-none cs n h e z = go (refusal cs) refl
     go none p = p
     go (some m) p = absurd (h m p (let k : number cs ≡ m = rw (p, number) refl in omega arith))
 
-module _ (cs : Checks) (o : Out Words × ℕ) (count n : ℕ) (e : n ≡ number cs) where
-  pub behind_refused : (buf ws us vs : Words) → n ≢ 0 → length us ≡ length ws → (k : ℕ) → k ≡ limit_workspace → vs ≡ cleared k us → Behind (behind (refusal cs) o count) buf buf ws vs (record { number = n; count = count })
+module _ (cs : Checks) (o : Out Words × ℕ) (count : ℕ) (buf : Words) where
+  pub behind_refused : (w : Refusal) → number_of w ≡ number cs → Ends (behind (refusal cs) o count) buf buf (Err (record { refusal = w; count = count }))
   unfolding behind answer_after
-  behind_refused buf ws us vs z l k w c = record {
-    ends = record {
-      closed = record {
-        answers = λ k. absurd (z k);
-        refuses = λ k. ap (λ (x : Option ℕ). (behind x o count).0) (number-some cs n e z);
-        after = sym (ap (λ (x : Option ℕ). answer_after (behind x o count).0 buf) (number-some cs n e z));
-      };
-      count = sym (ap (λ (x : Option ℕ). (behind x o count).1) (number-some cs n e z));
+  behind_refused w e = record {
+    closed = record {
+      answers = λ k. absurd (number_some w k);
+      refuses = λ k. ap (λ (x : Option ℕ). (behind x o count).0) turned;
+      after = sym (ap (λ (x : Option ℕ). answer_after (behind x o count).0 buf) turned);
     };
-    last = us;
-    long = l;
-    clear = c ∙ ap (λ j. cleared j us) w;
+    count = sym (ap (λ (x : Option ℕ). (behind x o count).1) turned);
   }
+    where
+      turned : refusal cs ≡ some (number_of w)
+      turned = number-some cs (number_of w) e (number_some w)
 
-  pub behind_passed : (buf out ws us vs : Words) (r : Ended) → refusal cs ≡ none → Ends o buf out r → length us ≡ length ws → (k : ℕ) → k ≡ limit_workspace → vs ≡ cleared k us → Behind (behind (refusal cs) o count) buf out ws vs r
+  pub behind_passed : (out : Words) (r : Result ℕ Stopped) → refusal cs ≡ none → Ends o buf out r → Ends (behind (refusal cs) o count) buf out r
   unfolding behind
-  behind_passed buf out ws us vs r p x l k w c = record {
-    ends = subst (λ (y : Option ℕ). Ends (behind y o count) buf out r) (sym p) x;
-    last = us;
-    long = l;
-    clear = c ∙ ap (λ j. cleared j us) w;
-  }
+  behind_passed out r p x = subst (λ (y : Option ℕ). Ends (behind y o count) buf out r) (sym p) x
 
--- The impl call's checks.
-pub impl_passed : (s q : Words) (source generics basic answer work count n : ℕ) → Entered s q answer work count → n ≡ number (impl_checks (finder s source generics) basic q) → n ≡ 0 → ImplPassed s q source generics basic
-impl_passed s q source generics basic answer work count n h e z = record {
-  passed = number-none (impl_checks (finder s source generics) basic q) n (λ m p k. let b = impl_check_numbers (finder s source generics) basic q m p in omega (arith, b.least)) e z;
-  sheet_short = h.sheet_short;
-  short = h.question_short;
-}
-
--- The flex call's checks.
-pub flex_passed : (s q : Words) (source generics answer work count n : ℕ) → Entered s q answer work count → n ≡ number (flex_checks (finder s source generics) q) → n ≡ 0 → FlexPassed s q source generics
-flex_passed s q source generics answer work count n h e z = record {
-  passed = number-none (flex_checks (finder s source generics) q) n (λ m p k. let b = flex_check_numbers (finder s source generics) q m p in omega (arith, b.least)) e z;
+-- A call's checks.
+pub call_passed : (k : Kind) (s q : Words) (source generics answer work count : ℕ) → Entered s q answer work count → 0 ≡ number (checks_of k (finder s source generics) q) → CallPassed k s q source generics
+call_passed k s q source generics answer work count h e = record {
+  passed = number-none (checks_of k (finder s source generics) q) 0 (λ m p. let b = check_some k (finder s source generics) q m p in λ z. omega arith) e refl;
   sheet_short = h.sheet_short;
   short = h.question_short;
 }

@@ -1,5 +1,5 @@
 -- Demand 3 of the calls as they are: what a call's contract (`Calls`) says, read beside the search with no step limit, which has no count, answer buffer or workspace.
-use Rattle.std.specs.Prelude.{ℕ, ◌+◌, ◌≤◌, ◌<◌, ◌≡◌, refl, ◌↔◌, Bool, true, false, not, T, leb, length}
+use Rattle.std.specs.Prelude.{ℕ, ◌+◌, ◌≤◌, ◌<◌, ◌≡◌, refl, ◌↔◌, Result, Bool, true, false, not, T, leb, length}
 use Rattle.std.proofs.Common.{sym, ◌∙◌, ap, subst, arith, leb→le}
 use Rattle.std.proofs.Math.Dec.{nleb→lt}
 use Rattle.rules.specs.Lists.{Words}
@@ -9,8 +9,8 @@ use Rattle.rules.specs.Calls.{free_find_impl, free_find_flex, try_find_impl, fin
 use Rattle.rules.specs.Limit.{asked_find_impl, asked_find_flex, Enters, Demand3_one}
 use Rattle.rules.proofs.Limit.{one-try_find_impl, one-find_flex}
 use Rattle.checks.specs.Numbers.{finder}
-use Rattle.calls.specs.declared.Outcome.{Outcome}
-use Rattle.calls.specs.Outcomes.{outcome_of, number_of, count_of, Calls}
+use Rattle.refusals.specs.declared.Stopped.{Stopped}
+use Rattle.calls.specs.Outcomes.{Outcome, outcome_of, told, number_of, count_of, Calls}
 
 -- A run from start count c that came to the outcome r and left the answer buffer as it is after, where the search with no step limit comes to `free` after `asked` questions:
 pub record Demanded (free : Out Words) (asked c : ℕ) (answer answer' : Words) (r : Outcome) : Type 0 where
@@ -30,7 +30,7 @@ count_is o = go o.0
     go (got ws) = refl
     go (refused n) = refl
 
-demanded : (o : Out Words × ℕ) (free : Out Words) (asked c : ℕ) (answer answer' work work' : Words) (r : Outcome) → Demand3_one 2000 free asked c o → Calls o answer answer' work work' r → Demanded free asked c answer answer' r
+demanded : (o : Out Words × ℕ) (free : Out Words) (asked c : ℕ) (answer answer' work work' : Words) (r : Result ℕ Stopped) → Demand3_one 2000 free asked c o → Calls o answer answer' work work' r → Demanded free asked c answer answer' (told r)
 demanded o free asked c answer answer' work work' r d k = record {
   outcome = λ h. k.outcome ∙ ap outcome_of (λ i. (d.answer (low h) i, d.end (low h) i));
   words = λ h. k.answer_is ∙ ap (λ (x : Out Words). answer_after x answer) (d.answer (low h));
@@ -38,22 +38,22 @@ demanded o free asked c answer answer' work work' r d k = record {
   above = (λ h. d.above.0 (omega (arith, count)), λ h. let z = d.above.1 h in omega (arith, count));
 }
   where
-    count : count_of r ≡ o.1
+    count : count_of (told r) ≡ o.1
     count = ap count_of k.outcome ∙ count_is o
 
-    low : count_of r ≤ 2000 → o.1 ≤ 2000
+    low : count_of (told r) ≤ 2000 → o.1 ≤ 2000
     low h = omega (arith, count)
 
 -- The impl call, past its entry checks: `free` and `asked` do not depend on the start count or on what the buffers hold, so any two runs that are alike but for these share them.
-pub impl_demand : (s q : Words) (source generics basic c : ℕ) (answer answer' work work' : Words) (r : Outcome) → Enters (finder s source generics) q answer work c →
+pub impl_demand : (s q : Words) (source generics basic c : ℕ) (answer answer' work work' : Words) (r : Result ℕ Stopped) → Enters (finder s source generics) q answer work c →
     Calls (try_find_impl limit_steps (finder s source generics) basic q (length answer) (length work) c) answer answer' work work' r →
-    Demanded (free_find_impl (finder s source generics) basic q) (asked_find_impl (finder s source generics) basic q) c answer answer' r
+    Demanded (free_find_impl (finder s source generics) basic q) (asked_find_impl (finder s source generics) basic q) c answer answer' (told r)
 impl_demand s q source generics basic c answer answer' work work' r past k = demanded _ _ _ c answer answer' work work' r (one-try_find_impl (finder s source generics) q answer work c past basic) k
 
 -- The flex call.
-pub flex_demand : (s q : Words) (source generics c : ℕ) (answer answer' work work' : Words) (r : Outcome) → Enters (finder s source generics) q answer work c →
+pub flex_demand : (s q : Words) (source generics c : ℕ) (answer answer' work work' : Words) (r : Result ℕ Stopped) → Enters (finder s source generics) q answer work c →
     Calls (find_flex limit_steps (finder s source generics) q (length answer) (length work) c) answer answer' work work' r →
-    Demanded (free_find_flex (finder s source generics) q) (asked_find_flex (finder s source generics) q) c answer answer' r
+    Demanded (free_find_flex (finder s source generics) q) (asked_find_flex (finder s source generics) q) c answer answer' (told r)
 flex_demand s q source generics c answer answer' work work' r past k = demanded _ _ _ c answer answer' work work' r (one-find_flex (finder s source generics) q answer work c past) k
 
 -- Two runs that share `free` and `asked`, of which the first starts with at least as many steps spent and ends at 2,000 or below: the second ends there too,

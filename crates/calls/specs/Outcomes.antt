@@ -1,12 +1,16 @@
 -- What a call comes to, in the code's words: the outcome by its cases, and what answer buffer and workspace hold after it.
-use Rattle.std.specs.Prelude.{ℕ, ◌+◌, ◌*◌, ◌≡◌, true, false, eqb}
+use Rattle.std.specs.Prelude.{ℕ, ◌+◌, ◌*◌, ◌≡◌, Result, Ok, Err}
 use Rattle.std.proofs.Common.{sym, ◌∙◌, ap, arith}
 use Rattle.rules.specs.Lists.{Words}
 use Rattle.rules.specs.Run.{Out, got, refused}
 use Rattle.rules.specs.Calls.{answer_after, work_after}
-use Rattle.calls.specs.declared.Ended.{Ended}
-use Rattle.calls.specs.declared.Outcome.{Outcome}
-use Rattle.calls.specs.declared.Outcome.TheVariants.{Answered, Refused}
+use Rattle.refusals.specs.declared.Stopped.{Stopped}
+use Rattle.refusals.specs.Numbers.{number_of as refusal_number}
+
+-- What a call comes to: answered, or refused with its number; and the count after.
+pub data Outcome : Type 0 where
+  Answered : ℕ → Outcome
+  Refused : ℕ → ℕ → Outcome
 
 -- The outcome of a call of the rules: answered, or refused with its number; and the count after.
 unfoldable pub outcome_of : Out Words × ℕ → Outcome
@@ -21,13 +25,14 @@ unfoldable pub count_of : Outcome → ℕ
 count_of (Answered c) = c
 count_of (Refused n c) = c
 
--- What a call behind its checks came to.
-unfoldable pub ended_of : Ended → Outcome
-ended_of r = elim (eqb r.number 0) [ true ↦ Answered r.count | false ↦ Refused r.number r.count ]
+-- The code's, with the number of its refusal.
+abbrev pub told : Result ℕ Stopped → Outcome
+told (Ok c) = Answered c
+told (Err s) = Refused (refusal_number s.refusal) s.count
 
 -- A call that comes to o: its outcome, and what the answer buffer and the workspace hold after it.
-pub record Calls (o : Out Words × ℕ) (answer answer' work work' : Words) (r : Outcome) : Type 0 where
-  pub outcome : r ≡ outcome_of o
+pub record Calls (o : Out Words × ℕ) (answer answer' work work' : Words) (r : Result ℕ Stopped) : Type 0 where
+  pub outcome : told r ≡ outcome_of o
   pub answer_is : answer' ≡ answer_after o.0 answer
   pub work_is : work' ≡ work_after o.0 work
 
@@ -40,13 +45,13 @@ pub record PackedCalls (o : Out Words × ℕ) (answer answer' work work' : Words
   pub answer_is : answer' ≡ answer_after o.0 answer
   pub work_is : work' ≡ work_after o.0 work
 
-pub packed_call : (o : Out Words × ℕ) (answer answer' work work' : Words) (r : Outcome) (n : ℕ) → Calls o answer answer' work work' r → n ≡ packed_of r → PackedCalls o answer answer' work work' n
+pub packed_call : (o : Out Words × ℕ) (answer answer' work work' : Words) (r : Result ℕ Stopped) (n : ℕ) → Calls o answer answer' work work' r → n ≡ packed_of (told r) → PackedCalls o answer answer' work work' n
 packed_call o answer answer' work work' r n k e = record { packed = e ∙ ap packed_of k.outcome; answer_is = k.answer_is; work_is = k.work_is }
 
-pub packed_answered : (o : Outcome) (c n : ℕ) → o ≡ Answered c → n ≡ c * 4294967296 → n ≡ packed_of o
+pub packed_answered : (r : Result ℕ Stopped) (c n : ℕ) → r ≡ Ok c → n ≡ c * 4294967296 → n ≡ packed_of (told r)
 unfolding packed_of count_of number_of
-packed_answered o c n e k = k ∙ (let z : c * 4294967296 ≡ c * 4294967296 + 0 = omega arith in z) ∙ ap packed_of (sym e)
+packed_answered r c n e k = k ∙ (let z : c * 4294967296 ≡ c * 4294967296 + 0 = omega arith in z) ∙ ap (λ (x : Result ℕ Stopped). packed_of (told x)) (sym e)
 
-pub packed_refused : (o : Outcome) (m c n : ℕ) → o ≡ Refused m c → n ≡ c * 4294967296 + m → n ≡ packed_of o
+pub packed_refused : (r : Result ℕ Stopped) (s : Stopped) (n : ℕ) → r ≡ Err s → n ≡ s.count * 4294967296 + refusal_number s.refusal → n ≡ packed_of (told r)
 unfolding packed_of count_of number_of
-packed_refused o m c n e k = k ∙ ap packed_of (sym e)
+packed_refused r s n e k = k ∙ ap (λ (x : Result ℕ Stopped). packed_of (told x)) (sym e)

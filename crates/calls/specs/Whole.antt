@@ -1,38 +1,29 @@
 -- The whole calls: turned away at entry, or what they come to behind it.
-use Rattle.std.specs.Prelude.{ℕ, ◌≤◌, ◌≡◌, refl, Bool, true, false, not, ◌||◌, ◌≢◌, ◌++◌, T, eqb, ltb, length, get_or, take, drop, replicate}
+use Rattle.std.specs.Prelude.{ℕ, ◌≤◌, ◌≡◌, refl, Bool, true, false, not, ◌||◌, ◌++◌, T, ltb, Result, Ok, Err, length, get_or, take, drop, replicate}
 use Rattle.std.proofs.Math.Path.{sym, ap}
-use Rattle.std.proofs.Common.{◌∙◌, subst, append-nil, drop_of_length-le, length-take-le, eq-eqb, ne_eqb, eqb-true}
-use Rattle.std.proofs.Math.Option.{Option, none}
+use Rattle.std.proofs.Common.{◌∙◌, append-nil, drop_of_length-le, length-take-le}
+use Rattle.std.proofs.Math.Option.{none}
 use native.Mathlib.Omega.{arith}
 use Rattle.std.proofs.Math.Dec.{nltb→le}
-use Rattle.std.proofs.lemmas.Bool.{eqb-false}
 use borrow.Rule.Slice.PartMut.{put_mid, post_of}
 use Rattle.rules.specs.Lists.{Words}
-use Rattle.rules.specs.Limits.{limit_sheet, limit_question, limit_answer, limit_workspace, limit_count, limit_steps}
+use Rattle.rules.specs.Limits.{limit_sheet, limit_question, limit_answer, limit_workspace, limit_count}
 use Rattle.rules.specs.Layout.{header_length, question_length}
 use Rattle.rules.specs.Run.{Out}
-use Rattle.rules.specs.Check.{refusal, of_length, entry, impl_checks, flex_checks}
+use Rattle.rules.specs.Check.{refusal, of_length, entry}
 use Rattle.rules.specs.CheckLaws.{unrefused}
-use Rattle.rules.specs.CheckNumbers.{refusal-after, entry_numbers}
-use Rattle.rules.specs.Calls.{impl_within, flex_within, try_find_impl, find_flex, answer_after}
-use Rattle.rules.proofs.Refusals.{impl_ends, flex_ends}
+use Rattle.rules.specs.CheckNumbers.{entry_numbers}
+use Rattle.rules.specs.Calls.{answer_after}
 use Rattle.words.specs.Buffers.{cleared, cleared_front}
 use Rattle.checks.specs.Numbers.{number, finder}
-use Rattle.calls.specs.declared.Ended.{Ended}
-use Rattle.calls.specs.Ended.{Ends}
-use Rattle.calls.specs.declared.Outcome.{Outcome}
-use Rattle.calls.specs.declared.Outcome.TheVariants.{Answered, Refused}
-use Rattle.calls.specs.Outcomes.{outcome_of, ended_of, Calls}
-use Rattle.calls.specs.Behind.{Entered, behind, Behind, number-some, number-none}
-
--- `outcome`.
-pub ended_answered : (r : Ended) → r.number ≡ 0 → Answered r.count ≡ ended_of r
-unfolding ended_of
-ended_answered r e = sym (rw (eq-eqb r.number 0 e, ended_of) refl)
-
-pub ended_refused : (r : Ended) → r.number ≢ 0 → Refused r.number r.count ≡ ended_of r
-unfolding ended_of
-ended_refused r e = sym (rw (ne_eqb r.number 0 e, ended_of) refl)
+use Rattle.refusals.specs.declared.Refusal.{Refusal}
+use Rattle.refusals.specs.declared.Stopped.{Stopped}
+use Rattle.refusals.specs.Numbers.{number_of, number_some}
+use Rattle.closing.specs.Ended.{Ends}
+use Rattle.calls.specs.declared.Kind.{Kind}
+use Rattle.calls.specs.Outcomes.{Answered, Refused, outcome_of, told, Calls}
+use Rattle.calls.specs.Kinds.{checks_of, within_of, whole_of, behind, turned_away, behind_entry, work_cleared}
+use Rattle.calls.specs.Behind.{Entered, Behind, number-some, number-none}
 
 -- What is put back before the rest of the workspace.
 pub put_back : (n : ℕ) (work ys zs : Words) → n ≤ length work → length ys ≡ n → zs ≡ cleared n ys → put_mid 0 n work zs ≡ replicate n 0 ++ drop n work
@@ -40,88 +31,41 @@ put_back n work ys zs h l e =
     ap (λ (x : Words). x ++ post_of 0 n work) (e ∙ cleared_front n ys (omega arith) ∙ ap (λ (x : Words). replicate n 0 ++ x) (let few : length ys ≤ n = omega arith in drop_of_length-le ys few) ∙ append-nil (replicate n 0))
 
 -- The outcome of a call behind its checks is that of the rules.
-ended_is : (o : Out Words × ℕ) (buf out : Words) (r : Ended) → Ends o buf out r → ended_of r ≡ outcome_of o
-unfolding ended_of outcome_of
-ended_is o buf out r x = go (eqb r.number 0) refl
-  where
-    go : (b : Bool) → eqb r.number 0 ≡ b → ended_of r ≡ outcome_of o
-    go true e =
-        let a = x.closed.answers (eqb_so e) in
-        rw (e, ended_of) (ap Answered x.count ∙ sym (ap (λ (y : Out Words). outcome_of (y, o.1)) a.is))
-      where
-        eqb_so : eqb r.number 0 ≡ true → r.number ≡ 0
-        eqb_so p = eqb-true r.number 0 p
-    go false e =
-        let z = x.closed.refuses (eqb-false r.number 0 e) in
-        rw (e, ended_of) (ap (λ c. Refused r.number c) x.count ∙ sym (ap (λ (y : Out Words). outcome_of (y, o.1)) z))
+ended_is : (o : Out Words × ℕ) (buf out : Words) (r : Result ℕ Stopped) → Ends o buf out r → told r ≡ outcome_of o
+unfolding outcome_of
+ended_is o buf out (Ok c) x = let a = x.closed.answers refl in ap Answered x.count ∙ sym (ap (λ (y : Out Words). outcome_of (y, o.1)) a.is)
+ended_is o buf out (Err s) x = let z = x.closed.refuses (number_some s.refusal) in ap (λ c. Refused (number_of s.refusal) c) x.count ∙ sym (ap (λ (y : Out Words). outcome_of (y, o.1)) z)
 
-module _ (s q : Words) (source generics basic : ℕ) (buf work : Words) (count n : ℕ) (e : n ≡ number (entry s q (length buf) (length work) count)) where
+module _ (kind : Kind) (s q : Words) (source generics : ℕ) (buf work : Words) (count : ℕ) where
   abbrev run : Out Words × ℕ
-  run = try_find_impl limit_steps (finder s source generics) basic q (length buf) (length work) count
+  run = whole_of kind (finder s source generics) q (length buf) (length work) count
 
   -- Turned away: nothing is touched, and nothing is spent.
-  pub impl_away : n ≢ 0 → Calls run buf buf work work (Refused n count)
+  pub call_away : (w : Refusal) → number_of w ≡ number (entry s q (length buf) (length work) count) → Calls run buf buf work work (Err (record { refusal = w; count = count }))
   unfolding outcome_of
-  impl_away z =
-      let t = (impl_ends limit_steps (finder s source generics) q buf work count basic).turned_away n (number-some (entry s q (length buf) (length work) count) n e z) in
-      record { outcome = sym (ap outcome_of t.1); answer_is = sym t.2; work_is = sym t.3 }
-
-  passes : n ≡ 0 → refusal (entry s q (length buf) (length work) count) ≡ none
-  passes z = number-none (entry s q (length buf) (length work) count) n (λ m p k. let b = entry_numbers s q (length buf) (length work) count m p in omega (arith, b.least)) e z
-
-  whole : n ≡ 0 → run ≡ behind (refusal (impl_checks (finder s source generics) basic q)) (impl_within (ltb limit_steps) (finder s source generics) (eqb basic 1) q count) count
-  unfolding try_find_impl behind
-  whole z = ap (λ (x : Option ℕ). behind x (impl_within (ltb limit_steps) (finder s source generics) (eqb basic 1) q count) count) (refusal-after (entry s q (length buf) (length work) count) (impl_checks (finder s source generics) basic q) (passes z))
+  call_away w e =
+      let t = turned_away kind (finder s source generics) q buf work count (number_of w) (number-some (entry s q (length buf) (length work) count) (number_of w) e (number_some w)) in
+      record { outcome = sym (ap outcome_of t.0); answer_is = sym t.1; work_is = sym t.2 }
 
   -- Else it is what it comes to behind entry.
-  pub impl_comes : (out ws' : Words) (r : Ended) (o : Outcome) (k : ℕ) → n ≡ 0 → k ≡ limit_workspace → k ≤ length work → Behind (behind (refusal (impl_checks (finder s source generics) basic q)) (impl_within (ltb limit_steps) (finder s source generics) (eqb basic 1) q count) count) buf out (take k work) ws' r → o ≡ ended_of r → Calls run buf out work (put_mid 0 k work ws') o
-  impl_comes out ws' r o k z w long b x = record {
-    outcome = x ∙ ended_is _ buf out r b.ends ∙ ap outcome_of (sym (whole z));
-    answer_is = b.ends.closed.after ∙ ap (λ (x : Out Words × ℕ). answer_after x.0 buf) (sym (whole z));
-    work_is = put_back k work b.last ws' long (b.long ∙ length-take-le k work long) (b.clear ∙ ap (λ j. cleared j b.last) (sym w)) ∙ ap (λ j. replicate j 0 ++ drop j work) w ∙ sym ((impl_ends limit_steps (finder s source generics) q buf work count basic).cleared (passes z));
-  }
+  module _ (e : 0 ≡ number (entry s q (length buf) (length work) count)) where
+    passes : refusal (entry s q (length buf) (length work) count) ≡ none
+    passes = number-none (entry s q (length buf) (length work) count) 0 (λ m p z. let b = entry_numbers s q (length buf) (length work) count m p in omega (arith, b.least)) e refl
 
-  pub impl_comes_by : (d g : ℕ) (out ws' : Words) (r : Ended) (o : Outcome) (k : ℕ) → d ≡ source → g ≡ generics → n ≡ 0 → k ≡ limit_workspace → k ≤ length work → Behind (behind (refusal (impl_checks (finder s d g) basic q)) (impl_within (ltb limit_steps) (finder s d g) (eqb basic 1) q count) count) buf out (take k work) ws' r → o ≡ ended_of r → Calls run buf out work (put_mid 0 k work ws') o
-  impl_comes_by d g out ws' r o k ed eg z w long b x = impl_comes out ws' r o k z w long
-      (subst (λ i. Behind (behind (refusal (impl_checks (finder s i generics) basic q)) (impl_within (ltb limit_steps) (finder s i generics) (eqb basic 1) q count) count) buf out (take k work) ws' r) ed
-      (subst (λ i. Behind (behind (refusal (impl_checks (finder s d i) basic q)) (impl_within (ltb limit_steps) (finder s d i) (eqb basic 1) q count) count) buf out (take k work) ws' r) eg b)) x
+    whole : run ≡ behind (refusal (checks_of kind (finder s source generics) q)) (within_of kind (finder s source generics) q count) count
+    whole = behind_entry kind (finder s source generics) q (length buf) (length work) count passes
 
--- The flex call, in the same way.
-module _ (s q : Words) (source generics : ℕ) (buf work : Words) (count n : ℕ) (e : n ≡ number (entry s q (length buf) (length work) count)) where
-  abbrev flex_run : Out Words × ℕ
-  flex_run = find_flex limit_steps (finder s source generics) q (length buf) (length work) count
-
-  -- Turned away: nothing is touched, and nothing is spent.
-  pub flex_away : n ≢ 0 → Calls flex_run buf buf work work (Refused n count)
-  unfolding outcome_of
-  flex_away z =
-      let t = (flex_ends limit_steps (finder s source generics) q buf work count).turned_away n (number-some (entry s q (length buf) (length work) count) n e z) in
-      record { outcome = sym (ap outcome_of t.1); answer_is = sym t.2; work_is = sym t.3 }
-
-  flex_passes : n ≡ 0 → refusal (entry s q (length buf) (length work) count) ≡ none
-  flex_passes z = number-none (entry s q (length buf) (length work) count) n (λ m p k. let b = entry_numbers s q (length buf) (length work) count m p in omega (arith, b.least)) e z
-
-  flex_whole : n ≡ 0 → flex_run ≡ behind (refusal (flex_checks (finder s source generics) q)) (flex_within (ltb limit_steps) (finder s source generics) q count) count
-  unfolding find_flex behind
-  flex_whole z = ap (λ (x : Option ℕ). behind x (flex_within (ltb limit_steps) (finder s source generics) q count) count) (refusal-after (entry s q (length buf) (length work) count) (flex_checks (finder s source generics) q) (flex_passes z))
-
-  -- Else it is what it comes to behind entry.
-  pub flex_comes : (out ws' : Words) (r : Ended) (o : Outcome) (k : ℕ) → n ≡ 0 → k ≡ limit_workspace → k ≤ length work → Behind (behind (refusal (flex_checks (finder s source generics) q)) (flex_within (ltb limit_steps) (finder s source generics) q count) count) buf out (take k work) ws' r → o ≡ ended_of r → Calls flex_run buf out work (put_mid 0 k work ws') o
-  flex_comes out ws' r o k z w long b x = record {
-    outcome = x ∙ ended_is _ buf out r b.ends ∙ ap outcome_of (sym (flex_whole z));
-    answer_is = b.ends.closed.after ∙ ap (λ (x : Out Words × ℕ). answer_after x.0 buf) (sym (flex_whole z));
-    work_is = put_back k work b.last ws' long (b.long ∙ length-take-le k work long) (b.clear ∙ ap (λ j. cleared j b.last) (sym w)) ∙ ap (λ j. replicate j 0 ++ drop j work) w ∙ sym ((flex_ends limit_steps (finder s source generics) q buf work count).cleared (flex_passes z));
-  }
-
-  pub flex_comes_by : (d g : ℕ) (out ws' : Words) (r : Ended) (o : Outcome) (k : ℕ) → d ≡ source → g ≡ generics → n ≡ 0 → k ≡ limit_workspace → k ≤ length work → Behind (behind (refusal (flex_checks (finder s d g) q)) (flex_within (ltb limit_steps) (finder s d g) q count) count) buf out (take k work) ws' r → o ≡ ended_of r → Calls flex_run buf out work (put_mid 0 k work ws') o
-  flex_comes_by d g out ws' r o k ed eg z w long b x = flex_comes out ws' r o k z w long
-      (subst (λ i. Behind (behind (refusal (flex_checks (finder s i generics) q)) (flex_within (ltb limit_steps) (finder s i generics) q count) count) buf out (take k work) ws' r) ed
-      (subst (λ i. Behind (behind (refusal (flex_checks (finder s d i) q)) (flex_within (ltb limit_steps) (finder s d i) q count) count) buf out (take k work) ws' r) eg b)) x
+    pub call_comes : (out ws' : Words) (r : Result ℕ Stopped) (k : ℕ) → k ≡ limit_workspace → k ≤ length work → Behind (behind (refusal (checks_of kind (finder s source generics) q)) (within_of kind (finder s source generics) q count) count) buf out (take k work) ws' r → Calls run buf out work (put_mid 0 k work ws') r
+    call_comes out ws' r k w long b = record {
+      outcome = ended_is _ buf out r b.ends ∙ ap outcome_of (sym whole);
+      answer_is = b.ends.closed.after ∙ ap (λ (x : Out Words × ℕ). answer_after x.0 buf) (sym whole);
+      work_is = put_back k work b.last ws' long (b.long ∙ length-take-le k work long) (b.clear ∙ ap (λ j. cleared j b.last) (sym w)) ∙ ap (λ j. replicate j 0 ++ drop j work) w ∙ sym (work_cleared kind (finder s source generics) q buf work count passes);
+    }
 
 -- What entry has tested.
-module _ (s q : Words) (answer work count n : ℕ) (e : n ≡ number (entry s q answer work count)) (z : n ≡ 0) where
+module _ (s q : Words) (answer work count : ℕ) (e : 0 ≡ number (entry s q answer work count)) where
   tests : (i : ℕ) → T (not (get_or (entry s q answer work count) i (0, false)).1)
-  tests = unrefused (entry s q answer work count) (number-none (entry s q answer work count) n (λ m p k. let b = entry_numbers s q answer work count m p in omega (arith, b.least)) e z)
+  tests = unrefused (entry s q answer work count) (number-none (entry s q answer work count) 0 (λ m p k. let b = entry_numbers s q answer work count m p in omega (arith, b.least)) e refl)
 
   neither : (a b : Bool) → T (not (a || b)) → T (not a) × T (not b)
   neither true b t = absurd t
@@ -143,8 +87,8 @@ module _ (s q : Words) (answer work count n : ℕ) (e : n ≡ number (entry s q 
     count_low = nltb→le limit_count count (tests 4);
   }
 
-pub part-entered : (s q : Words) (answer : ℕ) (work : Words) (count n k : ℕ) → n ≡ number (entry s q answer (length work) count) → n ≡ 0 → k ≡ limit_workspace → Entered s q answer (length (take k work)) count
-part-entered s q answer work count n k e z w = entry_passed s q answer (length work) count n e z k (length (take k work)) w (length-take-le k work (entry_room s q answer (length work) count n e z k w))
+pub part-entered : (s q : Words) (answer : ℕ) (work : Words) (count k : ℕ) → 0 ≡ number (entry s q answer (length work) count) → k ≡ limit_workspace → Entered s q answer (length (take k work)) count
+part-entered s q answer work count k e w = entry_passed s q answer (length work) count e k (length (take k work)) w (length-take-le k work (entry_room s q answer (length work) count e k w))
 
-pub part_is : (s q : Words) (answer : ℕ) (work : Words) (count n k : ℕ) → n ≡ number (entry s q answer (length work) count) → n ≡ 0 → k ≡ limit_workspace → k ≡ length (take k work)
-part_is s q answer work count n k e z w = sym (length-take-le k work (entry_room s q answer (length work) count n e z k w))
+pub part_is : (s q : Words) (answer : ℕ) (work : Words) (count k : ℕ) → 0 ≡ number (entry s q answer (length work) count) → k ≡ limit_workspace → k ≡ length (take k work)
+part_is s q answer work count k e w = sym (length-take-le k work (entry_room s q answer (length work) count e k w))

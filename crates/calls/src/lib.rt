@@ -2,32 +2,29 @@
 // then the checks of sheet and question, the search and the answer, in the workspace's first WORKSPACE words, which are zero at the end.
 #![tactic(auto)]
 
-ghost use Rattle.std.specs.Prelude.{◌≡◌, ◌≤◌, ◌<◌, eqb, ltb, length};
+ghost use Rattle.std.specs.Prelude.{◌≡◌, ◌≤◌, ◌<◌, length};
 ghost use Rattle.rules.specs.Limits.{limit_answer, limit_workspace, limit_steps};
-ghost use Rattle.rules.specs.Check.{refusal, impl_checks, flex_checks};
-ghost use Rattle.rules.specs.Calls.{impl_within, flex_within, try_find_impl, find_flex};
-ghost use Rattle.checks.specs.Numbers.{finder};
-ghost use Rattle.refusals.specs.Numbers.{end_number, end_count};
-ghost use Rattle.calls.specs.Ended.{Ends};
+ghost use Rattle.rules.specs.Check.{refusal};
+ghost use Rattle.rules.specs.Calls.{try_find_impl, find_flex};
+ghost use Rattle.refusals.specs.Numbers.{verdict_number};
+ghost use Rattle.checks.specs.Numbers.{number, finder};
+ghost use Rattle.closing.specs.Ended.{Ends};
 ghost use Rattle.calls.specs.Prepared.{Passed, Prepared};
-ghost use Rattle.calls.specs.Outcomes.{ended_of, Calls, packed_of, PackedCalls};
-ghost use Rattle.calls.specs.Behind.{ImplPassed, FlexPassed, Entered, behind, Behind};
+ghost use Rattle.calls.specs.Outcomes.{told, Calls, packed_of, PackedCalls};
+ghost use Rattle.calls.specs.Kinds.{checks_of, within_of, whole_of, behind};
+ghost use Rattle.calls.specs.Behind.{CallPassed, Entered, Behind};
 
-use refusals::Stopped;
+use refusals::{Refusal, Stopped};
 use steps::Finder;
 
-// What a call comes to: answered, or refused with a number of document 01; with the count of steps after it.
-#[derive(Clone, Copy)]
-pub enum Outcome {
-    Answered { count: u32 },
-    Refused { number: u32, count: u32 },
-}
+// What a call comes to: the count of steps after it, or its refusal with that count.
+pub type Outcome = Result<u32, Stopped>;
 
-// What a call comes to behind its checks: 0 where it is answered, or the number of its refusal; and the count after.
+// What a call asks for: an impl, or how a type is flexible.
 #[derive(Clone, Copy)]
-pub struct Ended {
-    pub number: u32,
-    pub count: u32,
+enum Kind {
+    Impl { basic: u32 },
+    Flex,
 }
 
 // The workspace's words that a call uses, and clears.
@@ -43,32 +40,6 @@ pub fn workspace_words() -> usize
     WORKSPACE
 }
 
-// What a search and its closing came to, in numbers.
-fn in_numbers(r: Result<u32, Stopped>) -> Ended
-    ensures { (result.number ≡ end_number r) × (result.count ≡ end_count r) }
-{
-    match r {
-        Ok(count) => Ended { number: 0, count },
-        Err(stopped) => Ended {
-            number: stopped.refusal.number(),
-            count: stopped.count,
-        },
-    }
-}
-
-// What a call behind its checks came to, as an outcome.
-fn as_outcome(r: Ended) -> Outcome
-    ensures { result ≡ ended_of r }
-{
-    if r.number == 0 {
-        return Outcome::Answered { count: r.count };
-    }
-    Outcome::Refused {
-        number: r.number,
-        count: r.count,
-    }
-}
-
 // The candidate sets of a source, and behind them what the imports of a call with these generics take.
 fn prepare(sheet: &[u32], sets: &mut [u32], source: usize, generics: usize)
     requires passed { Passed sheet.now source generics }
@@ -79,56 +50,101 @@ fn prepare(sheet: &[u32], sets: &mut [u32], source: usize, generics: usize)
     reach::fill(sheet, generics, &mut sets[steps::SETS..]);
 }
 
-// The impl call once its checks have passed: the candidate sets of its source stand in its own frame.
-fn impl_with_sets(
-    sheet: &[u32],
-    question: &[u32],
+// A call: what it asks for, and of which sheet, question, source and generics.
+#[derive(Clone, Copy)]
+struct Call<'a> {
+    kind: Kind,
+    sheet: &'a [u32],
+    question: &'a [u32],
     source: usize,
     generics: usize,
-    basic: u32,
-    ws: &mut [u32],
-    answer: &mut [u32],
-    count: u32,
-) -> Ended
-    requires impl_passed { ImplPassed sheet.now question.now source generics basic }
-    requires in_bounds { 662794 ≤ length ws.old }
-    requires limit_answer_in_bounds { limit_answer ≤ length answer.old }
-    requires count_bound { count ≤ 1000000 }
-    ensures { Ends (impl_within (ltb limit_steps) (finder sheet.now source generics) (eqb basic 1) question.now count) answer.old answer.new result }
-{
-    let mut sets = [0u32; steps::SETS_END];
-    prepare(sheet, &mut sets, source, generics);
-    let f = Finder {
-        source,
-        generics,
-        limit: STEPS,
-    };
-    in_numbers(asking::ask_impl(sheet, &sets, question, f, basic, ws, answer, count))
 }
 
-// The impl call behind entry, in the workspace's first words.
-fn impl_within(
-    sheet: &[u32],
-    question: &[u32],
-    source: usize,
-    generics: usize,
-    basic: u32,
-    ws: &mut [u32],
-    answer: &mut [u32],
-    count: u32,
-) -> Ended
-    requires { Entered sheet.now question.now (length answer.old) (length ws.old) count }
-    ensures { Behind (behind (refusal (impl_checks (finder sheet.now source generics) basic question.now)) (impl_within (ltb limit_steps) (finder sheet.now source generics) (eqb basic 1) question.now count) count) answer.old answer.new ws.old ws.new result }
-{
-    let checked = checks::check_impl(sheet, question, source, generics, basic, ws);
-    let number = checks::number(checked);
-    if number != 0 {
-        words::clear(ws, workspace_words()); // refused by 6 to 13
-        return Ended { number, count };
+impl<'a> Call<'a> {
+    // The checks behind entry.
+    fn check(self, ws: &mut [u32]) -> Result<(), Refusal>
+        requires s_nonzero { 0 < length self.sheet.now }
+        requires s_len_bound { length self.sheet.now ≤ 4096 }
+        requires q_nonzero { 0 < length self.question.now }
+        requires q_len_bound { length self.question.now ≤ 4096 }
+        requires in_bounds { 90112 ≤ length ws.old }
+        ensures { verdict_number result ≡ number (checks_of self.entry.kind (finder self.entry.sheet.now self.entry.source self.entry.generics) self.entry.question.now) }
+    {
+        let Call {
+            kind,
+            sheet,
+            question,
+            source,
+            generics,
+        } = self;
+        match kind {
+            Kind::Impl { basic } => {
+                checks::check_impl(sheet, question, source, generics, basic, ws)
+            }
+            Kind::Flex => checks::check_flex(sheet, question, source, generics, ws),
+        }
     }
-    let r = impl_with_sets(sheet, question, source, generics, basic, ws, answer, count);
-    words::clear(ws, workspace_words());
-    r
+
+    // Once the checks have passed: the candidate sets of the source stand in its own frame.
+    fn with_sets(self, ws: &mut [u32], answer: &mut [u32], count: u32) -> Outcome
+        requires call_passed { CallPassed self.kind self.sheet.now self.question.now self.source self.generics }
+        requires in_bounds { 662794 ≤ length ws.old }
+        requires limit_answer_in_bounds { limit_answer ≤ length answer.old }
+        requires count_bound { count ≤ 1000000 }
+        ensures { Ends (within_of self.entry.kind (finder self.entry.sheet.now self.entry.source self.entry.generics) self.entry.question.now count) answer.old answer.new result }
+    {
+        let Call {
+            kind,
+            sheet,
+            question,
+            source,
+            generics,
+        } = self;
+        let mut sets = [0u32; steps::SETS_END];
+        prepare(sheet, &mut sets, source, generics);
+        let f = Finder {
+            source,
+            generics,
+            limit: STEPS,
+        };
+        match kind {
+            Kind::Impl { basic } => {
+                asking::ask_impl(sheet, &sets, question, f, basic, ws, answer, count)
+            }
+            Kind::Flex => flexing::ask_flex(sheet, &sets, question, f, ws, answer, count),
+        }
+    }
+
+    // Behind entry: the checks, and what it comes to once they have passed.
+    fn checked(self, ws: &mut [u32], answer: &mut [u32], count: u32) -> Outcome
+        requires { Entered self.sheet.now self.question.now (length answer.old) (length ws.old) count }
+        ensures { Ends (behind (refusal (checks_of self.entry.kind (finder self.entry.sheet.now self.entry.source self.entry.generics) self.entry.question.now)) (within_of self.entry.kind (finder self.entry.sheet.now self.entry.source self.entry.generics) self.entry.question.now count) count) answer.old answer.new result }
+    {
+        match self.check(ws) {
+            Ok(()) => self.with_sets(ws, answer, count),
+            Err(refusal) => Err(Stopped { refusal, count }),
+        }
+    }
+
+    // The same, in the workspace's first words, which are cleared after it.
+    fn within(self, ws: &mut [u32], answer: &mut [u32], count: u32) -> Outcome
+        requires { Entered self.sheet.now self.question.now (length answer.old) (length ws.old) count }
+        ensures { Behind (behind (refusal (checks_of self.entry.kind (finder self.entry.sheet.now self.entry.source self.entry.generics) self.entry.question.now)) (within_of self.entry.kind (finder self.entry.sheet.now self.entry.source self.entry.generics) self.entry.question.now count) count) answer.old answer.new ws.old ws.new result }
+    {
+        let outcome = self.checked(ws, answer, count);
+        words::clear(ws, WORKSPACE);
+        outcome
+    }
+
+    // All of it: entry, and what is behind it.
+    fn make(self, answer: &mut [u32], work: &mut [u32], count: u32) -> Outcome
+        ensures { Calls (whole_of self.entry.kind (finder self.entry.sheet.now self.entry.source self.entry.generics) self.entry.question.now (length answer.old) (length work.old) count) answer.old answer.new work.old work.new result }
+    {
+        match checks::check_entry(self.sheet, self.question, answer.len(), work.len(), count) {
+            Ok(()) => self.within(&mut work[..WORKSPACE], answer, count),
+            Err(refusal) => Err(Stopped { refusal, count }),
+        }
+    }
 }
 
 // The impl call.
@@ -144,69 +160,14 @@ pub fn try_find_impl(
 ) -> Outcome
     ensures { Calls (try_find_impl limit_steps (finder sheet.now source generics) basic question.now (length answer.old) (length work.old) count) answer.old answer.new work.old work.new result }
 {
-    let checked = checks::check_entry(sheet, question, answer.len(), work.len(), count);
-    let number = checks::number(checked);
-    if number != 0 {
-        return Outcome::Refused { number, count };
-    }
-    let d = words::wide(source);
-    let g = words::wide(generics);
-    let n = workspace_words();
-    let r = impl_within(sheet, question, d, g, basic, &mut work[..n], answer, count);
-    as_outcome(r)
-}
-
-// The flex call once its checks have passed: the candidate sets of its source stand in its own frame.
-fn flex_with_sets(
-    sheet: &[u32],
-    question: &[u32],
-    source: usize,
-    generics: usize,
-    ws: &mut [u32],
-    answer: &mut [u32],
-    count: u32,
-) -> Ended
-    requires flex_passed { FlexPassed sheet.now question.now source generics }
-    requires in_bounds { 662794 ≤ length ws.old }
-    requires limit_answer_in_bounds { limit_answer ≤ length answer.old }
-    requires count_bound { count ≤ 1000000 }
-    ensures { Ends (flex_within (ltb limit_steps) (finder sheet.now source generics) question.now count) answer.old answer.new result }
-{
-    let mut sets = [0u32; steps::SETS_END];
-    prepare(sheet, &mut sets, source, generics);
-    let f = Finder {
-        source,
-        generics,
-        limit: STEPS,
+    let call = Call {
+        kind: Kind::Impl { basic },
+        sheet,
+        question,
+        source: source as usize,
+        generics: generics as usize,
     };
-    in_numbers(flexing::ask_flex(sheet, &sets, question, f, ws, answer, count))
-}
-
-// The flex call behind entry, in the workspace's first words.
-fn flex_within(
-    sheet: &[u32],
-    question: &[u32],
-    source: usize,
-    generics: usize,
-    ws: &mut [u32],
-    answer: &mut [u32],
-    count: u32,
-) -> Ended
-    requires { Entered sheet.now question.now (length answer.old) (length ws.old) count }
-    ensures { Behind (behind (refusal (flex_checks (finder sheet.now source generics) question.now)) (flex_within (ltb limit_steps) (finder sheet.now source generics) question.now count) count) answer.old answer.new ws.old ws.new result }
-{
-    let checked = checks::check_flex(sheet, question, source, generics, ws);
-    let refusal = checks::number(checked);
-    if refusal != 0 {
-        words::clear(ws, workspace_words());
-        return Ended {
-            number: refusal,
-            count,
-        };
-    }
-    let r = flex_with_sets(sheet, question, source, generics, ws, answer, count);
-    words::clear(ws, workspace_words());
-    r
+    call.make(answer, work, count)
 }
 
 // The flex call.
@@ -221,25 +182,25 @@ pub fn find_flex(
 ) -> Outcome
     ensures { Calls (find_flex limit_steps (finder sheet.now source generics) question.now (length answer.old) (length work.old) count) answer.old answer.new work.old work.new result }
 {
-    let checked = checks::check_entry(sheet, question, answer.len(), work.len(), count);
-    let number = checks::number(checked);
-    if number != 0 {
-        return Outcome::Refused { number, count };
-    }
-    let d = words::wide(source);
-    let g = words::wide(generics);
-    let n = workspace_words();
-    let r = flex_within(sheet, question, d, g, &mut work[..n], answer, count);
-    as_outcome(r)
+    let call = Call {
+        kind: Kind::Flex,
+        sheet,
+        question,
+        source: source as usize,
+        generics: generics as usize,
+    };
+    call.make(answer, work, count)
 }
 
 // An outcome as one number: the count × 2^32, and the number, 0 where it is answered.
-fn packed(o: Outcome) -> u64
-    ensures { result ≡ packed_of o }
+fn packed(outcome: Outcome) -> u64
+    ensures { result ≡ packed_of (told outcome) }
 {
-    match o {
-        Outcome::Answered { count } => count as u64 * 4294967296,
-        Outcome::Refused { number, count } => count as u64 * 4294967296 + number as u64,
+    match outcome {
+        Ok(count) => u64::from(count) * 4294967296,
+        Err(Stopped { refusal, count }) => {
+            u64::from(count) * 4294967296 + u64::from(refusal.number())
+        }
     }
 }
 
@@ -256,10 +217,9 @@ pub fn vine_find_impl(
 ) -> u64
     ensures { PackedCalls (try_find_impl limit_steps (finder sheet.now source generics) basic question.now (length answer.old) (length work.old) count) answer.old answer.new work.old work.new result }
 {
-    let o = try_find_impl(
+    packed(try_find_impl(
         sheet, question, source, generics, basic, answer, work, count,
-    );
-    packed(o)
+    ))
 }
 
 // The flex call.
@@ -274,13 +234,12 @@ pub fn vine_find_flex(
 ) -> u64
     ensures { PackedCalls (find_flex limit_steps (finder sheet.now source generics) question.now (length answer.old) (length work.old) count) answer.old answer.new work.old work.new result }
 {
-    let o = find_flex(sheet, question, source, generics, answer, work, count);
-    packed(o)
+    packed(find_flex(sheet, question, source, generics, answer, work, count))
 }
 
 // The workspace's words.
 pub fn vine_workspace_words() -> u32
     ensures { result ≡ limit_workspace }
 {
-    662794
+    WORKSPACE as u32
 }

@@ -2,6 +2,7 @@
 use Rattle.std.specs.Prelude.{ℕ, ◌+◌, ◌≤◌, ◌<◌, ◌≡◌, refl, Bool, true, false, ◌⊎◌, ltb, length, set}
 use Rattle.std.proofs.Common.{sym, ◌∙◌, ap, subst, inl, inr, ⊎_elim, arith, get_or-set_same, get_or-set_other, lt-ltb, le-ltb, ltb-true, ltb-false}
 use Rattle.std.proofs.Math.ListN.{get_or-eq_default}
+use native.Mathlib.Nat.{ℕ_set}
 use Rattle.rules.specs.Lists.{Words}
 use Rattle.rules.specs.Layout.{header_definitions, header_traits, header_impls, header_imports}
 use Rattle.rules.specs.ChainLaws.{chain_short}
@@ -80,6 +81,18 @@ pub record Indexes (s ws : Words) : Type 0 where
   pub impls : Indexed s header_impls index_impls ws
   pub traits : Indexed s header_traits index_traits ws
   pub imports : Indexed s header_imports index_imports ws
+
+-- At most one proof of it.
+indexed_prop : (s : Words) (h base : ℕ) (ws : Words) → IsProp (Indexed s h base ws)
+indexed_prop s h base ws a b = λ i. record { count = ℕ_set _ _ a.count b.count i; places = λ j m. ℕ_set _ _ (a.places j m) (b.places j m) i }
+
+pub indexes_prop : (s ws : Words) → IsProp (Indexes s ws)
+indexes_prop s ws a b = λ i. record {
+  definitions = indexed_prop s _ _ ws a.definitions b.definitions i;
+  impls = indexed_prop s _ _ ws a.impls b.impls i;
+  traits = indexed_prop s _ _ ws a.traits b.traits i;
+  imports = indexed_prop s _ _ ws a.imports b.imports i;
+}
 
 -- They were written, and nothing below them.
 pub record IndexedAll (s ws us : Words) : Type 0 where

@@ -2,9 +2,9 @@
 // such an index in the workspace, and every field is then read in constant time. A record that is not there has place 0, as in the rules.
 ghost use Rattle.std.specs.Prelude.{◌≡◌, ◌+◌, ◌≤◌, ◌<◌, length};
 ghost use Rattle.rules.specs.Layout.{header_definitions, header_impls};
-ghost use Rattle.rules.specs.Sheet.{many, field, trait_def, inherent_params, import_def, impl_flag};
+ghost use Rattle.rules.specs.Sheet.{at, many, field, trait_def, inherent_params, import_def, impl_flag};
 ghost use Rattle.candidates.specs.Layout.{candidates_length};
-ghost use Rattle.candidates.specs.Index.{Indexing, looked, Indexes, IndexedAll};
+ghost use Rattle.candidates.specs.Index.{Indexing, looked, Indexes, indexes_prop, IndexedAll};
 
 use crate::layout;
 use chart::layout as sheet;
@@ -40,66 +40,76 @@ pub fn index_all(s: &[u32], ws: &mut [u32])
     index(s, sheet::IMPORTS, ws, layout::IMPORTS);
 }
 
-// How many definitions there are.
-pub fn definitions(s: &[u32], ws: &[u32]) -> usize
-    requires { Indexes s.now ws.now }
-    ensures { result ≡ many s.now header_definitions }
-{
-    words::next(ws, layout::DEFINITIONS)
+// A sheet, and a workspace in which its four indexes stand.
+#[derive(Clone, Copy)]
+pub struct Records<'a> {
+    pub s: &'a [u32],
+    pub ws: &'a [u32],
+    pub ghost indexes: { Indexes s.now ws.now } by { indexes_prop s.now ws.now },
 }
 
-// How many impls there are.
-pub fn impls(s: &[u32], ws: &[u32]) -> usize
-    requires { Indexes s.now ws.now }
-    ensures { result ≡ many s.now header_impls }
-{
-    words::next(ws, layout::IMPLS)
-}
+impl<'a> Records<'a> {
+    // Word k of record id of the chain whose index is at a base.
+    fn field(self, base: usize, id: usize, k: usize) -> u32
+        ensures { result ≡ at self.entry.s.now (looked self.entry.ws.now base id + k) }
+    {
+        words::offset(self.s, look(self.ws, base, id), k)
+    }
 
-// Word k of definition d.
-pub fn definition(s: &[u32], ws: &[u32], d: usize, k: usize) -> u32
-    requires { Indexes s.now ws.now }
-    ensures { result ≡ field s.now header_definitions d k }
-{
-    words::offset(s, look(ws, layout::DEFINITIONS, d), k)
-}
+    // How many definitions there are. This and what follows stay a function for each of the rules' names.
+    pub fn definitions(self) -> usize
+        ensures { result ≡ many self.entry.s.now header_definitions }
+    {
+        words::next(self.ws, layout::DEFINITIONS)
+    }
 
-// Word k of impl i.
-pub fn impl_word(s: &[u32], ws: &[u32], i: usize, k: usize) -> u32
-    requires { Indexes s.now ws.now }
-    ensures { result ≡ field s.now header_impls i k }
-{
-    words::offset(s, look(ws, layout::IMPLS, i), k)
-}
+    // How many impls there are.
+    pub fn impls(self) -> usize
+        ensures { result ≡ many self.entry.s.now header_impls }
+    {
+        words::next(self.ws, layout::IMPLS)
+    }
 
-// Impl i has a flag.
-pub(crate) fn impl_flag(s: &[u32], ws: &[u32], i: usize, flag: usize) -> bool
-    requires { Indexes s.now ws.now × (0 < flag) }
-    ensures { result ≡ impl_flag s.now flag i }
-{
-    impl_word(s, ws, i, sheet::IMPL_FLAGS) as usize / flag % 2 == 1
-}
+    // Word k of definition d.
+    pub fn definition(self, d: usize, k: usize) -> u32
+        ensures { result ≡ field self.entry.s.now header_definitions d k }
+    {
+        self.field(layout::DEFINITIONS, d, k)
+    }
 
-// The definition of a trait.
-pub fn trait_def(s: &[u32], ws: &[u32], t: usize) -> u32
-    requires { Indexes s.now ws.now }
-    ensures { result ≡ trait_def s.now t }
-{
-    words::offset(s, look(ws, layout::TRAITS, t), sheet::TRAIT_DEFINITION)
-}
+    // Word k of impl i.
+    pub fn impl_word(self, i: usize, k: usize) -> u32
+        ensures { result ≡ field self.entry.s.now header_impls i k }
+    {
+        self.field(layout::IMPLS, i, k)
+    }
 
-// How many of a trait's arguments are inherent.
-pub fn inherent(s: &[u32], ws: &[u32], t: usize) -> u32
-    requires { Indexes s.now ws.now }
-    ensures { result ≡ inherent_params s.now t }
-{
-    words::offset(s, look(ws, layout::TRAITS, t), sheet::TRAIT_INHERENT)
-}
+    // Impl i has a flag.
+    pub(crate) fn impl_flag(self, i: usize, flag: usize) -> bool
+        requires { 0 < flag }
+        ensures { result ≡ impl_flag self.entry.s.now flag i }
+    {
+        self.impl_word(i, sheet::IMPL_FLAGS) as usize / flag % 2 == 1
+    }
 
-// The definition? of an import.
-pub fn import_def(s: &[u32], ws: &[u32], i: usize) -> u32
-    requires { Indexes s.now ws.now }
-    ensures { result ≡ import_def s.now i }
-{
-    words::offset(s, look(ws, layout::IMPORTS, i), sheet::IMPORT_DEFINITION)
+    // The definition of a trait.
+    pub fn trait_def(self, t: usize) -> u32
+        ensures { result ≡ trait_def self.entry.s.now t }
+    {
+        self.field(layout::TRAITS, t, sheet::TRAIT_DEFINITION)
+    }
+
+    // How many of a trait's arguments are inherent.
+    pub fn inherent(self, t: usize) -> u32
+        ensures { result ≡ inherent_params self.entry.s.now t }
+    {
+        self.field(layout::TRAITS, t, sheet::TRAIT_INHERENT)
+    }
+
+    // The definition? of an import.
+    pub fn import_def(self, i: usize) -> u32
+        ensures { result ≡ import_def self.entry.s.now i }
+    {
+        self.field(layout::IMPORTS, i, sheet::IMPORT_DEFINITION)
+    }
 }

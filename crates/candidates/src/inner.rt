@@ -28,7 +28,7 @@ fn inner_edge(ws: &mut [u32], x: usize, y: usize)
     }
 }
 
-// Opens the edges from x that stay in its component.
+// Opens the edges from x that stay in its component. The next edge is looked for in the workspace that the body writes, so that no iterator can hold it.
 fn inner_row(ws: &mut [u32], n: usize, x: usize)
     requires { (n ≤ 384) × (x < n) × (rows_end ≤ length ws.old) }
     ensures { InnerRow n x ws.old ws.new }

@@ -1,5 +1,6 @@
 // Numbered edges in the order of `for_each_child`, as rows of bits over nodes (3 × definition + level): to which nodes an edge leads,
-// and to which an edge leads whose vis lets the source in.
+// and to which an edge leads whose vis lets the source in. Sheet and workspace stay two parameters of what writes: a struct of both, lent by `&mut`, would
+// have to promise in each contract that the sheet stays.
 ghost use Rattle.std.specs.Prelude.{◌≡◌, [], ◌∷◌, ◌+◌, ◌*◌, ◌≤◌, ◌<◌, length};
 ghost use Rattle.rules.specs.Lists.{concat_map};
 ghost use Rattle.rules.specs.Sheet.{chain};
@@ -7,7 +8,7 @@ ghost use Rattle.rules.specs.Candidates.{member_edges, binding_edges, edges};
 ghost use Rattle.candidates.specs.Layout.{rows_end};
 ghost use Rattle.candidates.specs.Links.{Linking, LinkingAll, Adds, trait_edges, LinksDefinition, Built};
 
-use crate::index::{definition, impl_flag, impl_word, import_def, trait_def};
+use crate::index::Records;
 use crate::layout;
 use crate::rows::set_bit;
 use crate::source::visible;
@@ -37,7 +38,7 @@ fn link_trait(s: &[u32], ws: &mut [u32], x: usize, vis: u32, t: usize)
     ensures { Adds x (trait_edges s.now vis t) ws.old ws.new }
 {
     if let Some(t) = t.checked_sub(1) {
-        let d = trait_def(s, ws, t) as usize;
+        let d = Records { s, ws }.trait_def(t) as usize;
         link(ws, x, vis, 3 * d + 1);
     }
 }
@@ -51,7 +52,7 @@ fn link_member(s: &[u32], ws: &mut [u32], x: usize, m: usize)
     let id = words::offset(s, m, sheet::MEMBER_ID) as usize;
     if words::offset(s, m, sheet::MEMBER_IMPORT) == 0 {
         link(ws, x, vis, 3 * id);
-    } else if let Some(d) = (import_def(s, ws, id) as usize).checked_sub(1) {
+    } else if let Some(d) = (Records { s, ws }.import_def(id) as usize).checked_sub(1) {
         link(ws, x, vis, 3 * d);
     }
 }
@@ -63,13 +64,15 @@ fn link_binding(s: &[u32], ws: &mut [u32], x: usize, named: bool, m: usize)
 {
     let vis = words::offset(s, m, sheet::BINDING_VIS);
     let i = words::offset(s, m, sheet::BINDING_IMPL) as usize;
-    if impl_flag(s, ws, i, sheet::FLAG_NAMED) == named {
-        let t = impl_word(s, ws, i, sheet::IMPL_TRAIT) as usize;
+    let records = Records { s, ws };
+    if records.impl_flag(i, sheet::FLAG_NAMED) == named {
+        let t = records.impl_word(i, sheet::IMPL_TRAIT) as usize;
         link_trait(s, ws, x, vis, t);
     }
 }
 
-// Adds the edges of the members on a chain.
+// Adds the edges of the members on a chain. This and `link_bindings` are a loop of one call each: with the call as a closure the contract would say of the
+// closure what it says of the call.
 fn link_members(s: &[u32], ws: &mut [u32], x: usize, head: usize)
     requires { Linking x s.now ws.old }
     ensures { Adds x (concat_map (member_edges s.now) (chain s.now head)) ws.old ws.new }
@@ -94,10 +97,11 @@ fn link_direct(s: &[u32], ws: &mut [u32], d: usize)
     requires { Linking (3 * d) s.now ws.old }
     ensures { Adds (3 * d) (edges s.now (3 * d)) ws.old ws.new }
 {
-    let vis = definition(s, ws, d, sheet::DEFINITION_TRAIT_VIS);
-    let t = definition(s, ws, d, sheet::DEFINITION_TRAIT) as usize;
-    let bindings = definition(s, ws, d, sheet::DEFINITION_BINDINGS) as usize;
-    let members = definition(s, ws, d, sheet::DEFINITION_IMPLICIT) as usize;
+    let records = Records { s, ws };
+    let vis = records.definition(d, sheet::DEFINITION_TRAIT_VIS);
+    let t = records.definition(d, sheet::DEFINITION_TRAIT) as usize;
+    let bindings = records.definition(d, sheet::DEFINITION_BINDINGS) as usize;
+    let members = records.definition(d, sheet::DEFINITION_IMPLICIT) as usize;
     link_trait(s, ws, 3 * d, vis, t);
     link_bindings(s, ws, 3 * d, true, bindings);
     link_members(s, ws, 3 * d, members);
@@ -108,8 +112,9 @@ fn link_within(s: &[u32], ws: &mut [u32], d: usize)
     requires { Linking (3 * d + 1) s.now ws.old }
     ensures { Adds (3 * d + 1) (edges s.now (3 * d + 1)) ws.old ws.new }
 {
-    let bindings = definition(s, ws, d, sheet::DEFINITION_BINDINGS) as usize;
-    let members = definition(s, ws, d, sheet::DEFINITION_NAMED) as usize;
+    let records = Records { s, ws };
+    let bindings = records.definition(d, sheet::DEFINITION_BINDINGS) as usize;
+    let members = records.definition(d, sheet::DEFINITION_NAMED) as usize;
     link(ws, 3 * d + 1, PUBLIC, 3 * d);
     link_members(s, ws, 3 * d + 1, members);
     link_bindings(s, ws, 3 * d + 1, false, bindings);
@@ -120,7 +125,7 @@ fn link_ancestors(s: &[u32], ws: &mut [u32], d: usize)
     requires { Linking (3 * d + 2) s.now ws.old }
     ensures { Adds (3 * d + 2) (edges s.now (3 * d + 2)) ws.old ws.new }
 {
-    let parent = definition(s, ws, d, sheet::DEFINITION_PARENT) as usize;
+    let parent = Records { s, ws }.definition(d, sheet::DEFINITION_PARENT) as usize;
     let prelude = words::next(s, sheet::PRELUDE);
     link(ws, 3 * d + 2, PUBLIC, 3 * d + 1);
     if let Some(p) = parent.checked_sub(1) {
@@ -140,7 +145,7 @@ fn link_definition(s: &[u32], ws: &mut [u32], d: usize)
     link_ancestors(s, ws, d);
 }
 
-// Adds the edges of all nodes of the first n definitions.
+// Adds the edges of all nodes of the first n definitions. `sets::bind_all` is the same loop over another step, whose contract is another.
 pub fn link_all(s: &[u32], ws: &mut [u32], n: usize)
     requires { LinkingAll n s.now ws.old }
     ensures { Built s.now (3 * n) ws.old ws.new }

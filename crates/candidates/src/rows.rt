@@ -1,4 +1,5 @@
-// Rows of bits over nodes, and what spreads along a relation of nodes: reach and sets are computed so.
+// Rows of bits over nodes, and what spreads along a relation of nodes: reach and sets are computed so. Workspace, count of nodes and place of the rows stay
+// parameters: a struct of them, lent by `&mut`, would have to promise in each contract that count and place stay.
 ghost use Rattle.std.specs.Prelude.{◌≡◌, true, ◌+◌, ◌*◌, ◌≤◌, ◌<◌, ◌/◌, length};
 ghost use Rattle.rules.specs.Sheet.{at};
 ghost use Rattle.candidates.specs.Bits.{bit, on, with_bit, Joined};
@@ -7,7 +8,7 @@ ghost use Rattle.candidates.specs.Spread.{NextBit, Kin, Way, WayOn, ChildsOn, Vi
 use crate::layout;
 use crate::order::Search;
 
-// Bit b of a word is 1.
+// Bit b of a word is 1: a test that the rows' readers share.
 fn bit(w: u32, b: usize) -> bool
     requires { b < 32 }
     ensures { result ≡ bit w b }
@@ -91,7 +92,8 @@ fn take(ws: &mut [u32], n: usize, m: usize, x: usize, y: usize) -> bool
     )
 }
 
-// Row x takes what the rows have to which its node leads; whether that changed it.
+// Row x takes what the rows have to which its node leads; whether that changed it. The next node is looked for in the workspace that the body writes, so that
+// no iterator can hold it.
 fn gather(ws: &mut [u32], n: usize, m: usize, x: usize) -> bool
     requires { Room n m x ws.old }
     ensures { Taken n m x n ws.old ws.new result }
@@ -189,6 +191,7 @@ fn take_child(ws: &mut [u32], n: usize, m: usize, x: usize, y: usize) -> Option<
 
 // Row x takes what the rows have to which its node leads, each of which takes before it: in the order in which a depth-first search leaves the nodes,
 // with Tarjan's numbers. At most `left` nodes deep; a node that was seen is not visited again. The lowest number reached of those that are not finished.
+// The next node is looked for in the workspace that the body writes, so that no iterator can hold it.
 fn visit(ws: &mut [u32], t: &mut Search, n: usize, m: usize, x: usize, left: usize) -> Option<usize>
     requires { Room n m x ws.old × Kin n m ws.old }
     ensures { Visited n m ws.old ws.new }

@@ -4,10 +4,9 @@ ghost use Rattle.rules.specs.Layout.{flag_named};
 ghost use Rattle.rules.specs.Sheet.{chain, bindings, impl_flag};
 ghost use Rattle.rules.specs.Candidates.{may_enter};
 ghost use Rattle.rules.specs.Admission.{binding_node};
-ghost use Rattle.candidates.specs.Index.{Indexes};
 ghost use Rattle.candidates.specs.Sets.{Binding, BindingAll, Enters, Bound};
 
-use crate::index::{definition, impl_flag, impl_word};
+use crate::index::Records;
 use crate::layout;
 use crate::rows::set_bit;
 use crate::source::visible;
@@ -16,25 +15,26 @@ use chart::layout::{
     IMPL_TRAIT,
 };
 
-// "Manual, unsafe and Error impls never enter."
-fn may_enter(s: &[u32], ws: &[u32], i: usize) -> bool
-    requires { Indexes s.now ws.now }
-    ensures { result ≡ may_enter s.now i }
-{
-    !impl_flag(s, ws, i, FLAG_MANUAL)
-        && !impl_flag(s, ws, i, FLAG_UNSAFE)
-        && impl_word(s, ws, i, IMPL_TRAIT) != 0
-}
+impl<'a> Records<'a> {
+    // "Manual, unsafe and Error impls never enter."
+    fn may_enter(self, i: usize) -> bool
+        ensures { result ≡ may_enter self.entry.s.now i }
+    {
+        !self.impl_flag(i, FLAG_MANUAL)
+            && !self.impl_flag(i, FLAG_UNSAFE)
+            && self.impl_word(i, IMPL_TRAIT) != 0
+    }
 
-// The node at which a definition binds an impl: its direct level for a named impl, the level within for another.
-fn binding_node(s: &[u32], ws: &[u32], d: usize, i: usize) -> usize
-    requires { Indexes s.now ws.now × (d < 128) }
-    ensures { (result ≡ binding_node (impl_flag s.now flag_named i) d) × (result < 384) }
-{
-    if impl_flag(s, ws, i, FLAG_NAMED) {
-        3 * d
-    } else {
-        3 * d + 1
+    // The node at which a definition binds an impl: its direct level for a named impl, the level within for another.
+    fn binding_node(self, d: usize, i: usize) -> usize
+        requires { d < 128 }
+        ensures { (result ≡ binding_node (impl_flag self.entry.s.now flag_named i) d) × (result < 384) }
+    {
+        if self.impl_flag(i, FLAG_NAMED) {
+            3 * d
+        } else {
+            3 * d + 1
+        }
     }
 }
 
@@ -45,8 +45,9 @@ fn bind(s: &[u32], ws: &mut [u32], d: usize, b: usize)
 {
     let i = words::offset(s, b, BINDING_IMPL) as usize;
     let open = visible(ws, words::offset(s, b, BINDING_VIS));
-    if i < layout::NODES && open && may_enter(s, ws, i) {
-        let x = binding_node(s, ws, d, i);
+    let records = Records { s, ws };
+    if i < layout::NODES && open && records.may_enter(i) {
+        let x = records.binding_node(d, i);
         set_bit(ws, layout::SETS + layout::ROW * x, i);
     }
 }
@@ -66,7 +67,7 @@ fn bind_definition(s: &[u32], ws: &mut [u32], d: usize)
     requires { Binding d s.now ws.old }
     ensures { Enters s.now d (bindings s.now d) ws.old ws.new }
 {
-    let head = definition(s, ws, d, DEFINITION_BINDINGS) as usize;
+    let head = Records { s, ws }.definition(d, DEFINITION_BINDINGS) as usize;
     bind_chain(s, ws, d, head);
 }
 

@@ -4,7 +4,7 @@ ghost use Rattle.candidates.specs.Layout.{candidates_length};
 ghost use Rattle.candidates.specs.Index.{Indexes};
 ghost use Rattle.candidates.specs.Source.{Marked, Climbed, Sourced, seen};
 
-use crate::index::{definition, definitions};
+use crate::index::Records;
 use crate::layout;
 use chart::layout::DEFINITION_PARENT;
 
@@ -24,10 +24,10 @@ fn climb(s: &[u32], ws: &mut [u32], src: usize)
     ensures { Climbed s.now src ws.old ws.new }
 {
     let mut d = src;
-    let n = definitions(s, ws);
+    let n = Records { s, ws }.definitions();
     for _ in 0..n {
         mark(ws, d);
-        let parent = definition(s, ws, d, DEFINITION_PARENT) as usize;
+        let parent = Records { s, ws }.definition(d, DEFINITION_PARENT) as usize;
         if parent == 0 {
             return;
         }

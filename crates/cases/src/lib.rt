@@ -1,7 +1,7 @@
 // Stored cases: little-endian words read from a source, a case at a time, and how many came to what. oracle/stored/README.md says how they are laid out.
 #![tactic(auto)]
 
-ghost use Rattle.std.specs.Prelude.{◌≡◌, ◌≢◌, ◌↔◌, ◌<◌, ◌^◌, IfOk, IfSome, IfNone, vec_len};
+ghost use Rattle.std.specs.Prelude.{◌≡◌, ◌≢◌, ◌↔◌, ◌<◌, ◌≤◌, ◌^◌, IfOk, IfSome, IfNone, vec_len};
 ghost use Rattle.refusals.specs.Numbers.{number_of};
 ghost use Rattle.cases.specs.Word.{TakesWord};
 
@@ -12,7 +12,10 @@ use std::io::{ErrorKind, Read};
 
 mod tally;
 
-pub use tally::Tally;
+pub use tally::{MOST, Tally};
+
+// The most words that are read of a sheet or a question.
+const SLICE: usize = 8192;
 
 // The next word, if there is one.
 fn next_word<R: Read>(source: &mut R) -> io::Result<Option<u32>>
@@ -26,29 +29,27 @@ fn next_word<R: Read>(source: &mut R) -> io::Result<Option<u32>>
     }
 }
 
-/// The next word; 0 at the end.
+// The next word; 0 at the end.
 pub fn read_word<R: Read>(source: &mut R) -> io::Result<u32>
     ensures { IfOk result (λ word. word ≢ 0 → TakesWord (R.remaining source.old) (R.remaining source.new) word) }
 {
     Ok(next_word(source)?.unwrap_or(0))
 }
 
-/// Words behind their number; as many as there are where the source ends before.
-pub fn read_words<R: Read>(alloc: Global, source: &mut R) -> io::Result<Vec<u32>>
-    ensures { IfOk result (λ words. vec_len words < 2 ^ 32) }
+// Words behind their number, of which no more are read than so many; 0 for those that the source ends before.
+pub fn read_words<R: Read>(alloc: Global, source: &mut R, most: usize) -> io::Result<Vec<u32>>
+    ensures { IfOk result (λ words. (vec_len words < 2 ^ 32) × (vec_len words ≤ most)) }
 {
     let n = read_word(source)?;
     let mut words = Vec::new(alloc);
-    for _ in 0..n {
-        let Some(word) = next_word(source)? else {
-            break
-        };
+    for _ in 0..most.min(n as usize) {
+        let word = read_word(source)?;
         words.push(word)?;
     }
     Ok(words)
 }
 
-/// Which call is made.
+// Which call is made.
 #[derive(Clone, Copy, Debug, PartialEq, Eq)]
 pub enum Form {
     Impl { basic: u32 },
@@ -69,7 +70,7 @@ impl Form {
     }
 }
 
-/// How many words of the answer buffer and of the workspace are lent.
+// How many words of the answer buffer and of the workspace are lent.
 #[derive(Clone, Copy, Debug, PartialEq, Eq)]
 pub struct Lent {
     pub answer: usize,
@@ -85,7 +86,7 @@ impl Lent {
     }
 }
 
-/// Who asks.
+// Who asks.
 #[derive(Clone, Copy, Debug, PartialEq, Eq)]
 pub struct Asker {
     pub source: u32,
@@ -101,14 +102,26 @@ impl Asker {
     }
 }
 
-/// What a call comes to: why it is turned away, if it is, and the count after it.
+// What a call comes to: why it is turned away, if it is, and the count after it.
 #[derive(Clone, Copy, Debug, PartialEq, Eq)]
 pub struct End {
     pub refusal: Option<Refusal>,
     pub count: u32,
 }
 
-/// The number of a refusal; 0 where there is none.
+impl End {
+    fn read<R: Read>(source: &mut R) -> io::Result<Option<Self>> {
+        let number = read_word(source)?;
+        let count = read_word(source)?;
+        let refusal = Refusal::from_number(number);
+        if number != 0 && refusal.is_none() {
+            return Ok(None);
+        }
+        Ok(Some(End { refusal, count }))
+    }
+}
+
+// The number of a refusal; 0 where there is none.
 pub fn number(refusal: Option<Refusal>) -> u32
     ensures passed { IfNone refusal (result ≡ 0) }
     ensures refused { IfSome refusal (λ refusal. result ≡ number_of refusal) }
@@ -116,14 +129,13 @@ pub fn number(refusal: Option<Refusal>) -> u32
     refusal.map_or(0, |refusal| refusal.number())
 }
 
-/// A call with its end and its answer's words, as they are stored.
+// A call with its end as they are stored, none where the stored number is no refusal's; the words of its answer follow it.
 #[derive(Debug, Drop)]
 pub struct Call {
     pub form: Form,
     pub lent: Lent,
     pub question: Vec<u32>,
-    pub end: End,
-    pub answer: Vec<u32>,
+    pub end: Option<End>,
 }
 
 impl Call {
@@ -137,16 +149,12 @@ impl Call {
         Ok(Call {
             form,
             lent,
-            question: read_words(alloc, source)?,
-            end: End {
-                refusal: Refusal::from_number(read_word(source)?),
-                count: read_word(source)?,
-            },
-            answer: read_words(alloc, source)?,
+            question: read_words(alloc, source, SLICE)?,
+            end: End::read(source)?,
         })
     }
 
-    /// The next call of a sitting.
+    // The next call of a sitting.
     pub fn read<R: Read>(alloc: Global, source: &mut R) -> io::Result<Self> {
         let form = Form::new(read_word(source)?, read_word(source)?);
         let lent = Lent::read(source)?;
@@ -154,7 +162,7 @@ impl Call {
     }
 }
 
-/// A call from a count on a sheet of its own.
+// A call from a count on a sheet of its own.
 #[derive(Debug, Drop)]
 pub struct Case {
     pub asker: Asker,
@@ -171,7 +179,7 @@ impl Case {
         let form = Form::new(form, read_word(source)?);
         let count = read_word(source)?;
         let lent = Lent::read(source)?;
-        let sheet = read_words(alloc, source)?;
+        let sheet = read_words(alloc, source, SLICE)?;
         let call = Call::read_behind(alloc, source, form, lent)?;
         Ok(Case {
             asker,
@@ -182,7 +190,7 @@ impl Case {
     }
 }
 
-/// What the calls of a sitting share, which follow it: who asks, the count that the first begins with, and the sheet; and how many there are.
+// What the calls of a sitting share, which follow it: who asks, the count that the first begins with, and the sheet; and how many there are.
 #[derive(Debug, Drop)]
 pub struct Sitting {
     pub asker: Asker,
@@ -197,7 +205,7 @@ impl Sitting {
         Ok(Sitting {
             asker: Asker::read(source)?,
             count: read_word(source)?,
-            sheet: read_words(alloc, source)?,
+            sheet: read_words(alloc, source, SLICE)?,
             calls: read_word(source)?,
         })
     }

@@ -32,7 +32,7 @@ impl<const N: usize> Tally<N> {
         }
     }
 
-    /// Counts what came to a number, and whether that is right.
+    // Counts what came to a number, and whether that is right.
     pub fn count(&mut self, number: u32, right: bool)
         ensures total { self.new.total ≡ min (self.old.total + 1) MOST }
         ensures wrong { self.new.wrong ≡ (if right then self.old.wrong else min (self.old.wrong + 1) MOST) }

@@ -1,6 +1,6 @@
 -- The planes of marks of a slice of n words, plane k from k × n on: what they say, and that walks in one of them keep the others.
-use Rattle.std.specs.Prelude.{ℕ, zero, suc, ◌+◌, ◌*◌, ◌≤◌, ◌<◌, ◌≡◌, refl, Bool, true, false, not, [], ◌∷◌, length, set}
-use Rattle.std.proofs.Common.{sym, ◌∙◌, le_of_suc-le-suc, not-suc-le-zero, arith, get_or-set_other}
+use Rattle.std.specs.Prelude.{ℕ, zero, suc, ◌+◌, ◌*◌, ◌≤◌, ◌<◌, ◌≡◌, ◌⊎◌, refl, Bool, true, false, not, [], ◌∷◌, length, set}
+use Rattle.std.proofs.Common.{sym, ◌∙◌, subst, inl, inr, le_of_suc-le-suc, not-suc-le-zero, arith, get_or-set_other}
 use Rattle.std.proofs.Math.Path.{ap}
 use Rattle.std.proofs.lemmas.Bool.{not-true, not-false}
 use Rattle.rules.specs.Lists.{Words}
@@ -47,6 +47,23 @@ pub record Planes (lo : ℕ) (s ws : Words) : Type 0 where
 pub record Goes (lo : ℕ) (s : Words) (t : Bool) (ws : Words) (r : Bool) : Type 0 where
   pub is : r ≡ t
   pub planes : r ≡ true → Planes lo s ws
+
+-- Records of three or of four words with no heads.
+three_or_four : (len : ℕ) → 3 ≤ len → len ≤ 4 → (len ≡ 3) ⊎ (len ≡ 4)
+three_or_four zero h l = absurd (omega arith)
+three_or_four (suc zero) h l = absurd (omega arith)
+three_or_four (suc (suc zero)) h l = absurd (omega arith)
+three_or_four (suc (suc (suc zero))) h l = inl refl
+three_or_four (suc (suc (suc (suc zero)))) h l = inr refl
+three_or_four (suc (suc (suc (suc (suc len))))) h l = absurd (omega arith)
+
+-- Their planes are those of three and four words.
+pub others_kept : (lo len : ℕ) (s ws : Words) → 3 ≤ len → len ≤ 4 → Planes lo s ws → Kept s len no_heads (len * length s) ws
+others_kept lo len s ws low high a = go (three_or_four len low high)
+  where
+    go : (len ≡ 3) ⊎ (len ≡ 4) → Kept s len no_heads (len * length s) ws
+    go (inl q) = subst (λ l. Kept s l no_heads (l * length s) ws) (sym q) a.threes
+    go (inr q) = subst (λ l. Kept s l no_heads (l * length s) ws) (sym q) a.fours
 
 -- A cleared workspace has no marks.
 at_cleared : (n : ℕ) (ws : Words) (j : ℕ) → j < n → at (cleared n ws) j ≡ 0
@@ -135,3 +152,11 @@ module _ (s ws us : Words) (p off h : ℕ) (r : Bool) (e : h ≡ at s (p + off))
       fours = w.kept t;
     };
   }
+
+  -- Records of three or of four words, in the plane of that number.
+  pub others_go : (len : ℕ) → 3 ≤ len → len ≤ 4 → Walked nothing 0 header_length s len no_heads (len * length s) h ws us r → Goes header_length s (plain_keep s len (at s (p + off))) us r
+  others_go len low high w = go (three_or_four len low high)
+    where
+      go : (len ≡ 3) ⊎ (len ≡ 4) → Goes header_length s (plain_keep s len (at s (p + off))) us r
+      go (inl q) = subst (λ l. Goes header_length s (plain_keep s l (at s (p + off))) us r) (sym q) (threes_go (subst (λ l. Walked nothing 0 header_length s l no_heads (l * length s) h ws us r) q w))
+      go (inr q) = subst (λ l. Goes header_length s (plain_keep s l (at s (p + off))) us r) (sym q) (fours_go (subst (λ l. Walked nothing 0 header_length s l no_heads (l * length s) h ws us r) q w))

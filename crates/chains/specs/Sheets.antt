@@ -1,5 +1,6 @@
 -- Tests of heads one after the other: those of a record, those of a chain whose records hold heads, those of the header and of a question.
 use Rattle.std.specs.Prelude.{ℕ, zero, suc, ◌+◌, ◌≤◌, ◌<◌, ◌≡◌, Bool, ◌&&◌, List, [], ◌∷◌, length}
+use Rattle.std.specs.Borrow.{MutBor}
 use Rattle.std.specs.ControlFlow.{MatchControlFlow}
 use Rattle.std.specs.declared.ops.ControlFlow.{ControlFlow}
 use Rattle.std.specs.declared.ops.ControlFlow.TheVariants.{Continue, Break}
@@ -95,6 +96,10 @@ impl_tests s p k = and_three k _ _
 -- What the test of a record tells in a walk without marks.
 abbrev pub Stands : ℕ → Words → Bool → Words → ControlFlow Bool (Unit {0}) → Type 0
 Stands lo s t us f = (r : Bool) × Goes lo s t us r × (f ≡ on r)
+
+-- A closure is such a test: what it is lent, what it says and what it leaves.
+abbrev pub Knows : (MutBor Words → ℕ → ControlFlow Bool (Unit {0}) → MutBor Words → Type 0) → Words → ℕ → (ℕ → Bool) → Type 0
+Knows post s len heads = (lent left : MutBor Words) (p : ℕ) (f : ControlFlow Bool (Unit {0})) → post lent p f left → Planes header_length s lent.now → Stands header_length s (ok_at s len heads p) left.now f
 
 -- Such a walk is over as the rule says.
 module _ (lo : ℕ) (s : Words) (len : ℕ) (heads : ℕ → Bool) (h : ℕ) (R : Words → ℕ → ControlFlow Bool (Unit {0}) → Words → Type 0) (long : 0 < len) (some : 0 < length s) (tells : (us : Words) (p : ℕ) (f : ControlFlow Bool (Unit {0})) (xs : Words) → Planes lo s us → R us p f xs → Stands lo s (ok_at s len heads p) xs f) where

@@ -2,9 +2,10 @@
 // Plane k of a slice of n words is the n words of the workspace from k * n on. A walk marks the records that it passes with 1 in the plane
 // of their kind, so that a later walk stops where it meets one: 0 cells and the like, 1 type nodes, 2 impl parameters, 3 and 4 other
 // records of three and of four words. Definitions, generics and impls have one head each, in the header, and no marks.
+// Slice and workspace stay two parameters: a struct of both, lent by `&mut`, would have to promise in each contract that the slice stays.
 #![tactic(auto)]
 
-ghost use Rattle.std.specs.Prelude.{ℕ, ◌≡◌, ◌+◌, ◌*◌, ◌≤◌, ◌<◌, length};
+ghost use Rattle.std.specs.Prelude.{ℕ, Bool, ◌≡◌, ◌+◌, ◌*◌, ◌≤◌, ◌<◌, length};
 ghost use Rattle.std.specs.Borrow.{MutBor};
 ghost use Rattle.rules.specs.Lists.{Words};
 ghost use Rattle.rules.specs.Layout.{header_length, header_definitions, header_generics, header_impls, binding_length, member_length, definition_length, generics_length, impl_length};
@@ -12,7 +13,7 @@ ghost use Rattle.rules.specs.Sheet.{at};
 ghost use Rattle.rules.specs.Chains.{zero_or_from, no_heads, cells_keep, nodes_keep, plain_keep, impl_params_keep, head_keeps, sheet_keeps, impl_question_keeps, flex_question_keeps};
 ghost use Rattle.chains.specs.Walks.{ok_at, Kept, Known, Tells, Walked, nothing, Calls, Walks, on};
 ghost use Rattle.chains.specs.Planes.{over_cells, Cells, Planes, Goes};
-ghost use Rattle.chains.specs.Sheets.{definition_heads, generics_heads, impl_heads, Run, first_chains, last_chains};
+ghost use Rattle.chains.specs.Sheets.{definition_heads, generics_heads, impl_heads, Knows, Run, first_chains, last_chains};
 
 use chart::layout;
 use std::ops::ControlFlow;
@@ -170,38 +171,15 @@ fn impl_params_keep(s: &[u32], ws: &mut [u32], p: usize, off: usize) -> bool
     )
 }
 
-// The chain of impl bindings, or of other records of three words with no heads in them.
-fn threes_keep(s: &[u32], ws: &mut [u32], p: usize, off: usize) -> bool
-    requires { (0 < length s.now) × (length s.now ≤ 4096) × (4 * length s.now ≤ length ws.old) }
-    ensures { Planes header_length s.now ws.old → Goes header_length s.now (plain_keep s.now binding_length (at s.now (p + off))) ws.new result }
+// The chain of records of three or of four words with no heads in them: impl bindings, members and others. Their plane has the number of their words.
+fn others_keep(s: &[u32], len: usize, ws: &mut [u32], p: usize, off: usize) -> bool
+    requires three_or_four { (3 ≤ len) × (len ≤ 4) }
+    requires room { (0 < length s.now) × (length s.now ≤ 4096) × (5 * length s.now ≤ length ws.old) }
+    ensures { Planes header_length s.now ws.old → Goes header_length s.now (plain_keep s.now len (at s.now (p + off))) ws.new result }
 {
-    let n = s.len();
+    let b = len * s.len();
     let h = chart::field_at(s, p, off);
-    plain_keep(
-        s,
-        layout::HEADER_LENGTH,
-        layout::BINDING_LENGTH,
-        ws,
-        3 * n,
-        h,
-    )
-}
-
-// The chain of members, or of other records of four words with no heads in them.
-fn fours_keep(s: &[u32], ws: &mut [u32], p: usize, off: usize) -> bool
-    requires { (0 < length s.now) × (length s.now ≤ 4096) × (5 * length s.now ≤ length ws.old) }
-    ensures { Planes header_length s.now ws.old → Goes header_length s.now (plain_keep s.now member_length (at s.now (p + off))) ws.new result }
-{
-    let n = s.len();
-    let h = chart::field_at(s, p, off);
-    plain_keep(
-        s,
-        layout::HEADER_LENGTH,
-        layout::MEMBER_LENGTH,
-        ws,
-        4 * n,
-        h,
-    )
+    plain_keep(s, layout::HEADER_LENGTH, len, ws, b, h)
 }
 
 // A definition, with its impl bindings, named members and implicit members.
@@ -210,9 +188,15 @@ fn definition_at(s: &[u32], ws: &mut [u32], p: usize) -> bool
     ensures { Planes header_length s.now ws.old → Goes header_length s.now (ok_at s.now definition_length (definition_heads s.now) p) ws.new result }
 {
     marks::keeps(s, layout::DEFINITION_LENGTH, p)
-        && threes_keep(s, ws, p, layout::DEFINITION_BINDINGS)
-        && fours_keep(s, ws, p, layout::DEFINITION_NAMED)
-        && fours_keep(s, ws, p, layout::DEFINITION_IMPLICIT)
+        && others_keep(
+            s,
+            layout::BINDING_LENGTH,
+            ws,
+            p,
+            layout::DEFINITION_BINDINGS,
+        )
+        && others_keep(s, layout::MEMBER_LENGTH, ws, p, layout::DEFINITION_NAMED)
+        && others_keep(s, layout::MEMBER_LENGTH, ws, p, layout::DEFINITION_IMPLICIT)
 }
 
 // A record of generics, with its table and impl parameters.
@@ -235,37 +219,17 @@ fn impl_at(s: &[u32], ws: &mut [u32], p: usize) -> bool
         && cells_keep(s, layout::HEADER_LENGTH, ws, p, layout::IMPL_ARGS)
 }
 
-// The definitions.
-fn definitions_keep(s: &[u32], ws: &mut [u32]) -> bool
-    requires { (0 < length s.now) × (length s.now ≤ 4096) × (5 * length s.now ≤ length ws.old) }
-    ensures { Planes header_length s.now ws.old → Goes header_length s.now (head_keeps header_length s.now definition_length (definition_heads s.now) (at s.now header_definitions)) ws.new result }
+// The chain that header word k heads, whose records a test knows.
+fn headed_keep<F: Fn(&mut [u32], usize) -> ControlFlow<bool>>(
+    s: &[u32],
+    ws: &mut [u32],
+    k: usize,
+    test: F,
+) -> bool
+    requires { (us : MutBor Words) (p : ℕ) → length us.now ≡ length ws.old → F.pre test us p }
+    ensures { (len : ℕ) (heads : ℕ → Bool) → 0 < len → 0 < length s.now → Knows (F.post test) s.now len heads → Planes header_length s.now ws.old → Goes header_length s.now (head_keeps header_length s.now len heads (at s.now k)) ws.new result }
 {
-    let h = words::next(s, layout::DEFINITIONS);
-    walk(s, layout::HEADER_LENGTH, ws, h, |ws, p| {
-        goes_on(definition_at(s, ws, p))
-    })
-}
-
-// The generics.
-fn generics_keep(s: &[u32], ws: &mut [u32]) -> bool
-    requires { (0 < length s.now) × (length s.now ≤ 4096) × (5 * length s.now ≤ length ws.old) }
-    ensures { Planes header_length s.now ws.old → Goes header_length s.now (head_keeps header_length s.now generics_length (generics_heads s.now) (at s.now header_generics)) ws.new result }
-{
-    let h = words::next(s, layout::GENERICS);
-    walk(s, layout::HEADER_LENGTH, ws, h, |ws, p| {
-        goes_on(generics_at(s, ws, p))
-    })
-}
-
-// The impls.
-fn impls_keep(s: &[u32], ws: &mut [u32]) -> bool
-    requires { (0 < length s.now) × (length s.now ≤ 4096) × (5 * length s.now ≤ length ws.old) }
-    ensures { Planes header_length s.now ws.old → Goes header_length s.now (head_keeps header_length s.now impl_length (impl_heads s.now) (at s.now header_impls)) ws.new result }
-{
-    let h = words::next(s, layout::IMPLS);
-    walk(s, layout::HEADER_LENGTH, ws, h, |ws, p| {
-        goes_on(impl_at(s, ws, p))
-    })
+    walk(s, layout::HEADER_LENGTH, ws, words::next(s, k), test)
 }
 
 // The chains of definitions, generics, traits, impls and opaques.
@@ -273,10 +237,18 @@ fn first_heads(s: &[u32], ws: &mut [u32]) -> bool
     requires { (0 < length s.now) × (length s.now ≤ 4096) × (5 * length s.now ≤ length ws.old) }
     ensures { Planes header_length s.now ws.old → Run header_length s.now (first_chains s.now) ws.new result }
 {
-    definitions_keep(s, ws)
-        && generics_keep(s, ws)
-        && fours_keep(s, ws, 0, layout::TRAITS)
-        && impls_keep(s, ws)
+    headed_keep(
+        s,
+        ws,
+        layout::DEFINITIONS,
+        |ws, p| goes_on(definition_at(s, ws, p)),
+    ) && headed_keep(
+        s,
+        ws,
+        layout::GENERICS,
+        |ws, p| goes_on(generics_at(s, ws, p)),
+    ) && others_keep(s, layout::TRAIT_LENGTH, ws, 0, layout::TRAITS)
+        && headed_keep(s, ws, layout::IMPLS, |ws, p| goes_on(impl_at(s, ws, p)))
         && cells_keep(s, layout::HEADER_LENGTH, ws, 0, layout::OPAQUES)
 }
 
@@ -285,9 +257,9 @@ fn last_heads(s: &[u32], ws: &mut [u32]) -> bool
     requires { (0 < length s.now) × (length s.now ≤ 4096) × (5 * length s.now ≤ length ws.old) }
     ensures { Planes header_length s.now ws.old → Run header_length s.now (last_chains s.now) ws.new result }
 {
-    threes_keep(s, ws, 0, layout::STRUCTS)
+    others_keep(s, layout::STRUCT_LENGTH, ws, 0, layout::STRUCTS)
         && cells_keep(s, layout::HEADER_LENGTH, ws, 0, layout::ENUMS)
-        && threes_keep(s, ws, 0, layout::UNIONS)
+        && others_keep(s, layout::UNION_LENGTH, ws, 0, layout::UNIONS)
         && cells_keep(s, layout::HEADER_LENGTH, ws, 0, layout::CLOSURES)
         && cells_keep(s, layout::HEADER_LENGTH, ws, 0, layout::IMPORTS)
 }

@@ -76,7 +76,7 @@ const KINDS: [[usize; 4]; 14] = [
     [0, 0, 1, 0], // Error
 ];
 
-// Column j of the row of kind k. A column past the row's end is one of the next row, and past the table's end there is 0.
+// Column j of the row of kind k, which is any number and no `Kind`, since the rule is for every number. A column past the row's end is one of the next row, and past the table's end there is 0.
 pub fn kind_row(k: usize, j: usize) -> usize
     ensures { result ≡ kind_row k j }
 {
@@ -89,7 +89,7 @@ pub fn kind_row(k: usize, j: usize) -> usize
     0
 }
 
-// What a Struct or a Union needs beside its row's flag: self-dual; 1 for other kinds.
+// What a Struct or a Union needs beside its row's flag: self-dual; 1 for other kinds. It is the record's word, which may be any, and so no bool.
 pub fn self_dual(s: &[u32], k: usize, id: usize) -> usize
     ensures { result ≡ self_dual s.now k id }
 {

@@ -27,7 +27,7 @@ pub fn field_of(s: &[u32], h: usize, id: usize, k: usize) -> usize
     field_at(s, p, k)
 }
 
-// How many records the chain that header word h heads has.
+// How many records the chain that header word h heads has. It counts, and converts nothing, whatever its name.
 pub fn count_of(s: &[u32], h: usize) -> usize
     ensures { result ≡ many s.now h }
 {

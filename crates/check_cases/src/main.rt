@@ -4,9 +4,9 @@
 use cases::{Case, Form, Tally};
 use refusals::Refusal;
 use std::alloc::Global;
-use std::io::{BufReader, Read};
+use std::io::Read;
 use std::rt::Files;
-use std::{env, fs, io};
+use std::{env, io};
 
 // The numbers of the checks, and 0.
 const NUMBERS: usize = 14;
@@ -45,6 +45,14 @@ fn check(case: &Case, workspace: &mut [u32]) -> Result<(), Refusal> {
     }
 }
 
+// Passes over the words of an answer, behind their number.
+fn skip_answer<R: Read>(source: &mut R) -> io::Result<()> {
+    for _ in 0..cases::read_word(source)? {
+        cases::read_word(source)?;
+    }
+    Ok(())
+}
+
 // Replays all cases of a file; a stored refusal by more than the checks is one that they let pass.
 fn replay_all<R: Read>(
     alloc: Global,
@@ -54,10 +62,11 @@ fn replay_all<R: Read>(
     let mut tally = Tally::new();
     for _ in 0..cases::read_word(source)? {
         let case = Case::read(alloc, source)?;
+        skip_answer(source)?;
         let stored = case
             .call
             .end
-            .refusal
+            .and_then(|end| end.refusal)
             .filter(|refusal| refusal.number() <= 13);
         let refusal = check(&case, workspace).err();
         tally.count(cases::number(refusal), refusal == stored);
@@ -71,11 +80,9 @@ fn run(
     path: &str,
     workspace: &mut [u32],
 ) -> io::Result<()> {
-    let file = match fs::open(rt, path) {
-        Ok(file) => file,
-        Err(why) => return programs::fail(rt, path, &why),
+    let Some(mut source) = programs::open(rt, path)? else {
+        return Ok(());
     };
-    let mut source = BufReader::new(rt.alloc(), file)?;
     let tally = replay_all(rt.alloc(), &mut source, workspace)?;
     println!(rt; "{path} cases {}", tally.total)?;
     print!(rt; "{tally}")

@@ -147,6 +147,10 @@ fn flex_question_tests(s: &[u32], generics: usize, q: &[u32], ws: &mut [u32]) ->
     require(acyclic::question_acyclic(q, ws, 0), Refusal::QuestionCycle)
 }
 
+// The checks of the calls take what document 01's calls are given, parameter by parameter and in its order, since the crates above hand it on so; what the
+// slices' lengths are is said in each contract, as `check_impl` and `check_flex` are called by themselves too. The two differ in the basic flag and in the
+// tests of the question.
+
 // 6 to 13 of the impl call.
 pub fn check_impl(
     s: &[u32],

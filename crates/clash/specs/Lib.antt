@@ -1,12 +1,7 @@
-pub mod Meeting
-pub mod Sizes
-pub mod Cycles
 pub mod Pairs
-pub mod Across
 pub mod Readings
 pub mod LooseReadings
 pub mod Places
 pub mod Signatures
 pub mod Params
 pub mod Brought
-pub mod Told

@@ -1,5 +1,5 @@
 -- What the search of an impl call comes to: a refusal of its own, 20, 21, or what one result comes to.
-use Rattle.std.specs.Prelude.{ℕ, ◌+◌, ◌*◌, ◌≤◌, ◌<◌, ◌≡◌, ◌≢◌, drop}
+use Rattle.std.specs.Prelude.{ℕ, ◌+◌, ◌*◌, ◌≤◌, ◌<◌, ◌≡◌, ◌≢◌, drop, Ok, Err}
 use Rattle.std.proofs.Math.Path.{refl, ap}
 use Rattle.std.proofs.Common.{sym, ◌∙◌, ap₂, subst, get_or-drop, length-drop}
 use mathlib.Core.List.{List, [], ◌∷◌}
@@ -15,11 +15,12 @@ use Rattle.rules.specs.Calls.{question_types, impl_query, impl_outcome, answer_a
 use Rattle.rules.specs.Neat.{Neat}
 use Rattle.rules.specs.SearchKeeps.{AllKept}
 use Rattle.table.specs.Packing.{types_of}
-use Rattle.slots.specs.declared.Asked.{Asked}
-use Rattle.slots.specs.declared.Asked.TheVariants.{Found, Refused}
+use Rattle.refusals.specs.declared.Stopped.{Stopped}
+use Rattle.refusals.specs.Numbers.{number_of, number_some}
+use Rattle.slots.specs.declared.Results.{Results}
 use Rattle.slots.specs.Slots.{Slot, Slots, slot_move}
 use Rattle.slots.specs.Copies.{Filled}
-use Rattle.slots.specs.Turns.{Answers}
+use Rattle.slots.specs.Turns.{Asked, Answers}
 use Rattle.queries.specs.declared.Query.{Query}
 use Rattle.loading.specs.Exports.{Asks}
 use Rattle.closing.specs.Impl.{Closed, impl_closing, ClosesImpl, asks_on}
@@ -51,9 +52,6 @@ pub record OneStands (asked : Query) (found : Words) : Type 0 where
 pub record IfOne (n : ℕ) (asked : Query) (found : Words) : Type 0 where
   pub one : n ≡ 1 → OneStands asked found
 
-pub record IfFound (searched : Asked) (asked : Query) (found : Words) : Type 0 where
-  pub one : (c : ℕ) → searched ≡ Found c 1 → OneStands asked found
-
 -- The rule, over the caller's types, the query and what was exported of it.
 unfoldable pub impl_ending : Words → Types → ImplType → ImplType → Out (List Result) → Out Words
 impl_ending s ts q sub (refused n) = refused n
@@ -72,13 +70,13 @@ impl_ends s q (got (r ∷ [])) = refl
 pub record EndsResults (s : Words) (ts : Types) (query sub : ImplType) (n : ℕ) (found buf out : Words) (r : ℕ) : Type 0 where
   pub ends : (vs : Words) (rs : List Result) → Front vs found → length rs ≡ n → Slots vs 1282 rs → Closed (impl_ending s ts query sub (got rs)) buf out r
 
--- The search came to o, which is no refusal with the number 0.
+-- The search came to o.
 pub record EndsImpl (s : Words) (ts : Types) (query sub : ImplType) (searched : Asked) (found buf out : Words) (r : ℕ) : Type 0 where
-  pub ends : (vs : Words) (o : Out (List Result) × ℕ) → Front vs found → Answers o searched vs → ((m : ℕ) → o.0 ≡ refused m → m ≢ 0) → Closed (impl_ending s ts query sub o.0) buf out r
+  pub ends : (vs : Words) (o : Out (List Result) × ℕ) → Front vs found → Answers o searched vs → Closed (impl_ending s ts query sub o.0) buf out r
 
 -- In the terms of the call.
-pub ends_call : (s q : Words) (ts : Types) (query sub : ImplType) (searched : Asked) (found buf out : Words) (r : ℕ) → EndsImpl s ts query sub searched found buf out r → ts ≡ question_types q → query ≡ impl_query q → sub ≡ (export_impl_type (question_types q) (impl_query q)).0 → (vs : Words) (o : Out (List Result) × ℕ) → Front vs found → Answers o searched vs → ((m : ℕ) → o.0 ≡ refused m → m ≢ 0) → Closed (impl_outcome s q o.0) buf out r
-ends_call s q ts query sub searched found buf out r c et eq es vs o f a z = subst (λ (x : Out Words). Closed x buf out r) (ap₂ (λ (x : Types) (y : ImplType). impl_ending s x y sub o.0) et eq ∙ ap (λ (y : ImplType). impl_ending s (question_types q) (impl_query q) y o.0) es ∙ sym (impl_ends s q o.0)) (c.ends vs o f a z)
+pub ends_call : (s q : Words) (ts : Types) (query sub : ImplType) (searched : Asked) (found buf out : Words) (r : ℕ) → EndsImpl s ts query sub searched found buf out r → ts ≡ question_types q → query ≡ impl_query q → sub ≡ (export_impl_type (question_types q) (impl_query q)).0 → (vs : Words) (o : Out (List Result) × ℕ) → Front vs found → Answers o searched vs → Closed (impl_outcome s q o.0) buf out r
+ends_call s q ts query sub searched found buf out r c et eq es vs o f a = subst (λ (x : Out Words). Closed x buf out r) (ap₂ (λ (x : Types) (y : ImplType). impl_ending s x y sub o.0) et eq ∙ ap (λ (y : ImplType). impl_ending s (question_types q) (impl_query q) y o.0) es ∙ sym (impl_ends s q o.0)) (c.ends vs o f a)
 
 refused_closed : (o : Out Words) (buf : Words) (n : ℕ) → n ≢ 0 → o ≡ refused n → Closed o buf buf n
 unfolding answer_after
@@ -121,19 +119,16 @@ pub one_asks : (n : ℕ) (asked : Query) (found first : Words) → IfOne n asked
 one_asks n asked found first i e d = subst (λ (us : Words). Asks (types_of us) asked) (sym d) (i.one e).asks
 
 module _ (s : Words) (ts : Types) (query sub : ImplType) (searched : Asked) (found buf : Words) where
-  pub ends_refused : (m c : ℕ) → searched ≡ Refused m c → EndsImpl s ts query sub searched found buf buf m
+  pub ends_refused : (k : Stopped) → searched ≡ Err k → EndsImpl s ts query sub searched found buf buf (number_of k.refusal)
   unfolding impl_ending
-  ends_refused m c e = record { ends = λ vs o f a z. let h : o.0 ≡ refused m = ap (λ (x : Out (List Result) × ℕ). x.0) (a.refuses m c e) in refused_closed (impl_ending s ts query sub o.0) buf m (z m h) (ap (impl_ending s ts query sub) h) }
+  ends_refused k e = record { ends = λ vs o f a. let h : o.0 ≡ refused (number_of k.refusal) = ap (λ (x : Out (List Result) × ℕ). x.0) (a.refuses k e) in refused_closed (impl_ending s ts query sub o.0) buf (number_of k.refusal) (number_some k.refusal) (ap (impl_ending s ts query sub) h) }
 
-  pub ends_found : (out : Words) (c n r : ℕ) → searched ≡ Found c n → EndsResults s ts query sub n found buf out r → EndsImpl s ts query sub searched found buf out r
-  ends_found out c n r e h = record { ends = λ vs o f a z. let g = a.found c n e in subst (λ (x : Out (List Result)). Closed (impl_ending s ts query sub x) buf out r) (sym (ap (λ (x : Out (List Result) × ℕ). x.0) g.is)) (h.ends vs g.results f g.size g.stand) }
-
-pub found_if : (searched : Asked) (asked : Query) (found : Words) (c n : ℕ) → IfFound searched asked found → searched ≡ Found c n → IfOne n asked found
-found_if searched asked found c n i e = record { one = λ h. i.one c (e ∙ ap (Found c) h) }
+  pub ends_found : (out : Words) (k : Results) (r : ℕ) → searched ≡ Ok k → EndsResults s ts query sub k.n found buf out r → EndsImpl s ts query sub searched found buf out r
+  ends_found out k r e h = record { ends = λ vs o f a. let g = a.found k e in subst (λ (x : Out (List Result)). Closed (impl_ending s ts query sub x) buf out r) (sym (ap (λ (x : Out (List Result) × ℕ). x.0) g.is)) (h.ends vs g.results f g.size g.stand) }
 
 -- What the search answered, and that its results are kept, give what the end of the call asks for.
-pub searched_one : (o : Out (List Result) × ℕ) (searched : Asked) (found : Words) (ts : Types) (asked : Query) → Answers o searched found → ((rs : List Result) → o.0 ≡ got rs → AllKept ts rs) → Asks ts asked → IfFound searched asked found
-searched_one o searched found ts asked a k h = record { one = λ c e. let g = a.found c 1 e in go g.results g.size g.stand (k g.results (ap (λ (x : Out (List Result) × ℕ). x.0) g.is)) }
+pub searched_one : (o : Out (List Result) × ℕ) (searched : Asked) (found : Words) (ts : Types) (asked : Query) → Answers o searched found → ((rs : List Result) → o.0 ≡ got rs → AllKept ts rs) → Asks ts asked → (n : Results) → searched ≡ Ok n → IfOne n.n asked found
+searched_one o searched found ts asked a k h n e = record { one = λ z. let g = a.found n e in go g.results (g.size ∙ z) g.stand (k g.results (ap (λ (x : Out (List Result) × ℕ). x.0) g.is)) }
   where
     go : (rs : List Result) → length rs ≡ 1 → Slots found 1282 rs → AllKept ts rs → OneStands asked found
     go [] l s j = absurd (omega arith)

@@ -1,5 +1,5 @@
 -- What a search leaves is what the end of its call asks for: its results' tables are neat, and what was exported are types of them.
-use Rattle.std.specs.Prelude.{ℕ, ◌/◌, ◌≤◌, ◌<◌, ◌≡◌, Bool, false, List, [], ◌∷◌, map, ◌≢◌, length, drop}
+use Rattle.std.specs.Prelude.{ℕ, ◌/◌, ◌≤◌, ◌<◌, ◌≡◌, Bool, false, List, [], ◌∷◌, map, length, drop}
 use Rattle.std.proofs.Common.{sym, subst, arith}
 use Rattle.std.proofs.Math.Option.{none}
 use Rattle.rules.specs.Lists.{Words}
@@ -9,11 +9,7 @@ use Rattle.rules.specs.Sheet.{at}
 use Rattle.rules.specs.Types.{Ty, Types, ImplType, invert_if}
 use Rattle.rules.specs.Robinson.{flip_in}
 use Rattle.rules.specs.Transfer.{type_of_word, export_types, export_impl_type}
-use Rattle.rules.specs.Run.{Out, got, refused, within}
-use Rattle.rules.specs.RunLaws.{Refuses}
-use Rattle.rules.proofs.RunLaws.{within_stops}
-use Rattle.rules.specs.Stops.{In_search}
-use Rattle.rules.proofs.Stops.{question_stops}
+use Rattle.rules.specs.Run.{Out, got, within}
 use Rattle.rules.specs.Search.{Finder, Result, question}
 use Rattle.rules.specs.Check.{refusal, impl_checks, flex_checks}
 use Rattle.rules.proofs.CheckedTables.{flex_ready}
@@ -35,13 +31,6 @@ use Rattle.closing.specs.Flex.{Offered}
 
 came : (P : List Result → Type 0) (o : Out (List Result) × ℕ) (rs : List Result) (d : ℕ) → o ≡ (got rs, d) → Comes P o.0 → P rs
 came P o rs d e h = subst (λ (x : Out (List Result) × ℕ). Comes P x.0) e h
-
--- A search is refused with the numbers of one, and so not with 0.
-pub search_in : (over : ℕ → Bool) (k : ℕ) (a : Finder) (basic : Bool) (ts : Types) (q : ImplType) (c m : ℕ) → (within over (question k a basic ts q) c).0 ≡ refused m → In_search m
-search_in over k a basic ts q c m e = subst (Refuses In_search) e (within_stops In_search (omega arith) over (question k a basic ts q) c (question_stops k a basic ts q))
-
-pub search_number : (over : ℕ → Bool) (k : ℕ) (a : Finder) (basic : Bool) (ts : Types) (q : ImplType) (c m : ℕ) → (within over (question k a basic ts q) c).0 ≡ refused m → m ≢ 0
-search_number over k a basic ts q c m e z = omega (arith, search_in over k a basic ts q c m e)
 
 -- Every result of an impl call's search is kept.
 pub impl_kept : (a : Finder) (basic : ℕ) (q : Words) → length a.sheet ≤ limit_sheet → refusal (impl_checks a basic q) ≡ none → (over : ℕ → Bool) (b : Bool) (c : ℕ) (rs : List Result) (d : ℕ) → within over (impl_search a b q) c ≡ (got rs, d) → AllKept (export_impl_type (question_types q) (impl_query q)).1 rs

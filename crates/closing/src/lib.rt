@@ -1,5 +1,5 @@
 // A call after its search: the last import of a result into the caller's types, the closing join, and the answer's words.
-// A result stands in a slot, a table and its trees; the caller's types in a table of their own.
+// A result stands in a slot, a table and its trees; the caller's types in a table of their own. `memo` is the slice that the search has left: the joins keep their memo of pairs in it, which is lent them as long as it is.
 #![tactic(auto)]
 
 ghost use Rattle.std.specs.Prelude.{◌≡◌, ◌+◌, ◌≤◌, ◌||◌, ltb, is_ok, IfErr, map as map_list, length, drop, take};
@@ -33,6 +33,11 @@ use queries::Query;
 use refusals::Refusal;
 use transfer::PackedTable;
 use unify::UnifyResult;
+
+// The most nodes of a table, and the words of one.
+const NODES: usize = 256;
+
+const TABLE: usize = 1025;
 
 // How many results the four flex questions have: fork's, drop's, and those of the inverted type.
 #[derive(Clone, Copy, Debug, PartialEq, Eq)]
@@ -107,23 +112,27 @@ impl Counts {
     }
 }
 
+// What a flex answer tells beside its types: the first results of fork and of drop, where there are such, whether they are of the inverted type,
+// and whether the type is its own inverse.
+#[derive(Clone, Copy)]
+struct Flexes<'a> {
+    fork: Option<&'a [u32]>,
+    drop: Option<&'a [u32]>,
+    inverted: bool,
+    own: bool,
+}
+
 // The last import: the first m types of ts, in place, from the result in a slot; 14 where there is no room.
-fn import_result(
-    found: &[u32],
-    table: &mut [u32],
-    map: &mut [u32],
-    ts: &mut [u32],
-    m: usize,
-) -> Result<(), Refusal>
+fn import_result(found: &[u32], table: &mut [u32], ts: &mut [u32], m: usize) -> Result<(), Refusal>
     requires neat { Neat (types_of found.now) }
     requires packed { Packed table.old }
-    requires in_bounds { 256 ≤ length map.old }
     requires m_in_bounds { m ≤ length ts.old }
     requires inside { Inside (types_of found.now) (take m ts.old) }
     ensures imports { Imports (import_types (types_of found.now) none (types_in m ts.old) (types_of table.old)) table.new ts.old ts.new m (is_ok result) }
     ensures full { IfErr result (λ refusal. refusal ≡ Refusal.TypesFull) }
 {
-    transfer::import_types(&PackedTable(found), table, map, None, ts, m)
+    let mut map = [0u32; NODES];
+    transfer::import_types(&PackedTable(found), table, &mut map, None, ts, m)
 }
 
 // The type words of nodes 0, 1, 2 and on, upright, n of them.
@@ -138,16 +147,16 @@ fn fill_row(row: &mut [u32], n: usize)
 }
 
 // `export` of the caller's types for the question's nodes, n of them: their table, and the type word of each.
-fn export_nodes(table: &[u32], n: usize, out: &mut [u32], map: &mut [u32], row: &mut [u32])
+fn export_nodes(table: &[u32], n: usize, out: &mut [u32], row: &mut [u32])
     requires neat { Neat (types_of table.now) }
     requires n_in_bounds { n ≤ length (types_of table.now) }
-    requires in_bounds { 1025 ≤ length out.old }
-    requires in_bounds_2 { 256 ≤ length map.old }
     requires n_in_bounds_2 { n ≤ length row.old }
+    requires in_bounds { 1025 ≤ length out.old }
     ensures { Exported (types_of table.now) n out.new row.new }
 {
     fill_row(row, n);
-    let _ = transfer::export_types(&PackedTable(table), out, map, row, n);
+    let mut map = [0u32; NODES];
+    let _ = transfer::export_types(&PackedTable(table), out, &mut map, row, n);
 }
 
 // Writes an answer: two trees, two flags, and the caller's types for the question's nodes, n of them.
@@ -158,8 +167,6 @@ fn write_closing(
     self_inverse: bool,
     table: &[u32],
     n: usize,
-    out: &mut [u32],
-    map: &mut [u32],
     answer: &mut [u32],
 )
     requires trees_length_in_bounds { trees_length ≤ length fork.now }
@@ -168,27 +175,26 @@ fn write_closing(
     requires drop_bound { at drop.now 0 ≤ limit_tree_nodes }
     requires neat { Neat (types_of table.now) }
     requires n_in_bounds { n ≤ length (types_of table.now) }
-    requires in_bounds { 1025 ≤ length out.old }
-    requires in_bounds_2 { 256 ≤ length map.old }
     requires limit_answer_in_bounds { limit_answer ≤ length answer.old }
     ensures { Writes fork.now 0 drop.now 0 inverted self_inverse (types_of table.now) n answer.old answer.new }
 {
-    let mut row = [0u32; 256];
-    export_nodes(table, n, out, map, &mut row);
+    let mut out = [0u32; TABLE];
+    let mut row = [0u32; NODES];
+    export_nodes(table, n, &mut out, &mut row);
     let types = &row[..n];
-    answer::write_answer(fork, drop, inverted, self_inverse, out, types, answer);
+    answer::write_answer(fork, drop, inverted, self_inverse, &out, types, answer);
 }
 
 // The closing join: the query as asked, and then as the last import brought it.
-fn join_query(sheet: &[u32], table: &mut [u32], map: &mut [u32], query: Query, tr: u32, ys: &[u32])
+fn join_query(sheet: &[u32], table: &mut [u32], memo: &mut [u32], query: Query, tr: u32, ys: &[u32])
     requires asks { Asks (types_of table.old) query }
     requires packed { Packed table.old }
     requires nodes { Nodes (types_of table.old) ys.now }
-    requires in_bounds { 256 ≤ length map.old }
+    requires in_bounds { 256 ≤ length memo.old }
     ensures { Leaves table.new (impl_type_unified sheet.now (types_of table.old) (query_of query) (tr, map_list type_of_word ys.now)) }
 {
     let Query { tr: asked, n, args } = query;
-    unify::unify_impl_type(sheet, table, map, asked, &args[..n], tr, ys);
+    unify::unify_impl_type(sheet, table, memo, asked, &args[..n], tr, ys);
 }
 
 // The trees of a result, from its slot.
@@ -200,34 +206,15 @@ fn trees_in(slot: &[u32]) -> &[u32]
 }
 
 // Writes the answer of an impl call: the tree of the result in a slot, and none.
-fn write_impl(
-    found: &[u32],
-    table: &[u32],
-    n: usize,
-    out: &mut [u32],
-    map: &mut [u32],
-    answer: &mut [u32],
-)
+fn write_impl(found: &[u32], table: &[u32], n: usize, answer: &mut [u32])
     requires filled { Filled found.now 0 }
     requires neat { Neat (types_of table.now) }
     requires n_in_bounds { n ≤ length (types_of table.now) }
-    requires in_bounds { 1025 ≤ length out.old }
-    requires in_bounds_2 { 256 ≤ length map.old }
     requires limit_answer_in_bounds { limit_answer ≤ length answer.old }
     ensures { WritesImpl found.now 0 (types_of table.now) n answer.old answer.new }
 {
     let none = [0u32; trees::TREES];
-    write_closing(
-        trees_in(found),
-        &none,
-        false,
-        false,
-        table,
-        n,
-        out,
-        map,
-        answer,
-    )
+    write_closing(trees_in(found), &none, false, false, table, n, answer)
 }
 
 // Joins the query with what the last import brought, ys, and writes the answer.
@@ -239,8 +226,7 @@ fn finish_impl(
     found: &[u32],
     table: &mut [u32],
     n: usize,
-    out: &mut [u32],
-    map: &mut [u32],
+    memo: &mut [u32],
     answer: &mut [u32],
 )
     requires packed { Packed table.old }
@@ -248,13 +234,12 @@ fn finish_impl(
     requires nodes { Nodes (types_of table.old) ys.now }
     requires filled { Filled found.now 0 }
     requires n_in_bounds { n ≤ length (types_of table.old) }
-    requires in_bounds { 1025 ≤ length out.old }
-    requires in_bounds_2 { 256 ≤ length map.old }
+    requires in_bounds { 256 ≤ length memo.old }
     requires limit_answer_in_bounds { limit_answer ≤ length answer.old }
     ensures { WritesImpl found.now 0 (impl_type_unified sheet.now (types_of table.old) (query_of query) (tr, map_list type_of_word ys.now)).1 n answer.old answer.new }
 {
-    join_query(sheet, table, map, query, tr, ys);
-    write_impl(found, table, n, out, map, answer)
+    join_query(sheet, table, memo, query, tr, ys);
+    write_impl(found, table, n, answer)
 }
 
 // What one result of an impl call comes to: 14, or the answer's words. `query` is the call's, over the caller's types; `asked` is what was exported
@@ -265,24 +250,22 @@ pub fn close_impl(
     asked: Query,
     found: &[u32],
     table: &mut [u32],
-    out: &mut [u32],
-    map: &mut [u32],
+    memo: &mut [u32],
     answer: &mut [u32],
 ) -> Result<(), Refusal>
     requires packed { Packed table.old }
     requires asks { Asks (types_of table.old) query }
     requires filled { Filled found.now 0 }
     requires asks_2 { Asks (types_of found.now) asked }
-    requires in_bounds { 1025 ≤ length out.old }
-    requires in_bounds_2 { 256 ≤ length map.old }
+    requires in_bounds { 256 ≤ length memo.old }
     requires limit_answer_in_bounds { limit_answer ≤ length answer.old }
     ensures { ClosesImpl sheet.now (types_of table.old) (query_of query) (query_of asked) found.now 0 answer.old answer.new (verdict_number result) }
 {
     let n = table::count(table) as usize;
     let Query { tr, n: m, mut args } = asked;
-    import_result(found, table, map, &mut args, m)?;
+    import_result(found, table, &mut args, m)?;
     let ys = &args[..m];
-    finish_impl(sheet, query, tr, ys, found, table, n, out, map, answer);
+    finish_impl(sheet, query, tr, ys, found, table, n, memo, answer);
     Ok(())
 }
 
@@ -294,15 +277,13 @@ pub fn end_impl(
     n: usize,
     found: &[u32],
     table: &mut [u32],
-    out: &mut [u32],
-    map: &mut [u32],
+    memo: &mut [u32],
     answer: &mut [u32],
 ) -> Result<(), Refusal>
     requires packed { Packed table.old }
     requires asks { Asks (types_of table.old) query }
     requires if_one { IfOne n asked found.now }
-    requires in_bounds { 1025 ≤ length out.old }
-    requires in_bounds_2 { 256 ≤ length map.old }
+    requires in_bounds { 256 ≤ length memo.old }
     requires limit_answer_in_bounds { limit_answer ≤ length answer.old }
     ensures { EndsResults sheet.now (types_of table.old) (query_of query) (query_of asked) n found.now answer.old answer.new (verdict_number result) }
 {
@@ -310,29 +291,23 @@ pub fn end_impl(
         0 => Err(Refusal::CannotFindImpl),
         1 => {
             let first = &found[slots::SLOT..];
-            close_impl(sheet, query, asked, first, table, out, map, answer)
+            close_impl(sheet, query, asked, first, table, memo, answer)
         }
         _ => Err(Refusal::AmbiguousImpl),
     }
 }
 
 // The last import of the exported type t from the first result of a flex question, if there is one; 14 where there is no room.
-fn import_type(
-    found: Option<&[u32]>,
-    table: &mut [u32],
-    map: &mut [u32],
-    t: u32,
-) -> Result<Option<u32>, Refusal>
+fn import_type(found: Option<&[u32]>, table: &mut [u32], t: u32) -> Result<Option<u32>, Refusal>
     requires offers { Offers (option_copied found) t }
     requires packed { Packed table.old }
-    requires in_bounds { 256 ≤ length map.old }
     ensures { Brings (option_copied found.entry) t (types_of table.old) table.new result }
 {
     let Some(slot) = found else {
         return Ok(None);
     };
     let mut ts = [t];
-    import_result(slot, table, map, &mut ts, 1)?;
+    import_result(slot, table, &mut ts, 1)?;
     Ok(Some(ts[0]))
 }
 
@@ -340,7 +315,7 @@ fn import_type(
 fn join_types(
     sheet: &[u32],
     table: &mut [u32],
-    map: &mut [u32],
+    memo: &mut [u32],
     x: Option<u32>,
     y: Option<u32>,
 ) -> bool
@@ -348,13 +323,13 @@ fn join_types(
     requires neat { Neat (types_of table.old) }
     requires all_in { AllIn (length (types_of table.old)) (types_if x) }
     requires all_in_2 { AllIn (length (types_of table.old)) (types_if y) }
-    requires in_bounds { 256 ≤ length map.old }
+    requires in_bounds { 256 ≤ length memo.old }
     ensures { JoinsFirst sheet.now (types_of table.old) (types_if x) (types_if y) table.new result }
 {
     let (Some(x), Some(y)) = (x, y) else {
         return false;
     };
-    matches!(unify::unify(sheet, table, map, x, y), UnifyResult::Failure)
+    matches!(unify::unify(sheet, table, memo, x, y), UnifyResult::Failure)
 }
 
 // The trees of the first result of a flex question, or none.
@@ -371,30 +346,18 @@ fn trees_of<'a>(found: Option<&'a [u32]>, none: &'a [u32]) -> &'a [u32]
 }
 
 // Writes the answer of a flex call: the trees of its fork and drop results, where there are such.
-fn write_flex(
-    fork: Option<&[u32]>,
-    drop: Option<&[u32]>,
-    inverted: bool,
-    own: bool,
-    table: &[u32],
-    n: usize,
-    out: &mut [u32],
-    map: &mut [u32],
-    answer: &mut [u32],
-)
-    requires filled_if { FilledIf (option_copied fork) }
-    requires filled_if_2 { FilledIf (option_copied drop) }
+fn write_flex(flexes: Flexes, table: &[u32], n: usize, answer: &mut [u32])
+    requires filled_if { FilledIf (option_copied flexes.fork) }
+    requires filled_if_2 { FilledIf (option_copied flexes.drop) }
     requires neat { Neat (types_of table.now) }
     requires n_in_bounds { n ≤ length (types_of table.now) }
-    requires in_bounds { 1025 ≤ length out.old }
-    requires in_bounds_2 { 256 ≤ length map.old }
     requires limit_answer_in_bounds { limit_answer ≤ length answer.old }
-    ensures { WritesFlex (option_copied fork.entry) (option_copied drop.entry) inverted own (types_of table.now) n answer.old answer.new }
+    ensures { WritesFlex (option_copied flexes.entry.fork) (option_copied flexes.entry.drop) flexes.entry.inverted flexes.entry.own (types_of table.now) n answer.old answer.new }
 {
     let none = [0u32; trees::TREES];
-    let forks = trees_of(fork, &none);
-    let drops = trees_of(drop, &none);
-    write_closing(forks, drops, inverted, own, table, n, out, map, answer)
+    let fork = trees_of(flexes.fork, &none);
+    let drop = trees_of(flexes.drop, &none);
+    write_closing(fork, drop, flexes.inverted, flexes.own, table, n, answer)
 }
 
 // Joins fork's type with drop's, 26 where that fails; then the closing join: the type as asked, and then fork's, or drop's alone. Then the answer is written.
@@ -402,30 +365,25 @@ fn close_joined(
     sheet: &[u32],
     t: u32,
     x: Option<u32>,
-    fork: Option<&[u32]>,
     y: Option<u32>,
-    drop: Option<&[u32]>,
-    inverted: bool,
-    own: bool,
+    flexes: Flexes,
     table: &mut [u32],
     n: usize,
-    out: &mut [u32],
-    map: &mut [u32],
+    memo: &mut [u32],
     answer: &mut [u32],
 ) -> Result<(), Refusal>
-    requires filled_if { FilledIf (option_copied fork) }
-    requires filled_if_2 { FilledIf (option_copied drop) }
+    requires filled_if { FilledIf (option_copied flexes.fork) }
+    requires filled_if_2 { FilledIf (option_copied flexes.drop) }
     requires joining { Joining table.old t x y n }
-    requires in_bounds { 1025 ≤ length out.old }
-    requires in_bounds_2 { 256 ≤ length map.old }
+    requires in_bounds { 256 ≤ length memo.old }
     requires limit_answer_in_bounds { limit_answer ≤ length answer.old }
-    ensures { ClosesJoined sheet.now (types_of table.old) t x (option_copied fork.entry) y (option_copied drop.entry) inverted own n answer.old answer.new (verdict_number result) }
+    ensures { ClosesJoined sheet.now (types_of table.old) t x (option_copied flexes.entry.fork) y (option_copied flexes.entry.drop) flexes.entry.inverted flexes.entry.own n answer.old answer.new (verdict_number result) }
 {
-    if join_types(sheet, table, map, x, y) {
+    if join_types(sheet, table, memo, x, y) {
         return Err(Refusal::IncompatibleForkDropInference);
     }
-    join_types(sheet, table, map, Some(t), x.or(y));
-    write_flex(fork, drop, inverted, own, table, n, out, map, answer);
+    join_types(sheet, table, memo, Some(t), x.or(y));
+    write_flex(flexes, table, n, answer);
     Ok(())
 }
 
@@ -435,29 +393,22 @@ fn close_found(
     sheet: &[u32],
     t: u32,
     e: u32,
-    fork: Option<&[u32]>,
-    drop: Option<&[u32]>,
-    inverted: bool,
-    own: bool,
+    flexes: Flexes,
     table: &mut [u32],
-    out: &mut [u32],
-    map: &mut [u32],
+    memo: &mut [u32],
     answer: &mut [u32],
 ) -> Result<(), Refusal>
-    requires offers { Offers (option_copied fork) e }
-    requires offers_2 { Offers (option_copied drop) e }
+    requires offers { Offers (option_copied flexes.fork) e }
+    requires offers_2 { Offers (option_copied flexes.drop) e }
     requires caller { Caller table.old t }
-    requires in_bounds { 1025 ≤ length out.old }
-    requires in_bounds_2 { 256 ≤ length map.old }
+    requires in_bounds { 256 ≤ length memo.old }
     requires limit_answer_in_bounds { limit_answer ≤ length answer.old }
-    ensures { ClosesFound sheet.now (types_of table.old) t e (option_copied fork.entry) (option_copied drop.entry) inverted own answer.old answer.new (verdict_number result) }
+    ensures { ClosesFound sheet.now (types_of table.old) t e (option_copied flexes.entry.fork) (option_copied flexes.entry.drop) flexes.entry.inverted flexes.entry.own answer.old answer.new (verdict_number result) }
 {
     let n = table::count(table) as usize;
-    let x = import_type(fork, table, map, e)?;
-    let y = import_type(drop, table, map, e)?;
-    close_joined(
-        sheet, t, x, fork, y, drop, inverted, own, table, n, out, map, answer,
-    )
+    let x = import_type(flexes.fork, table, e)?;
+    let y = import_type(flexes.drop, table, e)?;
+    close_joined(sheet, t, x, y, flexes, table, n, memo, answer)
 }
 
 // What the results of the four flex questions come to: 21, 25, 14, 26, or the answer's words. t is the type as asked, over the
@@ -471,29 +422,29 @@ pub fn close_flex(
     fork: &[u32],
     drop: &[u32],
     table: &mut [u32],
-    out: &mut [u32],
-    map: &mut [u32],
+    memo: &mut [u32],
     answer: &mut [u32],
 ) -> Result<(), Refusal>
     requires offers { Offers (then_some (chosen (inverted_of counts.forks counts.drops counts.inverse_forks counts.inverse_drops) counts.forks counts.inverse_forks) fork.now) e }
     requires offers_2 { Offers (then_some (chosen (inverted_of counts.forks counts.drops counts.inverse_forks counts.inverse_drops) counts.drops counts.inverse_drops) drop.now) e }
     requires caller { Caller table.old t }
-    requires in_bounds { 1025 ≤ length out.old }
-    requires in_bounds_2 { 256 ≤ length map.old }
+    requires in_bounds { 256 ≤ length memo.old }
     requires limit_answer_in_bounds { limit_answer ≤ length answer.old }
     ensures { ClosesFlex sheet.now (types_of table.old) t e counts.forks counts.drops counts.inverse_forks counts.inverse_drops fork.now drop.now answer.old answer.new (verdict_number result) }
 {
     if counts.has_several() {
         return Err(Refusal::AmbiguousImpl);
     }
-    let own = walks::self_inverse(sheet, table, map, t);
+    let mut marks = [0u32; NODES];
+    let own = walks::self_inverse(sheet, table, &mut marks, t);
     if counts.is_bi_flexible(own) {
         return Err(Refusal::BiFlexible);
     }
-    let forks = counts.has_fork().then_some(fork);
-    let drops = counts.has_drop().then_some(drop);
-    let inverted = counts.is_inverted();
-    close_found(
-        sheet, t, e, forks, drops, inverted, own, table, out, map, answer,
-    )
+    let flexes = Flexes {
+        fork: counts.has_fork().then_some(fork),
+        drop: counts.has_drop().then_some(drop),
+        inverted: counts.is_inverted(),
+        own,
+    };
+    close_found(sheet, t, e, flexes, table, memo, answer)
 }

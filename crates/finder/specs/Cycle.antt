@@ -1,16 +1,17 @@
 -- The members of the search that have loops: the candidates of a question, and the results of a sub-question; how a question and sub-questions begin.
 use Rattle.std.specs.Prelude.{ℕ, zero, suc, ◌+◌, ◌-◌, ◌*◌, ◌≤◌, ◌<◌, ◌≡◌, Bool, false, ◌≢◌, List, [], ◌∷◌, eqb, ltb, length, get_or, drop, replicate}
 use Rattle.std.proofs.Math.Path.{refl, ap}
-use Rattle.std.proofs.Common.{sym, ◌∙◌, subst, inl, arith, get_or-drop}
+use Rattle.std.proofs.Common.{sym, ◌∙◌, subst, arith, get_or-drop}
 use Rattle.std.proofs.lemmas.List.{length-replicate}
-use Rattle.std.specs.Prelude.{Ok, Err}
+use Rattle.std.specs.Prelude.{Ok, Err, Option, Some, None}
+use Rattle.std.specs.Prelude.{Result as Outcome}
 use Rattle.refusals.specs.declared.Refusal.{Refusal}
 use Rattle.refusals.specs.Numbers.{number_of}
 use Rattle.rules.specs.Lists.{Words}
 use Rattle.rules.specs.Layout.{header_impls}
 use Rattle.rules.specs.Sheet.{at, many}
 use Rattle.rules.specs.Types.{Types, ImplType}
-use Rattle.rules.specs.Run.{Run, stop, ◌>>=◌, Out, within}
+use Rattle.rules.specs.Run.{Run, ◌>>=◌, Out, within}
 use Rattle.rules.specs.Search.{end, Result, collect, find_impl_candidates, find_subimpls, try_candidate, before_candidates, question}
 use Rattle.rules.specs.Search as rules
 use Rattle.rules.specs.Solutions.{AllIn}
@@ -24,32 +25,30 @@ use Rattle.rules.proofs.SearchKeeps.{question_keeps}
 use Rattle.rules.proofs.ResultLimits.{question_few}
 use Rattle.table.specs.Packing.{types_of, Packed}
 use Rattle.trees.specs.Forests.{Single}
-use Rattle.slots.specs.declared.Asked.{Asked}
-use Rattle.slots.specs.declared.Asked.TheVariants.{Found, Refused}
+use Rattle.refusals.specs.declared.Refusal.TheVariants.{TooDeep, SearchLimit}
+use Rattle.refusals.specs.declared.Stopped.{Stopped}
+use Rattle.slots.specs.declared.Results.{Results}
 use Rattle.slots.specs.Slots.{Table, Slot, Slots, Written, slots_kept}
 use Rattle.slots.specs.Adding.{under, Element}
-use Rattle.slots.specs.Copies.{Beside}
 use Rattle.slots.specs.Gathering.{Row}
-use Rattle.slots.specs.Turns.{Got, Answers, answers_refused, answers_same, then_got, then_refused, adding, Stepped, going_start, collect_next, collect-none}
+use Rattle.slots.specs.Turns.{Asked, Got, Answers, answers_refused, answers_same, then_got, then_refused, adding, Stepped, going_start, collect_next, collect-none}
 use Rattle.slots.specs.Parts.{part, part_length, part-table, Lent, lent, slots_back}
 use Rattle.slots.specs.Settling.{Sub, Settles, JoinSettles}
 use borrow.Rule.Slice.PartMut.{put_mid}
-use Rattle.candidates.specs.Index.{Indexes}
 use Rattle.candidates.specs.Find.{Standing, from_on}
 use Rattle.admitted.specs.declared.Found.{Found as Sets}
-use Rattle.admitted.specs.Found.{Stands, Finds, ids, nodes_of, found_stops, found_goes, found-standing}
+use Rattle.admitted.specs.Found.{Finds, Gives, ids, nodes_of, found_stops, found_goes, found-standing}
 use Rattle.queries.specs.declared.Query.{Query}
 use Rattle.queries.specs.declared.Queries.{Queries}
 use Rattle.queries.specs.Queries.{query_of, query_in, queries_of, queries_next, queries_none}
-use Rattle.queries.specs.Takes.{SignatureTakes, Taken}
+use Rattle.queries.specs.Takes.{SignatureTakes}
 use Rattle.steps.specs.declared.Finder.{Finder}
-use Rattle.steps.specs.Asking.{finder_of, sets_of, takes_of, Sound, Scratch, Searching, Front, Asking, Tail, Begins, Opens, front_table, asking_table, tail_asking}
+use Rattle.steps.specs.Asking.{finder_of, sets_of, takes_of, Sound, Scratch, Searching, Front, Asking, Tail, Begins, Opens, front_table, asking_table}
 use Rattle.steps.specs.Loops.{Stepping, stepping_start, stepping_few, stepping_low, stepping_same, stepping_end, stepping_on, stepping_refused}
 use Rattle.finder.specs.Singles.{One, question_ones}
 use Rattle.finder.specs.Steps.{ask_below, candidates_left, question_over, question_deep, question_start}
 use Rattle.finder.specs.Tails.{sub_one, tail_next, tail_last, Resting, rest-turn, rest_end}
 use Rattle.steps.specs.Built.{NoneLeft}
-use Rattle.steps.specs.Next.{NextId}
 use Rattle.finder.specs.Members.{CandidateStep, ResultStep, candidate_stops, candidate_none, candidate_sub, candidate_steps, result_sub, result_element, result_steps}
 
 pub few_impls : (s sets : Words) (f : Finder) → Searching s sets f → many s header_impls ≤ 384
@@ -57,42 +56,36 @@ few_impls s sets f h = omega (arith, (valid s (passed s h.stands.checked).values
 
 -- How a question ends before its candidates, and goes on with them.
 module _ (L : ℕ) (a : rules.Finder) (basic : Bool) (q : ImplType) (d count : ℕ) where
-  pub question_limit : (ts : Types) (out : Words) → L ≤ count → Answers (within (ltb L) (question d a basic ts q) count) (Refused 18 (count + 1)) out
-  question_limit ts out h = answers_refused _ 18 (count + 1) out (question_over L a basic ts q count d h)
+  pub question_limit : (ts : Types) (out : Words) → L < count + 1 → Answers (within (ltb L) (question d a basic ts q) count) (Err (record { refusal = SearchLimit; count = count + 1 })) out
+  question_limit ts out h = answers_refused _ (record { refusal = SearchLimit; count = count + 1 }) out (question_over L a basic ts q count d (omega arith))
 
-  pub question_depth : (ts : Types) (out : Words) → count < L → d ≡ 0 → Answers (within (ltb L) (question d a basic ts q) count) (Refused 15 (count + 1)) out
-  question_depth ts out h e = answers_refused _ 15 (count + 1) out (question_deep L a basic ts q count d e h)
+  pub question_depth : (ts : Types) (out : Words) → count + 1 ≤ L → d ≡ 0 → Answers (within (ltb L) (question d a basic ts q) count) (Err (record { refusal = TooDeep; count = count + 1 })) out
+  question_depth ts out h e = answers_refused _ (record { refusal = TooDeep; count = count + 1 }) out (question_deep L a basic ts q count d e (omega arith))
 
-  module _ (ws us : Words) (first : Asked) (low : count < L) (deep : d ≢ 0) (b : Begins a basic ws q (count + 1) first us) where
+  module _ (ws us : Words) (first : Asked) (low : count + 1 ≤ L) (deep : d ≢ 0) (b : Begins a basic ws q (count + 1) first us) where
     starts : within (ltb L) (question d a basic (types_of ws) q) count ≡ within (ltb L) (before_candidates a basic (types_of ws) q >>= λ fs. candidates_left (d - 1) a basic (types_of ws) q fs) (count + 1)
-    starts = question_start L a basic (types_of ws) q count d deep low
+    starts = question_start L a basic (types_of ws) q count d deep (omega arith)
 
-    pub question_refused : (m c : ℕ) → first ≡ Refused m c → Answers (within (ltb L) (question d a basic (types_of ws) q) count) (Refused m c) us
-    question_refused m c e = answers_refused _ m c us (starts ∙ then_refused (ltb L) (before_candidates a basic (types_of ws) q) (λ fs. candidates_left (d - 1) a basic (types_of ws) q fs) (count + 1) m c ((b.at L).refuses m c e))
+    pub question_refused : (s : Stopped) → first ≡ Err s → Answers (within (ltb L) (question d a basic (types_of ws) q) count) (Err s) us
+    question_refused s e = answers_refused _ s us (starts ∙ then_refused (ltb L) (before_candidates a basic (types_of ws) q) (λ fs. candidates_left (d - 1) a basic (types_of ws) q fs) (count + 1) (number_of s.refusal) s.count ((b.at L).refuses s e))
 
-    module _ (c n : ℕ) (e : first ≡ Found c n) where
-      stood : Got (within (ltb L) (before_candidates a basic (types_of ws) q) (count + 1)) c n us
-      stood = (b.at L).found c n e
+    module _ (h : Results) (e : first ≡ Ok h) where
+      stood : Got (within (ltb L) (before_candidates a basic (types_of ws) q) (count + 1)) h.count h.n us
+      stood = (b.at L).found h e
 
-      pub question_goes : (r : Asked) (out : Words) → Packed ws → Stepped L (candidates_left (d - 1) a basic (types_of us) q) n c us r out → Answers (within (ltb L) (question d a basic (types_of ws) q) count) r out
+      pub question_goes : (r : Asked) (out : Words) → Packed ws → Stepped L (candidates_left (d - 1) a basic (types_of us) q) h.n h.count us r out → Answers (within (ltb L) (question d a basic (types_of ws) q) count) r out
       question_goes r out p s =
           let t = front_table ws us b.front.len b.front.at p in
-          answers_same _ (within (ltb L) (candidates_left (d - 1) a basic (types_of ws) q stood.results) c) r out
-          (starts ∙ then_got (ltb L) (before_candidates a basic (types_of ws) q) (λ fs. candidates_left (d - 1) a basic (types_of ws) q fs) (count + 1) c stood.results stood.is)
-          (subst (λ (ts : Types). Answers (within (ltb L) (candidates_left (d - 1) a basic ts q stood.results) c) r out) t.is (s.at stood.results stood.size stood.stand))
+          answers_same _ (within (ltb L) (candidates_left (d - 1) a basic (types_of ws) q stood.results) h.count) r out
+          (starts ∙ then_got (ltb L) (before_candidates a basic (types_of ws) q) (λ fs. candidates_left (d - 1) a basic (types_of ws) q fs) (count + 1) h.count stood.results stood.is)
+          (subst (λ (ts : Types). Answers (within (ltb L) (candidates_left (d - 1) a basic ts q stood.results) h.count) r out) t.is (s.at stood.results stood.size stood.stand))
 
-module _ (a : rules.Finder) (basic : Bool) (ws us : Words) (q : ImplType) (count : ℕ) (first : Asked) (b : Begins a basic ws q count first us) (c n : ℕ) (e : first ≡ Found c n) where
-  began : Got (within (ltb 0) (before_candidates a basic (types_of ws) q) count) c n us
-  began = (b.at 0).found c n e
+module _ (a : rules.Finder) (basic : Bool) (ws us : Words) (q : ImplType) (count : ℕ) (first : Asked) (b : Begins a basic ws q count first us) (h : Results) (e : first ≡ Ok h) where
+  began : Got (within (ltb 0) (before_candidates a basic (types_of ws) q) count) h.count h.n us
+  began = (b.at 0).found h e
 
-  pub begun_low : c ≤ 4000000000
-  begun_low = began.low
-
-  pub begun_few : n ≤ 4
-  begun_few = began.few
-
-  pub begun_row : Row us 1282 n
-  begun_row = record { results = began.results; size = began.size; slots = began.stand }
+  pub begun_results : (h.count ≤ 4000000000) × Row us 1282 h.n × (h.n ≤ 4)
+  begun_results = (began.low, record { results = began.results; size = began.size; slots = began.stand }, began.few)
 
 pub begun_long : (a : rules.Finder) (basic : Bool) (ws us : Words) (p : ImplType) (count : ℕ) (r : Asked) → Begins a basic ws p count r us → length us ≡ length ws
 begun_long a basic ws us p count r b = b.front.len
@@ -100,22 +93,15 @@ begun_long a basic ws us p count r b = b.front.len
 pub begun_asking : (a : rules.Finder) (basic : Bool) (ws us : Words) (q : Query) (p : ImplType) (count : ℕ) (r : Asked) → Asking ws q → Begins a basic ws p count r us → Asking us q
 begun_asking a basic ws us q p count r h b = asking_table ws us q h (front_table ws us b.front.len b.front.at h.packed)
 
--- The loop over candidates: the next is `id`, those behind it are found later.
-pub record Trying (s sets : Words) (f : Finder) (basic : ℕ) (q : Query) (d : ℕ) (x : Sets) (n₀ c₀ : ℕ) (ws₀ ws : Words) (id n c : ℕ) : Type 0 where
+-- The loop over candidates: those from an id on are left.
+pub record Trying (s : Words) (f : Finder) (basic : ℕ) (q : Query) (d : ℕ) (x : Sets) (n₀ c₀ : ℕ) (ws₀ ws : Words) (from n c : ℕ) : Type 0 where
   pub front : Front ws₀ ws
   pub asking : Asking ws q
-  pub up : id < 384 → id < many s header_impls
-  pub left : Words
-  pub next : id < 384 → left ≡ id ∷ from_on (id + 1) (ids s f.source x)
-  pub none : 384 ≤ id → left ≡ []
-  pub going : Stepping f.limit (candidates_left d (finder_of s f) (eqb basic 1) (types_of ws₀) (query_of q)) (λ fs. collect (try_candidate (ask_below d (finder_of s f)) s (types_of ws₀) (query_of q)) left fs) n₀ c₀ ws₀ n c ws
+  pub going : Stepping f.limit (candidates_left d (finder_of s f) (eqb basic 1) (types_of ws₀) (query_of q)) (λ fs. collect (try_candidate (ask_below d (finder_of s f)) s (types_of ws₀) (query_of q)) (from_on from (ids s f.source x)) fs) n₀ c₀ ws₀ n c ws
 
-module _ (s sets : Words) (f : Finder) (basic : ℕ) (q : Query) (d : ℕ) (x : Sets) (n₀ c₀ : ℕ) (ws₀ ws : Words) (id n c : ℕ) (t : Trying s sets f basic q d x n₀ c₀ ws₀ ws id n c) where
+module _ (s : Words) (f : Finder) (basic : ℕ) (q : Query) (d : ℕ) (x : Sets) (n₀ c₀ : ℕ) (ws₀ ws : Words) (from n c : ℕ) (t : Trying s f basic q d x n₀ c₀ ws₀ ws from n c) where
   pub trying_asking : Asking ws q
   trying_asking = t.asking
-
-  pub trying_up : id < 384 → id < many s header_impls
-  trying_up = t.up
 
   pub trying_long : length ws ≡ length ws₀
   trying_long = t.front.len
@@ -126,72 +112,56 @@ module _ (s sets : Words) (f : Finder) (basic : ℕ) (q : Query) (d : ℕ) (x : 
   pub trying_low : c ≤ 4000000000
   trying_low = stepping_low f.limit _ n₀ c₀ ws₀ _ n c ws t.going
 
--- The next lies behind it.
-pub trying_less : (s ws : Words) (x : Sets) (id next : ℕ) → id < 384 → NextId s ws x (id + 1) next → 384 - next < 384 - id
-trying_less s ws x id next h g = go (384 - next) refl
-  where
-    go : (k : ℕ) → 384 - next ≡ k → 384 - next < 384 - id
-    go zero e = omega arith
-    go (suc k) e = omega (arith, (g.up (omega arith)).0)
-
 -- Where candidates cannot be looked for.
-pub sets_refused : (s sets : Words) (f : Finder) (basic : ℕ) (q : Query) (d n₀ c₀ number : ℕ) (ws₀ : Words) → Searching s sets f → (refusal : Refusal) → Finds s f.source (types_of ws₀) (query_of q) basic (Err refusal) → number ≡ number_of refusal
-    → Stepped f.limit (candidates_left d (finder_of s f) (eqb basic 1) (types_of ws₀) (query_of q)) n₀ c₀ ws₀ (Refused number c₀) ws₀
+pub sets_refused : (s sets : Words) (f : Finder) (basic : ℕ) (q : Query) (d n₀ c₀ : ℕ) (ws₀ : Words) → Searching s sets f → (refusal : Refusal) → Finds s f.source (types_of ws₀) (query_of q) basic (Err refusal)
+    → Stepped f.limit (candidates_left d (finder_of s f) (eqb basic 1) (types_of ws₀) (query_of q)) n₀ c₀ ws₀ (Err (record { refusal = refusal; count = c₀ })) ws₀
 unfolding candidates_left within ◌>>=◌
-sets_refused s sets f basic q d n₀ c₀ number ws₀ search refusal h z = record {
-  at = λ fs u t. answers_refused _ number c₀ ws₀ (ap (λ (m : Run Words). within (ltb f.limit) (m >>= λ is. collect (try_candidate (ask_below d (finder_of s f)) s (types_of ws₀) (query_of q)) is fs) c₀)
-      (found_stops s f.source (sets_of sets) (types_of ws₀) (query_of q) basic search.stands (Err refusal) refusal h refl f.generics ∙ ap stop (sym z)));
+sets_refused s sets f basic q d n₀ c₀ ws₀ search refusal h = record {
+  at = λ fs u t. answers_refused _ (record { refusal = refusal; count = c₀ }) ws₀ (ap (λ (m : Run Words). within (ltb f.limit) (m >>= λ is. collect (try_candidate (ask_below d (finder_of s f)) s (types_of ws₀) (query_of q)) is fs) c₀)
+      (found_stops s f.source (sets_of sets) (types_of ws₀) (query_of q) basic search.stands (Err refusal) refusal h refl f.generics));
 }
 
 module _ (s sets : Words) (f : Finder) (basic : ℕ) (q : Query) (d : ℕ) (x : Sets) (n₀ c₀ : ℕ) (ws₀ : Words) (search : Searching s sets f) (sets-are : Finds s f.source (types_of ws₀) (query_of q) basic (Ok x)) where
-  -- It begins with the first,
-  pub trying_start : (id : ℕ) → Asking ws₀ q → Row ws₀ 1282 n₀ → n₀ ≤ 4 → c₀ ≤ 4000000000 → NextId s (sets_of sets) x 0 id → Trying s sets f basic q d x n₀ c₀ ws₀ ws₀ id n₀ c₀
+  -- All are left,
+  pub trying_start : Asking ws₀ q → Row ws₀ 1282 n₀ → n₀ ≤ 4 → c₀ ≤ 4000000000 → Trying s f basic q d x n₀ c₀ ws₀ ws₀ 0 n₀ c₀
   unfolding candidates_left ◌>>=◌
-  trying_start id a row few low g = record {
+  trying_start a row few low = record {
     front = record { len = refl; at = λ i l. refl };
     asking = a;
-    up = λ h. (g.up h).1;
-    left = from_on 0 (ids s f.source x);
-    next = λ h. g.found h f.source standing;
-    none = λ h. g.none h f.source standing;
     going = stepping_same f.limit _ n₀ c₀ ws₀ _ n₀ c₀ ws₀ (stepping_start f.limit _ n₀ c₀ ws₀ ws₀ row few low (λ fs e t. t)) _
         (λ fs. ap (λ (m : Run Words). m >>= λ is. collect (try_candidate (ask_below d (finder_of s f)) s (types_of ws₀) (query_of q)) is fs) (found_goes s f.source (sets_of sets) (types_of ws₀) (query_of q) basic search.stands x sets-are f.generics));
   }
-    where
-      standing : Standing s f.source (sets_of sets) (nodes_of x)
-      standing = found-standing s f.source (sets_of sets) (types_of ws₀) (query_of q) basic search.stands x sets-are
 
-  module _ (ws : Words) (id n c : ℕ) (t : Trying s sets f basic q d x n₀ c₀ ws₀ ws id n c) (packed : Packed ws₀) where
+  standing : Standing s f.source (sets_of sets) (nodes_of x)
+  standing = found-standing s f.source (sets_of sets) (types_of ws₀) (query_of q) basic search.stands x sets-are
+
+  module _ (ws : Words) (from n c : ℕ) (t : Trying s f basic q d x n₀ c₀ ws₀ ws from n c) (packed : Packed ws₀) (o : Option ℕ) (g : Gives s (sets_of sets) x from o) where
     table : Table ws 0 (types_of ws₀)
     table = front_table ws₀ ws t.front.len t.front.at packed
 
-    module _ (more : id < 384) (r : Asked) (out : Words) (o : CandidateStep f.limit (try_candidate (ask_below d (finder_of s f)) s (types_of ws) (query_of q) id) n c ws r out) where
+    -- the next is one of them,
+    module _ (id : ℕ) (more : o ≡ Some id) (r : Asked) (out : Words) (k : CandidateStep f.limit (try_candidate (ask_below d (finder_of s f)) s (types_of ws) (query_of q) id) n c ws r out) where
       one : Stepped f.limit (adding (try_candidate (ask_below d (finder_of s f)) s (types_of ws₀) (query_of q) id)) n c ws r out
-      one = subst (λ (ts : Types). Stepped f.limit (adding (try_candidate (ask_below d (finder_of s f)) s ts (query_of q) id)) n c ws r out) table.is o.step
+      one = subst (λ (ts : Types). Stepped f.limit (adding (try_candidate (ask_below d (finder_of s f)) s ts (query_of q) id)) n c ws r out) table.is k.step
 
       here : Stepping f.limit (candidates_left d (finder_of s f) (eqb basic 1) (types_of ws₀) (query_of q)) (λ fs. adding (try_candidate (ask_below d (finder_of s f)) s (types_of ws₀) (query_of q) id) fs >>= λ hs. collect (try_candidate (ask_below d (finder_of s f)) s (types_of ws₀) (query_of q)) (from_on (id + 1) (ids s f.source x)) hs) n₀ c₀ ws₀ n c ws
       here = stepping_same f.limit _ n₀ c₀ ws₀ _ n c ws t.going _
-          (λ fs. ap (λ (l : Words). collect (try_candidate (ask_below d (finder_of s f)) s (types_of ws₀) (query_of q)) l fs) (t.next more) ∙ collect_next (try_candidate (ask_below d (finder_of s f)) s (types_of ws₀) (query_of q)) id (from_on (id + 1) (ids s f.source x)) fs)
+          (λ fs. ap (λ (l : Words). collect (try_candidate (ask_below d (finder_of s f)) s (types_of ws₀) (query_of q)) l fs) (g.found id more f.source standing) ∙ collect_next (try_candidate (ask_below d (finder_of s f)) s (types_of ws₀) (query_of q)) id (from_on (id + 1) (ids s f.source x)) fs)
 
-      pub trying_refused : (k e : ℕ) → r ≡ Refused k e → Stepped f.limit (candidates_left d (finder_of s f) (eqb basic 1) (types_of ws₀) (query_of q)) n₀ c₀ ws₀ (Refused k e) out
-      trying_refused k e p = stepping_refused f.limit _ n₀ c₀ ws₀ _ _ n c ws here r out one k e p
+      pub trying_refused : (e : Stopped) → r ≡ Err e → Stepped f.limit (candidates_left d (finder_of s f) (eqb basic 1) (types_of ws₀) (query_of q)) n₀ c₀ ws₀ (Err e) out
+      trying_refused e p = stepping_refused f.limit _ n₀ c₀ ws₀ _ _ n c ws here r out one e p
 
-      pub trying_on : (e m id' : ℕ) → r ≡ Found e m → NextId s (sets_of sets) x (id + 1) id' → Trying s sets f basic q d x n₀ c₀ ws₀ out id' m e
-      trying_on e m id' p g =
-          let st = found-standing s f.source (sets_of sets) (types_of ws₀) (query_of q) basic search.stands x sets-are in
-          record {
-            front = record { len = o.front.len ∙ t.front.len; at = λ i l. o.front.at i l ∙ t.front.at i l };
-            asking = asking_table ws out q t.asking (front_table ws out o.front.len o.front.at t.asking.packed);
-            up = λ h. (g.up h).1;
-            left = from_on (id + 1) (ids s f.source x);
-            next = λ h. g.found h f.source st;
-            none = λ h. g.none h f.source st;
-            going = stepping_on f.limit _ n₀ c₀ ws₀ _ _ n c ws here r out one e m p;
-          }
+      pub trying_on : (h : Results) → r ≡ Ok h → Trying s f basic q d x n₀ c₀ ws₀ out (id + 1) h.n h.count
+      trying_on h p = record {
+        front = record { len = k.front.len ∙ t.front.len; at = λ i l. k.front.at i l ∙ t.front.at i l };
+        asking = asking_table ws out q t.asking (front_table ws out k.front.len k.front.at t.asking.packed);
+        going = stepping_on f.limit _ n₀ c₀ ws₀ _ _ n c ws here r out one h p;
+      }
 
-    pub trying_end : 384 ≤ id → Stepped f.limit (candidates_left d (finder_of s f) (eqb basic 1) (types_of ws₀) (query_of q)) n₀ c₀ ws₀ (Found c n) ws
-    trying_end h = stepping_end f.limit _ n₀ c₀ ws₀ _ n c ws t.going
-        (λ fs. ap (λ (l : Words). collect (try_candidate (ask_below d (finder_of s f)) s (types_of ws₀) (query_of q)) l fs) (t.none h) ∙ collect-none (try_candidate (ask_below d (finder_of s f)) s (types_of ws₀) (query_of q)) fs)
+    -- or none is left.
+    pub trying_end : o ≡ None → Stepped f.limit (candidates_left d (finder_of s f) (eqb basic 1) (types_of ws₀) (query_of q)) n₀ c₀ ws₀ (Ok (record { n = n; count = c })) ws
+    trying_end e = stepping_end f.limit _ n₀ c₀ ws₀ _ n c ws t.going
+        (λ fs. ap (λ (l : Words). collect (try_candidate (ask_below d (finder_of s f)) s (types_of ws₀) (query_of q)) l fs) (g.none e f.source standing) ∙ collect-none (try_candidate (ask_below d (finder_of s f)) s (types_of ws₀) (query_of q)) fs)
 
 -- A result of a sub-question, of which those from one on are asked.
 pub record Ready_for (qs : Queries) (from : ℕ) (r : Result) : Type 0 where
@@ -204,7 +174,7 @@ pub record ElementAt (ws : Words) (a : ℕ) (qs : Queries) (from : ℕ) : Type 0
   pub slot : Slot ws a result
   pub for : Ready_for qs from result
   pub few : qs.n ≤ 4
-  pub counts : (k : ℕ) → get_or qs.counts k 0 ≤ 4
+  pub counts : (k : ℕ) → (query_in qs k).n ≤ 4
 
 -- m of them in slots 5 to 8.
 pub record Elements (ws : Words) (m : ℕ) (qs : Queries) (from : ℕ) : Type 0 where
@@ -213,7 +183,7 @@ pub record Elements (ws : Words) (m : ℕ) (qs : Queries) (from : ℕ) : Type 0 
   pub there : Slots ws 6410 all
   pub for : Every (Ready_for qs from) all
   pub few : qs.n ≤ 4
-  pub counts : (k : ℕ) → get_or qs.counts k 0 ≤ 4
+  pub counts : (k : ℕ) → (query_in qs k).n ≤ 4
 
 -- What each gives is collected.
 pub record Collects (L : ℕ) (f : Result → Run (List Result)) (m count : ℕ) (ws : Words) (r : Asked) (out : Words) : Type 0 where
@@ -264,8 +234,8 @@ module _ (L : ℕ) (f : Result → Run (List Result)) (m count : ℕ) (qs : Quer
       }
 
   module _ (more : k < m) (small : m ≤ 4) (r : Asked) (out : Words) (s : ResultStep L f k n c ws r out) where
-    pub collecting_on : (d j : ℕ) → r ≡ Found d j → Collecting L f m count qs from ws₀ out (k + 1) j d
-    collecting_on d j e = record {
+    pub collecting_on : (h : Results) → r ≡ Ok h → Collecting L f m count qs from ws₀ out (k + 1) h.n h.count
+    collecting_on h e = record {
       long = s.keeps.len ∙ g.long;
       first = g.first;
       elements = let x = g.elements in record {
@@ -276,19 +246,16 @@ module _ (L : ℕ) (f : Result → Run (List Result)) (m count : ℕ) (qs : Quer
         few = x.few;
         counts = x.counts;
       };
-      at = λ all p t o. (rest-turn L _ f m k ws out n c r (g.at all p t o) more small s.keeps s.step).on d j e;
+      at = λ all p t o. (rest-turn L _ f m k ws out n c r (g.at all p t o) more small s.keeps s.step).on h e;
     }
 
-    pub collecting_refused : (d j : ℕ) → r ≡ Refused d j → Collects L f m count ws₀ (Refused d j) out
-    collecting_refused d j e = record { at = λ all p t o. (rest-turn L _ f m k ws out n c r (g.at all p t o) more small s.keeps s.step).stops d j e }
+    pub collecting_refused : (e : Stopped) → r ≡ Err e → Collects L f m count ws₀ (Err e) out
+    collecting_refused d e = record { at = λ all p t o. (rest-turn L _ f m k ws out n c r (g.at all p t o) more small s.keeps s.step).stops d e }
 
-  pub collecting_end : m ≤ k → Collects L f m count ws₀ (Found c n) ws
+  pub collecting_end : m ≤ k → Collects L f m count ws₀ (Ok (record { n = n; count = c })) ws
   collecting_end h = record { at = λ all p t o. rest_end L _ f m k ws n c (g.at all p t o) h }
 
 -- A result's table, copied to slot 9, with the sub-questions that are left.
-pub element_filled : (ws : Words) (a : ℕ) (qs : Queries) (from : ℕ) → ElementAt ws a qs from → Packed (drop a ws)
-element_filled ws a qs from e = e.slot.table.packed
-
 pub element_of : (ws : Words) (a : ℕ) (qs : Queries) (from : ℕ) → ElementAt ws a qs from → Element ws a
 element_of ws a qs from e = record { result = e.result; slot = e.slot; one = e.for.one }
 
@@ -340,12 +307,12 @@ module _ (L d : ℕ) (a : rules.Finder) (sound : Sound a) (ws us ys back : Words
   runs : within (ltb L) (find_subimpls (ask_below d a) (types_of ws) (drop from (queries_of qs))) count ≡ within (ltb L) (question d a false (types_of ws) q >>= λ rs. collect (sub_one (ask_below d a) (drop (from + 1) (queries_of qs))) rs []) count
   runs = ap (λ (m : Run (List Result)). within (ltb L) m count) (ap (find_subimpls (ask_below d a) (types_of ws)) (queries_next qs from h) ∙ tail_next (ask_below d a) (types_of ws) q (drop (from + 1) (queries_of qs)))
 
-  pub sub_refused : (m c : ℕ) (out : Words) → first ≡ Refused m c → Answers (within (ltb L) (find_subimpls (ask_below d a) (types_of ws) (drop from (queries_of qs))) count) (Refused m c) out
-  sub_refused m c out e = answers_refused _ m c out (runs ∙ then_refused (ltb L) (question d a false (types_of ws) q) (λ rs. collect (sub_one (ask_below d a) (drop (from + 1) (queries_of qs))) rs []) count m c (asked.refuses m c e))
+  pub sub_refused : (s : Stopped) (out : Words) → first ≡ Err s → Answers (within (ltb L) (find_subimpls (ask_below d a) (types_of ws) (drop from (queries_of qs))) count) (Err s) out
+  sub_refused s out e = answers_refused _ s out (runs ∙ then_refused (ltb L) (question d a false (types_of ws) q) (λ rs. collect (sub_one (ask_below d a) (drop (from + 1) (queries_of qs))) rs []) count (number_of s.refusal) s.count (asked.refuses s e))
 
-  module _ (c m : ℕ) (e : first ≡ Found c m) where
-    g : Got (within (ltb L) (question d a false (types_of ws) q) count) c m ys
-    g = asked.found c m e
+  module _ (x : Results) (e : first ≡ Ok x) where
+    g : Got (within (ltb L) (question d a false (types_of ws) q) count) x.count x.n ys
+    g = asked.found x e
 
     ones : Every One g.results
     ones = came (Every One) (within (ltb L) (question d a false (types_of ws) q) count).0 g.results (yields_within (Every One) (ltb L) (question d a false (types_of ws) q) count (question_ones d a false (types_of ws) q)) (ap (λ (o : Out (List Result) × ℕ). o.0) g.is)
@@ -372,48 +339,30 @@ module _ (L d : ℕ) (a : rules.Finder) (sound : Sound a) (ws us ys back : Words
     stands : Slots back 6410 g.results
     stands = slots_back 5128 1282 us ys back g.results l (omega (arith, g.size, g.few, copied.len)) g.stand
 
-    pub sub_low : c ≤ 4000000000
-    sub_low = g.low
+    pub sub_elements : Elements back x.n qs (from + 1) × (x.n ≤ 4) × (x.count ≤ 4000000000)
+    sub_elements = (record { all = g.results; size = g.size; there = stands; for = ready g.results ones kept; few = t.few; counts = t.counts }, g.few, g.low)
 
-    pub sub_few : m ≤ 4
-    sub_few = g.few
-
-    pub sub_elements : Elements back m qs (from + 1)
-    sub_elements = record { all = g.results; size = g.size; there = stands; for = ready g.results ones kept; few = t.few; counts = t.counts }
-
-    pub sub_goes : (r : Asked) (out : Words) → Collects L (sub_one (ask_below d a) (drop (from + 1) (queries_of qs))) m c back r out → Answers (within (ltb L) (find_subimpls (ask_below d a) (types_of ws) (drop from (queries_of qs))) count) r out
-    sub_goes r out k = answers_same _ _ r out (runs ∙ then_got (ltb L) (question d a false (types_of ws) q) (λ rs. collect (sub_one (ask_below d a) (drop (from + 1) (queries_of qs))) rs []) count c g.results g.is) (k.at g.results g.size stands ones)
+    pub sub_goes : (r : Asked) (out : Words) → Collects L (sub_one (ask_below d a) (drop (from + 1) (queries_of qs))) x.n x.count back r out → Answers (within (ltb L) (find_subimpls (ask_below d a) (types_of ws) (drop from (queries_of qs))) count) r out
+    sub_goes r out k = answers_same _ _ r out (runs ∙ then_got (ltb L) (question d a false (types_of ws) q) (λ rs. collect (sub_one (ask_below d a) (drop (from + 1) (queries_of qs))) rs []) count x.count g.results g.is) (k.at g.results g.size stands ones)
 
 -- What a candidate comes to once it is opened.
-pub searching_sound : (s sets : Words) (f : Finder) → Searching s sets f → Sound (finder_of s f)
-searching_sound s sets f h = h.sound
-
-pub searching_stands : (s sets : Words) (f : Finder) → Searching s sets f → Stands s f.source (sets_of sets)
-searching_stands s sets f h = h.stands
-
-pub searching_long : (s sets : Words) (f : Finder) → Searching s sets f → 34948 ≤ length sets
-searching_long s sets f h = h.long
-
-pub searching_indexed : (s sets : Words) (f : Finder) → Searching s sets f → Indexes s (sets_of sets)
-searching_indexed s sets f h = h.stands.sets.indexes
-
-pub searching_taken : (s sets : Words) (f : Finder) → Searching s sets f → Taken s f.generics (takes_of sets)
-searching_taken s sets f h = h.taken
-
 pub searching_takes : (s sets : Words) (f : Finder) (i : ℕ) → Searching s sets f → i < many s header_impls → SignatureTakes s i (at sets (34948 + i))
 unfolding takes_of
 searching_takes s sets f i h l = subst (SignatureTakes s i) (get_or-drop 34948 sets i 0) (h.taken.signatures i l)
 
-module _ (s ws us : Words) (q : ImplType) (i : ℕ) (qs : Queries) (o : Opens s ws q i qs us) where
-  pub opened_full : (L n cur : ℕ) (ask : Types → ImplType → Run (List Result)) → qs.n ≡ 5 → CandidateStep L (try_candidate ask s (types_of ws) q i) n cur ws (Refused 14 cur) us
-  opened_full L n cur ask e = candidate_stops L _ n cur 14 ws us (o.full e ask) o.opened
+module _ (s ws us : Words) (q : ImplType) (i : ℕ) (x : Outcome (Option Queries) Refusal) (o : Opens s ws q i x us) where
+  pub opened_full : (L n cur : ℕ) (ask : Types → ImplType → Run (List Result)) (refusal : Refusal) → x ≡ Err refusal → CandidateStep L (try_candidate ask s (types_of ws) q i) n cur ws (Err (record { refusal = refusal; count = cur })) us
+  opened_full L n cur ask refusal e = candidate_stops L _ n cur refusal ws us (o.full refusal e ask) o.opened
 
-  pub opened_unfit : (L n cur : ℕ) (ask : Types → ImplType → Run (List Result)) → qs.n ≡ 6 → n ≤ 4 → cur ≤ 4000000000 → CandidateStep L (try_candidate ask s (types_of ws) q i) n cur ws (Found cur n) us
-  opened_unfit L n cur ask e few low = candidate_none L _ n cur ws us (o.unfit e ask) o.opened few low
+  pub opened_unfit : (L : ℕ) (h : Results) (ask : Types → ImplType → Run (List Result)) (y : Option Queries) → x ≡ Ok y → y ≡ None → h.n ≤ 4 → h.count ≤ 4000000000 → CandidateStep L (try_candidate ask s (types_of ws) q i) h.n h.count ws (Ok h) us
+  opened_unfit L h ask y e none few low = candidate_none L _ h ws us (o.unfit (e ∙ (λ j. Ok (none j))) ask) o.opened few low
 
-  module _ (full : qs.n ≢ 5) (unfit : qs.n ≢ 6) where
+  module _ (y : Option Queries) (e : x ≡ Ok y) (qs : Queries) (some : y ≡ Some qs) where
+    fits : x ≡ Ok (Some qs)
+    fits = e ∙ (λ j. Ok (some j))
+
     pub opened_tail : Tail (part 6410 us) qs 0
-    opened_tail = o.tail full unfit
+    opened_tail = o.tail qs fits
 
     pub opened_part : (d : ℕ) → 41024 * d + 47434 ≤ length ws → 41024 * d + 41024 ≤ length (part 6410 us)
     opened_part d h = omega (arith, part_length 6410 us, o.opened.len)
@@ -429,7 +378,7 @@ module _ (s ws us : Words) (q : ImplType) (i : ℕ) (qs : Queries) (o : Opens s 
       opened_sub = candidate_sub L 0 cur i ask (queries_of qs) ws us ys _ us asked asked (omega arith) room o.opened w back
 
       pub opened_steps : (n : ℕ) (r : Asked) (out : Words) → n ≤ 4 → Settles (under i) (put_mid 6410 (length us - 6410) us ys) out n 7692 asked r → CandidateStep L (try_candidate ask s (types_of ws) q i) n cur ws r out
-      opened_steps n r out few t = candidate_steps L n cur i ask (queries_of qs) ws us ys _ out asked r few room o.opened w back _ (o.asks full unfit ask) t
+      opened_steps n r out few t = candidate_steps L n cur i ask (queries_of qs) ws us ys _ out asked r few room o.opened w back _ (o.asks qs fits ask) t
 
 -- A result once its table is copied, and those that are left are asked of it.
 module _ (L cur k : ℕ) (ask : Types → ImplType → Run (List Result)) (ws us : Words) (qs : Queries) (from : ℕ) (e : ElementAt ws (6410 + 1282 * k) qs from) (below : k < 4) (room : 17948 ≤ length ws)
@@ -449,13 +398,6 @@ module _ (L cur k : ℕ) (ask : Types → ImplType → Run (List Result)) (ws us
   pub rest-steps : (n : ℕ) (r : Asked) (out : Words) → n ≤ 4 → JoinSettles (put_mid 11538 (length us - 11538) us ys) out n (6410 + 1282 * k) 12820 asked r → ResultStep L (sub_one ask (drop from (queries_of qs))) k n cur ws r out
   rest-steps n r out few j = result_steps L n cur k ask (drop from (queries_of qs)) ws us ys _ out asked r few below room c w returned (element_of ws (6410 + 1282 * k) qs from e) j
 
--- Slots that lie apart.
-pub beside_rest : (k : ℕ) → k < 4 → Beside (6410 + 1282 * k) 11538
-beside_rest k h = record { either = inl (omega arith) }
-
-pub beside_sub : Beside 0 5128
-beside_sub = record { either = inl (omega arith) }
-
 -- Room in the parts that are lent.
 pub rest_part : (ws us : Words) (a d l : ℕ) → 41024 * d + 6410 + 11538 * l ≤ length ws → 0 < l → Written ws us 11538 (types_of (drop a ws), end) → 41024 * d + 6410 + 11538 * (l - 1) ≤ length (part 11538 us)
 rest_part ws us a d l h p w = omega (arith, part_length 11538 us, w.len)
@@ -466,40 +408,21 @@ first_part ws us d l h p w = omega (arith, part_length 5128 us, w.len)
 pub sub_long : (ws us ys : Words) → Written ws us 5128 (types_of ws, end) → 11538 ≤ length ws → length ys ≡ length (part 5128 us) → length (put_mid 5128 (length us - 5128) us ys) ≡ length ws
 sub_long ws us ys w h e = (lent 5128 us ys (omega (arith, w.len)) e).long ∙ w.len
 
--- The same of a sub-question that was read.
-pub tail_asked : (ws : Words) (qs : Queries) (from : ℕ) (q : Query) → Tail ws qs from → q ≡ query_in qs from → qs.n ≡ from + 1 → Asking ws q
-tail_asked ws qs from q t e h = subst (Asking ws) (sym e) (tail_asking ws qs from t (omega arith))
-
-pub sub-last_of : (L d : ℕ) (a : rules.Finder) (ws out : Words) (qs : Queries) (from count : ℕ) (q : Query) (r : Asked) → qs.n ≡ from + 1 → q ≡ query_in qs from → Answers (within (ltb L) (question d a (eqb 0 1) (types_of ws) (query_of q)) count) r out →
-    Answers (within (ltb L) (find_subimpls (ask_below d a) (types_of ws) (drop from (queries_of qs))) count) r out
-sub-last_of L d a ws out qs from count q r h e w = sub-last L d a ws out qs from count r h (subst (λ (p : Query). Answers (within (ltb L) (question d a false (types_of ws) (query_of p)) count) r out) e w)
-
-pub first_asked : (ws us : Words) (qs : Queries) (from : ℕ) (q : Query) → Tail ws qs from → q ≡ query_in qs from → from < qs.n → Written ws us 5128 (types_of ws, end) → Asking (part 5128 us) q
-first_asked ws us qs from q t e h w = subst (Asking (part 5128 us)) (sym e) (first_asking ws us qs from t h w)
-
-module _ (L d : ℕ) (s sets : Words) (f : Finder) (search : Searching s sets f) (ws us ys : Words) (qs : Queries) (from count : ℕ) (q : Query) (first : Asked) (t : Tail ws qs from) (e : q ≡ query_in qs from) (h : from < qs.n) (room : 11538 ≤ length ws)
-    (copied : Written ws us 5128 (types_of ws, end)) (w : Answers (within (ltb L) (question d (finder_of s f) (eqb 0 1) (types_of (part 5128 us)) (query_of q)) count) first ys) (k : length ys ≡ length (part 5128 us)) where
-  gone : Answers (within (ltb L) (question d (finder_of s f) false (types_of (part 5128 us)) (query_of (query_in qs from))) count) first ys
-  gone = subst (λ (p : Query). Answers (within (ltb L) (question d (finder_of s f) false (types_of (part 5128 us)) (query_of p)) count) first ys) e w
-
+-- What the first of more sub-questions came to, in the words that came back.
+module _ (L d : ℕ) (s sets : Words) (f : Finder) (search : Searching s sets f) (ws us ys : Words) (qs : Queries) (from count : ℕ) (first : Asked) (t : Tail ws qs from) (h : from < qs.n) (room : 11538 ≤ length ws)
+    (copied : Written ws us 5128 (types_of ws, end)) (w : Answers (within (ltb L) (question d (finder_of s f) false (types_of (part 5128 us)) (query_of (query_in qs from))) count) first ys) (k : length ys ≡ length (part 5128 us)) where
   came_back : Lent 5128 us ys (put_mid 5128 (length us - 5128) us ys)
   came_back = lent 5128 us ys (omega (arith, copied.len)) k
 
-  pub asked_refused : (m c : ℕ) → first ≡ Refused m c → Answers (within (ltb L) (find_subimpls (ask_below d (finder_of s f)) (types_of ws) (drop from (queries_of qs))) count) (Refused m c) (put_mid 5128 (length us - 5128) us ys)
-  asked_refused m c p = sub_refused L d (finder_of s f) search.sound ws us ys _ qs from count first t h room copied gone came_back m c _ p
+  pub asked_refused : (e : Stopped) → first ≡ Err e → Answers (within (ltb L) (find_subimpls (ask_below d (finder_of s f)) (types_of ws) (drop from (queries_of qs))) count) (Err e) (put_mid 5128 (length us - 5128) us ys)
+  asked_refused e p = sub_refused L d (finder_of s f) search.sound ws us ys _ qs from count first t h room copied w came_back e _ p
 
-  module _ (c m : ℕ) (p : first ≡ Found c m) where
-    pub asked_low : c ≤ 4000000000
-    asked_low = sub_low L d (finder_of s f) search.sound ws us ys _ qs from count first t h room copied gone came_back c m p
+  module _ (x : Results) (p : first ≡ Ok x) where
+    pub asked_elements : Elements (put_mid 5128 (length us - 5128) us ys) x.n qs (from + 1) × (x.n ≤ 4) × (x.count ≤ 4000000000)
+    asked_elements = sub_elements L d (finder_of s f) search.sound ws us ys _ qs from count first t h room copied w came_back x p
 
-    pub asked_few : m ≤ 4
-    asked_few = sub_few L d (finder_of s f) search.sound ws us ys _ qs from count first t h room copied gone came_back c m p
-
-    pub asked_elements : Elements (put_mid 5128 (length us - 5128) us ys) m qs (from + 1)
-    asked_elements = sub_elements L d (finder_of s f) search.sound ws us ys _ qs from count first t h room copied gone came_back c m p
-
-    pub asked_goes : (r : Asked) (out : Words) → Collects L (sub_one (ask_below d (finder_of s f)) (drop (from + 1) (queries_of qs))) m c (put_mid 5128 (length us - 5128) us ys) r out → Answers (within (ltb L) (find_subimpls (ask_below d (finder_of s f)) (types_of ws) (drop from (queries_of qs))) count) r out
-    asked_goes r out x = sub_goes L d (finder_of s f) search.sound ws us ys _ qs from count first t h room copied gone came_back c m p r out x
+    pub asked_goes : (r : Asked) (out : Words) → Collects L (sub_one (ask_below d (finder_of s f)) (drop (from + 1) (queries_of qs))) x.n x.count (put_mid 5128 (length us - 5128) us ys) r out → Answers (within (ltb L) (find_subimpls (ask_below d (finder_of s f)) (types_of ws) (drop from (queries_of qs))) count) r out
+    asked_goes r out y = sub_goes L d (finder_of s f) search.sound ws us ys _ qs from count first t h room copied w came_back x p r out y
 
 -- New slices for an import: of n words, from a sheet of at most five times as many.
 module _ (n : ℕ) (s : Words) (h : length s ≤ 5 * n) where

@@ -2,7 +2,7 @@
 -- A question's part: slot 0 the table, slots 1 to 4 its results, from slot 5 on the part of a candidate's sub-questions. A part of sub-questions: slot 0 the table,
 -- slots 1 to 4 their results, from slot 4 on the part of the first, whose results stand in slots 5 to 8, and from slot 9 on the part of those that are left. Slot 4 has the first one's table,
 -- and only then the fourth result.
-use Rattle.std.specs.Prelude.{ℕ, ◌+◌, ◌-◌, ◌*◌, ◌≤◌, ◌<◌, ◌≡◌, List, [], ◌∷◌, map, ltb, length, drop}
+use Rattle.std.specs.Prelude.{ℕ, ◌+◌, ◌-◌, ◌*◌, ◌≤◌, ◌<◌, ◌≡◌, List, [], ◌∷◌, map, ltb, length, drop, Ok, Err}
 use Rattle.std.proofs.Common.{sym, ◌∙◌, ap, subst, arith}
 use Rattle.rules.specs.Lists.{Words}
 use Rattle.rules.specs.Sheet.{at}
@@ -11,11 +11,12 @@ use Rattle.rules.specs.Run.{Run, done, stop, ◌>>=◌, Out, within}
 use Rattle.rules.specs.Search.{end, Result, add_results, collect, find_subimpls}
 use Rattle.table.specs.Packing.{types_of}
 use Rattle.trees.specs.Forests.{Single}
-use Rattle.slots.specs.declared.Asked.{Asked}
-use Rattle.slots.specs.declared.Asked.TheVariants.{Found, Refused}
+use Rattle.refusals.specs.declared.Refusal.{Refusal}
+use Rattle.refusals.specs.Numbers.{number_of}
+use Rattle.slots.specs.declared.Results.{Results}
 use Rattle.slots.specs.Slots.{slot_length, Slot, Written, slot_kept, slots_kept}
 use Rattle.slots.specs.Adding.{under, behind, Element}
-use Rattle.slots.specs.Turns.{Answers, answers_refused, answers_found, adding, Going, Stepped, Turned, turn, going_same, going_end, collect_next, collect-none}
+use Rattle.slots.specs.Turns.{Asked, Answers, answers_refused, answers_found, adding, Going, Stepped, Turned, turn, going_same, going_end, collect_next, collect-none}
 use Rattle.slots.specs.Parts.{part, part-table, Lent}
 use Rattle.slots.specs.Settling.{Sub, Settles, JoinSettles, sub_answered, settled}
 use Rattle.steps.specs.Asking.{Front, Opened}
@@ -48,23 +49,23 @@ collect-turn L whole f b bs cs n cur ws r out e g s =
     turn L whole (adding (f b)) (λ fs. collect f cs fs) ws out n cur r
     (going_same L whole (λ fs. collect f bs fs) (λ fs. adding (f b) fs >>= λ hs. collect f cs hs) ws n cur (λ fs. ap (λ l. collect f l fs) e ∙ collect_next f b cs fs) g) s.step
 
-pub collect_end : {B : Type 0} (L : ℕ) (whole : Out (List Result) × ℕ) (f : B → Run (List Result)) (bs : List B) (n cur : ℕ) (ws : Words) → bs ≡ [] → Going L whole (λ fs. collect f bs fs) ws n cur → Answers whole (Found cur n) ws
+pub collect_end : {B : Type 0} (L : ℕ) (whole : Out (List Result) × ℕ) (f : B → Run (List Result)) (bs : List B) (n cur : ℕ) (ws : Words) → bs ≡ [] → Going L whole (λ fs. collect f bs fs) ws n cur → Answers whole (Ok (record { n = n; count = cur })) ws
 collect_end L whole f bs n cur ws e g = going_end L whole (λ fs. collect f bs fs) ws n cur (λ fs. ap (λ l. collect f l fs) e ∙ collect-none f fs) g
 
 -- A candidate that is refused, and one that does not fit.
-pub candidate_stops : (L : ℕ) (run : Run (List Result)) (n cur m : ℕ) (ws out : Words) → run ≡ stop m → Opened ws out → CandidateStep L run n cur ws (Refused m cur) out
+pub candidate_stops : (L : ℕ) (run : Run (List Result)) (n cur : ℕ) (refusal : Refusal) (ws out : Words) → run ≡ stop (number_of refusal) → Opened ws out → CandidateStep L run n cur ws (Err (record { refusal = refusal; count = cur })) out
 unfolding within ◌>>=◌
-candidate_stops L run n cur m ws out e o = record {
+candidate_stops L run n cur refusal ws out e o = record {
   front = record { len = o.len; at = λ i l. o.at i (omega arith) };
-  step = record { at = λ fs p t. answers_refused _ m cur out (ap (λ (x : Run (List Result)). within (ltb L) (adding x fs) cur) e) };
+  step = record { at = λ fs p t. answers_refused _ (record { refusal = refusal; count = cur }) out (ap (λ (x : Run (List Result)). within (ltb L) (adding x fs) cur) e) };
 }
 
-pub candidate_none : (L : ℕ) (run : Run (List Result)) (n cur : ℕ) (ws out : Words) → run ≡ done [] → Opened ws out → n ≤ 4 → cur ≤ 4000000000 → CandidateStep L run n cur ws (Found cur n) out
+pub candidate_none : (L : ℕ) (run : Run (List Result)) (h : Results) (ws out : Words) → run ≡ done [] → Opened ws out → h.n ≤ 4 → h.count ≤ 4000000000 → CandidateStep L run h.n h.count ws (Ok h) out
 unfolding within ◌>>=◌ add_results
-candidate_none L run n cur ws out e o few low = record {
+candidate_none L run h ws out e o few low = record {
   front = record { len = o.len; at = λ i l. o.at i (omega arith) };
   step = record {
-    at = λ fs p t. answers_found _ cur n fs out (ap (λ (x : Run (List Result)). within (ltb L) (adding x fs) cur) e) low p few (slots_kept ws out slot_length fs o.len (λ i l m. o.at i (omega arith)) t);
+    at = λ fs p t. answers_found _ h fs out (ap (λ (x : Run (List Result)). within (ltb L) (adding x fs) h.count) e) low p few (slots_kept ws out slot_length fs o.len (λ i l m. o.at i (omega arith)) t);
   };
 }
 

@@ -1,250 +1,139 @@
 -- Sub-questions that are known to find nothing, as the last ones that were asked of the same table did: what is noted of those, and what follows.
-use Rattle.std.specs.Prelude.{ℕ, zero, suc, ◌+◌, ◌-◌, ◌*◌, ◌≤◌, ◌<◌, ◌≡◌, refl, Bool, true, false, List, [], ◌∷◌, ltb, length, get_or, drop, replicate}
-use Rattle.std.proofs.Common.{sym, ◌∙◌, ap, subst, true≢false, arith}
-use Rattle.std.proofs.Math.Decide.{ℕ_discrete}
-use Rattle.std.proofs.lemmas.List.{length-replicate}
+use Rattle.std.specs.Prelude.{ℕ, ◌+◌, ◌-◌, ◌*◌, ◌≤◌, ◌<◌, ◌≡◌, refl, Bool, true, List, [], ◌∷◌, eqb, ltb, length, drop, take, Option, Some, None, Ok}
+use Rattle.std.proofs.Common.{sym, ◌∙◌, ap, subst, arith, get_or-take}
+use Rattle.std.specs.Bool.{Decides}
+use Rattle.std.specs.Cmp.Lexicographic.{pointwise}
+use Rattle.std.specs.Cmp.{unsigned_Decides}
+use Rattle.std.proofs.lemmas.Bool.Decides.{Decides-and, Decides-like}
+use Rattle.std.proofs.lemmas.Slice.Eq.{slice_eq-Decides}
 use Rattle.rules.specs.Lists.{Words}
 use Rattle.rules.specs.Sheet.{at}
 use Rattle.rules.specs.Types.{Types, ImplType}
 use Rattle.rules.specs.Run.{Run, Out, got, free, asked, within}
 use Rattle.rules.proofs.RunLaws.{run_alike}
 use Rattle.rules.specs.Search.{Result, find_subimpls}
-use Rattle.words.specs.Buffers.{copied, copied-length}
-use Rattle.table.specs.Packing.{up_to, types_of, Packed, Becomes}
-use Rattle.table.specs.Nodes.{up_to-same, types_length}
-use Rattle.table.specs.Copies.{copied_at}
-use Rattle.slots.specs.declared.Asked.{Asked}
-use Rattle.slots.specs.declared.Asked.TheVariants.{Found}
+use Rattle.table.specs.Packing.{types_of, Packed}
+use Rattle.table.specs.Nodes.{types_length}
+use Rattle.slots.specs.declared.Results.{Results}
 use Rattle.slots.specs.Slots.{table_move, slots_none}
 use Rattle.slots.specs.Turns.{Answers, answers_found}
+use Rattle.queries.specs.declared.Query.{Query}
 use Rattle.queries.specs.declared.Queries.{Queries}
-use Rattle.queries.specs.Queries.{query_of, query_in, queries_of}
-use Rattle.steps.specs.declared.Finder.{Finder}
-use Rattle.steps.specs.Asking.{Searching, Tail}
+use Rattle.queries.specs.contracts.QueryPartialEq.TheImpl as query
+use Rattle.queries.specs.contracts.QueriesPartialEq.TheImpl as queries
+use Rattle.queries.specs.Queries.{queries_of}
+use Rattle.finder.specs.declared.Nothing.{Nothing}
+use Rattle.finder.specs.declared.Recall.{Recall}
 
--- Sub-questions in words.
-unfoldable pub row_of : Queries → Words
-row_of qs =
-    qs.n ∷
-    get_or qs.trs 0 0 ∷ get_or qs.trs 1 0 ∷ get_or qs.trs 2 0 ∷ get_or qs.trs 3 0 ∷
-    get_or qs.counts 0 0 ∷ get_or qs.counts 1 0 ∷ get_or qs.counts 2 0 ∷ get_or qs.counts 3 0 ∷
-    get_or qs.args 0 0 ∷ get_or qs.args 1 0 ∷ get_or qs.args 2 0 ∷ get_or qs.args 3 0 ∷
-    get_or qs.args 4 0 ∷ get_or qs.args 5 0 ∷ get_or qs.args 6 0 ∷ get_or qs.args 7 0 ∷
-    get_or qs.args 8 0 ∷ get_or qs.args 9 0 ∷ get_or qs.args 10 0 ∷ get_or qs.args 11 0 ∷
-    get_or qs.args 12 0 ∷ get_or qs.args 13 0 ∷ get_or qs.args 14 0 ∷ get_or qs.args 15 0 ∷ []
+-- Sub-questions that compare as equal are the same.
+pub query_equal : (p q : Query) → Decides (query.eq-value.it p q) (p ≡ q)
+query_equal p q =
+    Decides-like (query.eq-value.it p q) (λ h i. record { tr = h.0 i; n = h.1.0 i; args = h.1.1 i }) (λ e. (ap (λ (r : Query). r.tr) e, (ap (λ (r : Query). r.n) e, ap (λ (r : Query). r.args) e)))
+    (Decides-and _ _ (unsigned_Decides p.tr q.tr) (Decides-and _ _ (unsigned_Decides p.n q.n) (slice_eq-Decides unsigned_Decides p.args q.args _ refl)))
 
--- No more than four, and of four type words each.
-pub record Counts (qs : Queries) : Type 0 where
-  pub few : qs.n ≤ 4
-  pub first : get_or qs.counts 0 0 ≤ 4
-  pub second : get_or qs.counts 1 0 ≤ 4
-  pub third : get_or qs.counts 2 0 ≤ 4
-  pub fourth : get_or qs.counts 3 0 ≤ 4
-
--- r tells that the first n words are the same.
-pub record SameWords (a b : Words) (n : ℕ) (r : Bool) : Type 0 where
-  pub at : r ≡ true → (i : ℕ) → i < n → at a i ≡ at b i
-
--- The first i are.
-pub record SameTo (a b : Words) (i : ℕ) : Type 0 where
-  pub at : (j : ℕ) → j < i → at a j ≡ at b j
-
-pub same_none : (a b : Words) → SameTo a b 0
-same_none a b = record { at = λ j h. absurd (omega arith) }
-
-pub same_more : (a b : Words) (i x y : ℕ) → SameTo a b i → x ≡ at a i → y ≡ at b i → x ≡ y → SameTo a b (i + 1)
-same_more a b i x y s ex ey e = record {
-  at = λ j h. elim (ℕ_discrete j i) [
-    | yes p ↦ rw p (sym ex ∙ e ∙ ey)
-    | no p ↦ s.at j (omega arith)
-  ];
-}
-
-pub same-all : (a b : Words) (i n : ℕ) → SameTo a b i → n ≤ i → SameWords a b n true
-same-all a b i n s h = record { at = λ e j l. s.at j (omega arith) }
-
-pub same_not : (a b : Words) (n : ℕ) → SameWords a b n false
-same_not a b n = record { at = λ e. absurd (true≢false (sym e)) }
+pub queries_equal : (p q : Queries) → Decides (queries.eq-value.it p q) (p ≡ q)
+queries_equal p q =
+    Decides-like (queries.eq-value.it p q) (λ h i. record { n = h.0 i; items = h.1 i }) (λ e. (ap (λ (r : Queries). r.n) e, ap (λ (r : Queries). r.items) e))
+    (Decides-and _ _ (unsigned_Decides p.n q.n) (slice_eq-Decides query_equal p.items q.items _ refl))
 
 -- r tells that two tables are the same.
 pub record SameTable (a b : Words) (r : Bool) : Type 0 where
   pub is : r ≡ true → types_of b ≡ types_of a
 
--- c is the count of the first, and w the same.
-pub same-table : (a b : Words) (c w : ℕ) (r : Bool) → Packed a → 1025 ≤ length b → c ≡ length (types_of a) → w ≡ c → SameWords a b (4 * w + 1) r → SameTable a b r
-same-table a b c w r p long ec ew s = record {
-  is = λ e. (table_move a b 0 0 (types_of a) long (λ i l m. ap (at b) (let z : 0 + i ≡ i = omega arith in z) ∙ sym (s.at e i (omega (arith, types_length a, p.few))) ∙ ap (at a) (let z : i ≡ 0 + i = omega arith in z)) (record { packed = p; is = refl })).is;
-}
-
--- Room for a table, and for a row with its steps.
-pub record Room (last noted : Words) : Type 0 where
-  pub table : 1025 ≤ length last
-  pub row : 26 ≤ length noted
-
--- A table and the words of a row are noted.
-pub record Noted (ts : Types) (rs last noted : Words) : Type 0 where
-  pub room : Room last noted
-  pub table : types_of last ≡ ts
-  pub row : (i : ℕ) → i < 25 → at noted i ≡ at rs i
-
--- r is 0, or these are the noted ones, with so many steps.
-pub record Recalled (ws last noted rs : Words) (r : ℕ) : Type 0 where
-  pub steps : 0 < r → at noted 25 ≡ r
-  pub table : 0 < r → types_of last ≡ types_of ws
-  pub row : 0 < r → (i : ℕ) → i < 25 → at noted i ≡ at rs i
-
-pub recalled_none : (ws last noted rs : Words) → Recalled ws last noted rs 0
-recalled_none ws last noted rs = record { steps = λ h. absurd (omega arith); table = λ h. absurd (omega arith); row = λ h. absurd (omega arith) }
-
-pub recalled_known : (ws last noted rs : Words) (k : ℕ) (x y : Bool) → k ≡ at noted 25 → SameWords rs noted 25 x → x ≡ true → SameTable ws last y → y ≡ true → Recalled ws last noted rs k
-recalled_known ws last noted rs k x y e a ea b eb = record { steps = λ h. sym e; table = λ h. b.is eb; row = λ h i l. sym (a.at ea i l) }
-
-pub noted_copied : (ws rs last noted last' noted' : Words) → Room last noted → length rs ≡ 25 → Becomes last' (types_of ws) → noted' ≡ copied 25 rs noted → Noted (types_of ws) rs last' noted'
-noted_copied ws rs last noted last' noted' h long b e = record {
-  room = record { table = b.packed.long; row = omega (arith, h.row, ap length e, copied-length 25 rs noted) };
-  table = b.is;
-  row = λ i l. ap (λ (l : Words). at l i) e ∙ copied_at 25 i rs noted l (omega arith) (omega (arith, h.row));
-}
-
--- r is 0, and they are noted; or it is the steps of those that are, within the limit.
-pub record Recall (ws : Words) (qs : Queries) (L count : ℕ) (last noted last' noted' : Words) (r : ℕ) : Type 0 where
-  pub same-table : 0 < r → last' ≡ last
-  pub same_row : 0 < r → noted' ≡ noted
-  pub steps : 0 < r → at noted 25 ≡ r
-  pub fits : 0 < r → count + r ≤ L
-  pub old : 0 < r → Noted (types_of ws) (row_of qs) last noted
-  pub new : r ≡ 0 → Noted (types_of ws) (row_of qs) last' noted'
-
-pub recall_known : (ws rs : Words) (qs : Queries) (L count k : ℕ) (last noted : Words) → Room last noted → rs ≡ row_of qs → Recalled ws last noted rs k → 0 < k → count ≤ L → k ≤ L - count → Recall ws qs L count last noted last noted k
-recall_known ws rs qs L count k last noted room e r h low fits = record {
-  same-table = λ l. refl;
-  same_row = λ l. refl;
-  steps = r.steps;
-  fits = λ l. omega arith;
-  old = λ l. record { room = room; table = r.table l; row = λ i j. r.row l i j ∙ ap (λ (x : Words). at x i) e };
-  new = λ z. absurd (omega arith);
-}
-
-pub recall_new : (ws rs : Words) (qs : Queries) (L count : ℕ) (last noted last' noted' : Words) → rs ≡ row_of qs → Noted (types_of ws) rs last' noted' → Recall ws qs L count last noted last' noted' 0
-recall_new ws rs qs L count last noted last' noted' e n = record {
-  same-table = λ l. absurd (omega arith);
-  same_row = λ l. absurd (omega arith);
-  steps = λ l. absurd (omega arith);
-  fits = λ l. absurd (omega arith);
-  old = λ l. absurd (omega arith);
-  new = λ z. record { room = n.room; table = n.table; row = λ i j. n.row i j ∙ ap (λ (x : Words). at x i) e };
-}
-
--- r is 0, or nothing was found after so many steps.
-pub record ToNothing (answer : Asked) (L count r : ℕ) : Type 0 where
-  pub found : 0 < r → answer ≡ Found (count + r) 0
-  pub fits : 0 < r → count + r ≤ L
-
-pub to_nothing_unknown : (answer : Asked) (L count : ℕ) → ToNothing answer L count 0
-to_nothing_unknown answer L count = record { found = λ h. absurd (omega arith); fits = λ h. absurd (omega arith) }
-
-pub to_nothing_known : (answer : Asked) (L count end n : ℕ) → answer ≡ Found end n → n ≡ 0 → end ≤ L → count < end → ToNothing answer L count (end - count)
-to_nothing_known answer L count end n e z low h = record {
-  found = λ l. e ∙ (λ i. Found (same i) (z i));
-  fits = λ l. omega arith;
+-- It tells that their first n words are, which are those of the nodes of the first.
+pub same_words : (a b : Words) (c n : ℕ) (r : Bool) → Packed a → 1025 ≤ length b → c ≡ length (types_of a) → n ≡ 4 * c + 1 → r ≡ pointwise eqb (take n a) (take n b) → SameTable a b r
+same_words a b c n r p long ec en er = record {
+  is = λ e. (table_move a b 0 0 (types_of a) long (λ i l m. ap (at b) (let z : 0 + i ≡ i = omega arith in z) ∙ sym (each e i (omega (arith, types_length a, p.few))) ∙ ap (at a) (let z : i ≡ 0 + i = omega arith in z)) (record { packed = p; is = refl })).is;
 }
   where
-    same : end ≡ count + (end - count)
-    same = omega arith
+    same : r ≡ true → take n a ≡ take n b
+    same e = (slice_eq-Decides unsigned_Decides (take n a) (take n b) r er).0 e
 
--- It stands behind the row.
-pub record Keeps (noted noted' : Words) (answer : Asked) (L count : ℕ) : Type 0 where
-  pub len : length noted' ≡ length noted
-  pub row : (i : ℕ) → i < 25 → at noted' i ≡ at noted i
-  pub steps : 26 ≤ length noted → ToNothing answer L count (at noted' 25)
+    each : r ≡ true → (i : ℕ) → i < n → at a i ≡ at b i
+    each e i l = sym (get_or-take n a i 0 l) ∙ ap (λ (x : Words). at x i) (same e) ∙ get_or-take n b i 0 l
 
--- The noted sub-questions, of the noted table, find nothing after the noted steps; where those are 0 nothing is known.
-pub record Recalls (ask : Types → ImplType → Run (List Result)) (last noted : Words) : Type 0 where
-  pub room : Room last noted
-  pub none : 0 < at noted 25 → (qs : Queries) → qs.n ≤ 4 → ((i : ℕ) → i < 25 → at noted i ≡ at (row_of qs) i) → free (find_subimpls ask (types_of last) (queries_of qs)) ≡ got []
-  pub steps : 0 < at noted 25 → (qs : Queries) → qs.n ≤ 4 → ((i : ℕ) → i < 25 → at noted i ≡ at (row_of qs) i) → asked (find_subimpls ask (types_of last) (queries_of qs)) ≡ at noted 25
+-- Where o has steps, these sub-questions, of the table in ws, are the noted ones, which found nothing in so many; within the limit.
+pub record Known (r : Recall) (ws : Words) (qs : Queries) (L count : ℕ) (o : Option ℕ) : Type 0 where
+  pub table : (k : ℕ) → o ≡ Some k → types_of r.table ≡ types_of ws
+  pub nothing : (k : ℕ) → o ≡ Some k → r.nothing ≡ Some (record { questions = qs; steps = k })
+  pub fits : (k : ℕ) → o ≡ Some k → count + k ≤ L
 
-pub recalls_room : (ask : Types → ImplType → Run (List Result)) (last noted : Words) → Recalls ask last noted → Room last noted
-recalls_room ask last noted h = h.room
+pub known_same : (r : Recall) (ws : Words) (qs : Queries) (L count : ℕ) (k : Nothing) (x y : Bool) → r.nothing ≡ Some k → x ≡ queries.eq-value.it k.questions qs → x ≡ true → SameTable ws r.table y → y ≡ true → count ≤ L → k.steps ≤ L - count → Known r ws qs L count (Some k.steps)
+known_same r ws qs L count k x y e ex t s ty low fits = record {
+  table = λ j p. s.is ty;
+  nothing = λ j p. e ∙ (λ i. Some (record { questions = same i; steps = steps j p i }));
+  fits = λ j p. omega (arith, steps j p);
+}
+  where
+    same : k.questions ≡ qs
+    same = (queries_equal k.questions qs).0 (sym ex ∙ t)
 
-pub tail_counts : (ws : Words) (qs : Queries) (from : ℕ) → Tail ws qs from → Counts qs
-tail_counts ws qs from t = record { few = t.few; first = t.counts 0; second = t.counts 1; third = t.counts 2; fourth = t.counts 3 }
+    steps : (j : ℕ) → ◌≡◌ {A = Option ℕ} (Some k.steps) (Some j) → k.steps ≡ j
+    steps j p = cc
 
-pub tail_packed : (ws : Words) (qs : Queries) (from : ℕ) → Tail ws qs from → Packed ws
-tail_packed ws qs from t = t.packed
+-- The table in ws is noted, and nothing is known.
+pub record Noted (ts : Types) (r : Recall) : Type 0 where
+  pub table : types_of r.table ≡ ts
+  pub unknown : r.nothing ≡ None
 
-pub recall_low : (s sets : Words) (f : Finder) (ws : Words) (qs : Queries) (count : ℕ) (last noted last' noted' : Words) (k : ℕ) → Searching s sets f → Recall ws qs f.limit count last noted last' noted' k → 0 < k → count + k ≤ 4000000000
-recall_low s sets f ws qs count last noted last' noted' k h g l = omega (arith, h.low, g.fits l)
+-- Where o has steps, nothing was found after so many, within the limit.
+pub record ToNothing (found : Results) (L count : ℕ) (o : Option ℕ) : Type 0 where
+  pub steps : (k : ℕ) → o ≡ Some k → found ≡ record { n = 0; count = count + k }
+  pub fits : (k : ℕ) → o ≡ Some k → count + k ≤ L
 
-pub tail_room : (ws : Words) (qs : Queries) (d : ℕ) → Tail ws qs 0 → 41024 * d + 41024 ≤ length ws → 41024 * d + 6410 + 11538 * (qs.n - 0 - 1) ≤ length ws
-tail_room ws qs d t h = omega (arith, t.few)
+-- Where nothing was known, and now is, it is of these sub-questions; the table is as it was.
+pub record Keeps (r r' : Recall) (qs : Queries) (found : Results) (L count : ℕ) : Type 0 where
+  pub table : r'.table ≡ r.table
+  pub nothing : (k : Nothing) → r.nothing ≡ None → r'.nothing ≡ Some k → (k.questions ≡ qs) × ToNothing found L count (Some k.steps)
 
--- Sub-questions of the same row are the same.
-query_same : (ps qs : Queries) → ((i : ℕ) → i < 25 → at (row_of ps) i ≡ at (row_of qs) i) → (k : ℕ) → k < 4 → query_in ps k ≡ query_in qs k
-unfolding row_of
-query_same ps qs e zero h = cc (e 1 (omega arith), e 5 (omega arith), e 9 (omega arith), e 10 (omega arith), e 11 (omega arith), e 12 (omega arith))
-query_same ps qs e (suc zero) h = cc (e 2 (omega arith), e 6 (omega arith), e 13 (omega arith), e 14 (omega arith), e 15 (omega arith), e 16 (omega arith))
-query_same ps qs e (suc (suc zero)) h = cc (e 3 (omega arith), e 7 (omega arith), e 17 (omega arith), e 18 (omega arith), e 19 (omega arith), e 20 (omega arith))
-query_same ps qs e (suc (suc (suc zero))) h = cc (e 4 (omega arith), e 8 (omega arith), e 21 (omega arith), e 22 (omega arith), e 23 (omega arith), e 24 (omega arith))
-query_same ps qs e (suc (suc (suc (suc k)))) h = absurd (omega arith)
+-- The noted sub-questions, of the noted table, find nothing after the noted steps.
+pub record Recalls (ask : Types → ImplType → Run (List Result)) (r : Recall) : Type 0 where
+  pub none : (k : Nothing) → r.nothing ≡ Some k → free (find_subimpls ask (types_of r.table) (queries_of k.questions)) ≡ got []
+  pub steps : (k : Nothing) → r.nothing ≡ Some k → asked (find_subimpls ask (types_of r.table) (queries_of k.questions)) ≡ k.steps
 
-row_same : (ps qs : Queries) → qs.n ≤ 4 → ((i : ℕ) → i < 25 → at (row_of ps) i ≡ at (row_of qs) i) → queries_of ps ≡ queries_of qs
-unfolding queries_of row_of
-row_same ps qs few e = ap (λ n. up_to (λ k. query_of (query_in ps k)) n) (e 0 (omega arith)) ∙ up_to-same (λ k. query_of (query_in ps k)) (λ k. query_of (query_in qs k)) qs.n (λ k h. ap query_of (query_same ps qs e k (omega arith)))
-
--- At first nothing is known.
-recalls_nothing : (ask : Types → ImplType → Run (List Result)) (last noted : Words) → Room last noted → at noted 25 ≡ 0 → Recalls ask last noted
-recalls_nothing ask last noted h e = record { room = h; none = λ l qs few r. absurd (omega arith); steps = λ l qs few r. absurd (omega arith) }
-
-pub recalls_start : (ask : Types → ImplType → Run (List Result)) → Recalls ask (replicate 1025 0) (replicate 26 0)
-recalls_start ask = recalls_nothing ask (replicate 1025 0) (replicate 26 0) (record { table = omega (arith, length-replicate {0} {A = ℕ} 1025 0); row = omega (arith, length-replicate {0} {A = ℕ} 26 0) }) refl
+-- At first nothing is known, and where it is noted what is to be asked.
+pub recalls_unknown : (ask : Types → ImplType → Run (List Result)) (r : Recall) → r.nothing ≡ None → Recalls ask r
+recalls_unknown ask r u = record { none = λ k e. absurd (no k e); steps = λ k e. absurd (no k e) }
+  where
+    no : (k : Nothing) → r.nothing ≡ Some k → ⊥
+    no k e = let z : ◌≡◌ {A = Option Nothing} None (Some k) = sym u ∙ e in cc
 
 -- What is recalled is the answer.
-module _ (ask : Types → ImplType → Run (List Result)) (ws : Words) (qs : Queries) (L count : ℕ) (last noted last' noted' : Words) (k : ℕ) (few : Counts qs) (low : L ≤ 4000000000) (h : Recalls ask last noted) (g : Recall ws qs L count last noted last' noted' k) (some : 0 < k) where
-  there : Noted (types_of ws) (row_of qs) last noted
-  there = g.old some
+pub recalled_answers : (ask : Types → ImplType → Run (List Result)) (r : Recall) (ws : Words) (qs : Queries) (L count : ℕ) (o : Option ℕ) (k : ℕ) → L ≤ 4000000000 → Recalls ask r → Known r ws qs L count o → o ≡ Some k →
+    Answers (within (ltb L) (find_subimpls ask (types_of ws) (drop 0 (queries_of qs))) count) (Ok (record { n = 0; count = count + k })) ws
+recalled_answers ask r ws qs L count o k low h g e =
+    answers_found _ (record { n = 0; count = count + k }) [] ws
+    ((run_alike L (find_subimpls ask (types_of ws) (queries_of qs)) count).free_low (omega (arith, taken, g.fits k e)) ∙ (λ i. (nothing i, count + taken i)))
+    (omega (arith, g.fits k e)) refl (omega arith) (slots_none ws 1282)
+  where
+    nothing : free (find_subimpls ask (types_of ws) (queries_of qs)) ≡ got []
+    nothing = subst (λ (ts : Types). free (find_subimpls ask ts (queries_of qs)) ≡ got []) (g.table k e) (h.none (record { questions = qs; steps = k }) (g.nothing k e))
 
-  nothing : free (find_subimpls ask (types_of ws) (queries_of qs)) ≡ got []
-  nothing = subst (λ (ts : Types). free (find_subimpls ask ts (queries_of qs)) ≡ got []) there.table (h.none (omega (arith, g.steps some)) qs few.few there.row)
-
-  taken : asked (find_subimpls ask (types_of ws) (queries_of qs)) ≡ k
-  taken = subst (λ (ts : Types). asked (find_subimpls ask ts (queries_of qs)) ≡ at noted 25) there.table (h.steps (omega (arith, g.steps some)) qs few.few there.row) ∙ g.steps some
-
-  pub recalled_answers : Answers (within (ltb L) (find_subimpls ask (types_of ws) (drop 0 (queries_of qs))) count) (Found (count + k) 0) ws
-  recalled_answers = answers_found _ (count + k) 0 [] ws
-      ((run_alike L (find_subimpls ask (types_of ws) (queries_of qs)) count).free_low (omega (arith, taken, g.fits some)) ∙ (λ i. (nothing i, count + taken i)))
-      (omega (arith, g.fits some)) refl (omega arith) (slots_none ws 1282)
-
-pub recalled_still : (ask : Types → ImplType → Run (List Result)) (ws : Words) (qs : Queries) (L count : ℕ) (last noted last' noted' : Words) (k : ℕ) → Recalls ask last noted → Recall ws qs L count last noted last' noted' k → 0 < k → Recalls ask last' noted'
-recalled_still ask ws qs L count last noted last' noted' k h g some = rw (g.same-table some, g.same_row some) h
+    taken : asked (find_subimpls ask (types_of ws) (queries_of qs)) ≡ k
+    taken = subst (λ (ts : Types). asked (find_subimpls ask ts (queries_of qs)) ≡ k) (g.table k e) (h.steps (record { questions = qs; steps = k }) (g.nothing k e))
 
 -- What was asked and found nothing is kept.
-module _ (ask : Types → ImplType → Run (List Result)) (ws out : Words) (qs : Queries) (L count : ℕ) (last noted last' noted' noted'' : Words) (k : ℕ) (answer : Asked) (g : Recall ws qs L count last noted last' noted' k) (z : k ≡ 0)
-    (w : Answers (within (ltb L) (find_subimpls ask (types_of ws) (drop 0 (queries_of qs))) count) answer out) (e : Keeps noted' noted'' answer L count) where
-  new : Noted (types_of ws) (row_of qs) last' noted'
-  new = g.new z
-
+module _ (ask : Types → ImplType → Run (List Result)) (ws out : Words) (qs : Queries) (L count : ℕ) (r r' : Recall) (found : Results) (n : Noted (types_of ws) r)
+    (w : Answers (within (ltb L) (find_subimpls ask (types_of ws) (drop 0 (queries_of qs))) count) (Ok found) out) (e : Keeps r r' qs found L count) where
   nil : (rs : List Result) → length rs ≡ 0 → rs ≡ []
   nil [] l = refl
   nil (r ∷ rs) l = absurd (omega arith)
 
-  module _ (l : 0 < at noted'' 25) where
-    end : ToNothing answer L count (at noted'' 25)
-    end = e.steps new.room.row
+  module _ (k : Nothing) (known : r'.nothing ≡ Some k) where
+    end : ToNothing found L count (Some k.steps)
+    end = (e.nothing k n.unknown known).1
 
-    came : within (ltb L) (find_subimpls ask (types_of ws) (queries_of qs)) count ≡ (got [], count + at noted'' 25)
-    came = let o = w.found (count + at noted'' 25) 0 (end.found l) in o.is ∙ (λ i. (got (nil o.results o.size i), count + at noted'' 25))
+    came : within (ltb L) (find_subimpls ask (types_of ws) (queries_of qs)) count ≡ (got [], count + k.steps)
+    came = let o = w.found (record { n = 0; count = count + k.steps }) (λ i. Ok (end.steps k.steps refl i)) in o.is ∙ (λ i. (got (nil o.results o.size i), count + k.steps))
 
-    module _ (ps : Queries) (few : ps.n ≤ 4) (r : (i : ℕ) → i < 25 → at noted'' i ≡ at (row_of ps) i) where
-      same : find_subimpls ask (types_of ws) (queries_of qs) ≡ find_subimpls ask (types_of last') (queries_of ps)
-      same = ap (λ (ts : Types). find_subimpls ask ts (queries_of qs)) (sym new.table) ∙ ap (find_subimpls ask (types_of last')) (row_same qs ps few (λ i h. sym (new.row i h) ∙ sym (e.row i h) ∙ r i h))
+    same : find_subimpls ask (types_of ws) (queries_of qs) ≡ find_subimpls ask (types_of r'.table) (queries_of k.questions)
+    same = (λ i. find_subimpls ask (sym (ap types_of e.table ∙ n.table) i) (queries_of (sym (e.nothing k n.unknown known).0 i)))
 
-      runs : ◌≡◌ {A = Out (List Result) × ℕ} (got [], count + at noted'' 25) (free (find_subimpls ask (types_of last') (queries_of ps)), count + asked (find_subimpls ask (types_of last') (queries_of ps)))
-      runs = sym came ∙ (run_alike L (find_subimpls ask (types_of ws) (queries_of qs)) count).run_low (subst (λ (o : Out (List Result) × ℕ). o.1 ≤ L) (sym came) (end.fits l)) ∙ ap (λ (m : Run (List Result)). (free m, count + asked m)) same
+    runs : ◌≡◌ {A = Out (List Result) × ℕ} (got [], count + k.steps) (free (find_subimpls ask (types_of r'.table) (queries_of k.questions)), count + asked (find_subimpls ask (types_of r'.table) (queries_of k.questions)))
+    runs = sym came ∙ (run_alike L (find_subimpls ask (types_of ws) (queries_of qs)) count).run_low (subst (λ (o : Out (List Result) × ℕ). o.1 ≤ L) (sym came) (end.fits k.steps refl)) ∙ ap (λ (m : Run (List Result)). (free m, count + asked m)) same
 
-  pub kept_recalls : Recalls ask last' noted''
+  pub kept_recalls : Recalls ask r'
   kept_recalls = record {
-    room = record { table = new.room.table; row = omega (arith, new.room.row, e.len) };
-    none = λ l ps few r. sym (ap (λ (o : Out (List Result) × ℕ). o.0) (runs l ps few r));
-    steps = λ l ps few r. omega (arith, ap (λ (o : Out (List Result) × ℕ). o.1) (runs l ps few r));
+    none = λ k l. sym (ap (λ (o : Out (List Result) × ℕ). o.0) (runs k l));
+    steps = λ k l. omega (arith, ap (λ (o : Out (List Result) × ℕ). o.1) (runs k l));
   }

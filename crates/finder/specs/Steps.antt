@@ -7,7 +7,17 @@ use native.Mathlib.Omega.{arith}
 use borrow.Author.Tests.{lt-ltb, le-ltb}
 use Rattle.rules.specs.Types.{Types, ImplType}
 use Rattle.rules.specs.Run.{Run, ◌>>=◌, refused, within}
+use Rattle.steps.specs.Asking.{finder_of, Searching}
+use Rattle.finder.specs.declared.Search.{Search}
 use Rattle.rules.specs.Search.{Finder, Result, collect, find_impl_candidates, try_candidate, before_candidates, question}
+
+-- The rules' finder of a search.
+abbrev pub finder_in : Search → Finder
+finder_in x = finder_of x.sheet.now x.f
+
+-- The call has passed its checks, and the sets of its source stand.
+abbrev pub SearchingIn : Search → Type 0
+SearchingIn x = Searching x.sheet.now x.sets.now x.f
 
 -- The question one level down.
 abbrev pub ask_below : ℕ → Finder → Types → ImplType → Run (List Result)

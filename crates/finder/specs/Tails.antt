@@ -1,5 +1,5 @@
 -- Sub-questions from left to right, `find_subimpls`: none are left, the last one, and one before others; the loop over the results of the first.
-use Rattle.std.specs.Prelude.{ℕ, zero, suc, ◌+◌, ◌*◌, ◌≤◌, ◌<◌, ◌≡◌, refl, List, [], ◌∷◌, ◌++◌, map, ltb, length, get_or, drop}
+use Rattle.std.specs.Prelude.{ℕ, zero, suc, ◌+◌, ◌*◌, ◌≤◌, ◌<◌, ◌≡◌, refl, List, [], ◌∷◌, ◌++◌, map, ltb, length, get_or, drop, Ok, Err}
 use Rattle.std.proofs.Common.{sym, ◌∙◌, ap, append_assoc, add-one, arith, length-append, length-drop, drop-cons}
 use Rattle.rules.specs.Lists.{Words}
 use Rattle.rules.specs.Sheet.{at}
@@ -10,12 +10,13 @@ use Rattle.rules.specs.Yields.{Every, Yields, yields_both, bind_same, came}
 use Rattle.rules.proofs.Yields.{yields_within}
 use Rattle.rules.specs.ResultLimits.{Small, Few}
 use Rattle.trees.specs.Forests.{Single}
-use Rattle.slots.specs.declared.Asked.{Asked}
-use Rattle.slots.specs.declared.Asked.TheVariants.{Found, Refused}
+use Rattle.refusals.specs.declared.Stopped.{Stopped}
+use Rattle.refusals.specs.Numbers.{number_of}
+use Rattle.slots.specs.declared.Results.{Results}
 use Rattle.slots.specs.Slots.{Slot, Slots, slots_kept}
 use Rattle.slots.specs.Adding.{behind, add_one_more}
 use Rattle.slots.specs.Parts.{Lent, slots_back}
-use Rattle.slots.specs.Turns.{Answers, answers_refused, adding, Going, Stepped, Turned, turn, going_same, going_start, going_end, then_got, then_refused, collect_next, collect-none}
+use Rattle.slots.specs.Turns.{Asked, Answers, answers_refused, adding, Going, Stepped, Turned, turn, going_same, going_start, going_end, then_got, then_refused, collect_next, collect-none}
 use Rattle.finder.specs.Singles.{One}
 
 -- What one result of the first sub-question gives with the sub-questions that are left.
@@ -67,8 +68,8 @@ pub record Resting (L : ℕ) (whole : Out (List Result) × ℕ) (f : Result → 
   pub going : Going L whole (λ fs. collect f (drop k all) fs) ws n cur
 
 pub record Rested (L : ℕ) (whole : Out (List Result) × ℕ) (f : Result → Run (List Result)) (m k : ℕ) (r : Asked) (out : Words) : Type 0 where
-  pub on : (c n : ℕ) → r ≡ Found c n → Resting L whole f m k out n c
-  pub stops : (d c : ℕ) → r ≡ Refused d c → Answers whole (Refused d c) out
+  pub on : (h : Results) → r ≡ Ok h → Resting L whole f m k out h.n h.count
+  pub stops : (s : Stopped) → r ≡ Err s → Answers whole (Err s) out
 
 -- Slots 5 to 8 are as they were.
 pub record Keeps (ws out : Words) : Type 0 where
@@ -84,7 +85,7 @@ every_get (r ∷ rs) (suc k) d h l = every_get rs k d h.1 (omega arith)
 pub rest-turn : (L : ℕ) (whole : Out (List Result) × ℕ) (f : Result → Run (List Result)) (m k : ℕ) (ws out : Words) (n cur : ℕ) (r : Asked) → Resting L whole f m k ws n cur → k < m → m ≤ 4 → Keeps ws out →
     ((x : Result) → Slot ws (6410 + 1282 * k) x → Single x.1 → Stepped L (adding (f x)) n cur ws r out) → Rested L whole f m (k + 1) r out
 rest-turn L whole f m k ws out n cur r g more small kept step = record {
-  on = λ c d e. record { all = g.all; size = g.size; ones = g.ones; there = slots_kept ws out 6410 g.all kept.len (λ i p q. kept.at i (omega arith) (omega (arith, g.size))) g.there; going = t.on c d e };
+  on = λ h e. record { all = g.all; size = g.size; ones = g.ones; there = slots_kept ws out 6410 g.all kept.len (λ i p q. kept.at i (omega arith) (omega (arith, g.size))) g.there; going = t.on h e };
   stops = t.stops;
 }
   where
@@ -101,7 +102,7 @@ rest-turn L whole f m k ws out n cur r g more small kept step = record {
     t = turn L whole (adding (f x)) rest ws out n cur r (going_same L whole (λ fs. collect f (drop k g.all) fs) (λ fs. adding (f x) fs >>= rest) ws n cur next g.going) (step x (g.there.at k (omega (arith, g.size))) (every_get g.all k ([], end) g.ones (omega (arith, g.size))))
 
 -- All are done.
-pub rest_end : (L : ℕ) (whole : Out (List Result) × ℕ) (f : Result → Run (List Result)) (m k : ℕ) (ws : Words) (n cur : ℕ) → Resting L whole f m k ws n cur → m ≤ k → Answers whole (Found cur n) ws
+pub rest_end : (L : ℕ) (whole : Out (List Result) × ℕ) (f : Result → Run (List Result)) (m k : ℕ) (ws : Words) (n cur : ℕ) → Resting L whole f m k ws n cur → m ≤ k → Answers whole (Ok (record { n = n; count = cur })) ws
 rest_end L whole f m k ws n cur g h = going_end L whole (λ fs. collect f (drop k g.all) fs) ws n cur (λ fs. ap (λ (l : List Result). collect f l fs) (none (drop k g.all) (omega (arith, length-drop k g.all, g.size))) ∙ collect-none f fs) g.going
   where
     none : (l : List Result) → length l ≡ 0 → l ≡ []
@@ -117,17 +118,17 @@ module _ (L count : ℕ) (ask : Types → ImplType → Run (List Result)) (ts : 
   asks_first = ap (λ r. within (ltb L) r count) (tail_next ask ts q qs)
 
   -- A refusal is handed on.
-  pub tail_refused : (m c : ℕ) (out : Words) → first ≡ Refused m c → Answers whole (Refused m c) out
-  tail_refused m c out e = answers_refused whole m c out (asks_first ∙ then_refused (ltb L) (ask ts q) (λ rs. collect (sub_one ask qs) rs []) count m c (w.refuses m c e))
+  pub tail_refused : (s : Stopped) (out : Words) → first ≡ Err s → Answers whole (Err s) out
+  tail_refused s out e = answers_refused whole s out (asks_first ∙ then_refused (ltb L) (ask ts q) (λ rs. collect (sub_one ask qs) rs []) count (number_of s.refusal) s.count (w.refuses s e))
 
   -- The loop over its results begins.
-  pub tail_start : (m c : ℕ) (ws back : Words) → Yields (Every One) (ask ts q) → first ≡ Found c m → Lent 5128 ws ys back → 11538 ≤ length ws → Resting L whole (sub_one ask qs) m 0 back 0 c
-  tail_start m c ws back ones e l room =
-      let g = w.found c m e in
+  pub tail_start : (h : Results) (ws back : Words) → Yields (Every One) (ask ts q) → first ≡ Ok h → Lent 5128 ws ys back → 11538 ≤ length ws → Resting L whole (sub_one ask qs) h.n 0 back 0 h.count
+  tail_start h ws back ones e l room =
+      let g = w.found h e in
       record {
         all = g.results;
         size = g.size;
         ones = came (Every One) (within (ltb L) (ask ts q) count).0 g.results (yields_within (Every One) (ltb L) (ask ts q) count ones) (ap (λ (o : Out (List Result) × ℕ). o.0) g.is);
         there = slots_back 5128 1282 ws ys back g.results l (omega (arith, g.size, g.few)) g.stand;
-        going = going_start L whole (λ fs. collect (sub_one ask qs) (drop 0 g.results) fs) back c g.low (asks_first ∙ then_got (ltb L) (ask ts q) (λ rs. collect (sub_one ask qs) rs []) count c g.results g.is);
+        going = going_start L whole (λ fs. collect (sub_one ask qs) (drop 0 g.results) fs) back h.count g.low (asks_first ∙ then_got (ltb L) (ask ts q) (λ rs. collect (sub_one ask qs) rs []) count h.count g.results g.is);
       }

@@ -20,8 +20,7 @@ use Rattle.rules.specs.Neat.{Neat}
 use Rattle.rules.specs.Check.{refusal, flex_checks}
 use Rattle.rules.specs.Calls.{question_types, flex_searches}
 use Rattle.table.specs.Packing.{types_of, Becomes}
-use Rattle.slots.specs.declared.Asked.{Asked}
-use Rattle.slots.specs.Turns.{Answers, answers_same}
+use Rattle.slots.specs.Turns.{Asked, Answers, answers_same}
 use Rattle.queries.specs.declared.Query.{Query}
 use Rattle.queries.specs.Queries.{query_of}
 use Rattle.steps.specs.declared.Finder.{Finder}

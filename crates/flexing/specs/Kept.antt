@@ -1,6 +1,5 @@
 -- A search as the flex call takes it: 18 and 19 are nothing found, and its first result is kept in a slot alone.
-use Rattle.std.specs.Prelude.{ℕ, ◌+◌, ◌*◌, ◌≤◌, ◌<◌, max, ◌≡◌, refl, Bool, true, false, ◌||◌, ◌≢◌, eqb, ltb, Option, Some, Ok, Err, length, take, drop}
-use Rattle.std.specs.Prelude.{Result as Tried}
+use Rattle.std.specs.Prelude.{ℕ, ◌+◌, ◌*◌, ◌≤◌, ◌<◌, max, ◌≡◌, refl, Bool, true, false, ◌||◌, ◌≢◌, eqb, ltb, Ok, Err, length, take, drop}
 use Rattle.std.proofs.Math.Path.{sym, ap, subst}
 use Rattle.std.proofs.Common.{◌∙◌, ◌⊎◌, ⊎_elim, eq-eqb, ne_eqb, length-drop, length-take, get_or-drop, get_or-take}
 use mathlib.Core.List.{List, [], ◌∷◌}
@@ -8,24 +7,21 @@ use native.Mathlib.Omega.{arith}
 use Rattle.rules.specs.Lists.{Words}
 use Rattle.rules.specs.Sheet.{at}
 use Rattle.rules.specs.Run.{Out, got, refused, within}
-use Rattle.rules.specs.RunLaws.{Between, got_not_refused}
+use Rattle.rules.specs.RunLaws.{got_not_refused}
 use Rattle.rules.proofs.RunLaws.{rises_to}
 use Rattle.rules.specs.Search.{Result}
 use Rattle.rules.specs.Search as rules
 use Rattle.rules.specs.SearchKeeps.{AllKept}
 use Rattle.rules.specs.Calls.{or_nothing}
-use Rattle.refusals.specs.declared.Refusal.{Refusal}
 use Rattle.refusals.specs.declared.Refusal.TheVariants.{SearchLimit, ErrorType}
 use Rattle.refusals.specs.declared.Stopped.{Stopped}
-use Rattle.refusals.specs.Numbers.{number_of, Reads, same_refusal}
-use Rattle.slots.specs.declared.Asked.{Asked}
-use Rattle.slots.specs.declared.Asked.TheVariants.{Found, Refused}
+use Rattle.refusals.specs.Numbers.{number_of, same_refusal}
+use Rattle.slots.specs.declared.Results.{Results}
 use Rattle.slots.specs.Slots.{Slot, Slots, slot_move}
-use Rattle.slots.specs.Turns.{Answers}
+use Rattle.slots.specs.Turns.{Asked, count_of, Answers}
 use Rattle.steps.specs.declared.Finder.{Finder}
 use Rattle.steps.specs.Asking.{finder_of}
-use Rattle.closing.specs.Searched.{search_in, flex_kept}
-use Rattle.flexing.specs.declared.Turn.{Turn}
+use Rattle.closing.specs.Searched.{flex_kept}
 use Rattle.flexing.specs.Asked.{Flexing, exported, flex_question}
 
 -- The words of slot 1, as those of a slot alone.
@@ -49,22 +45,13 @@ pub record Taken (o : Out (List Result)) (ws : Words) (a n : ℕ) : Type 0 where
   pub size : length results ≡ n
   pub first : (r : Result) (rs : List Result) → results ≡ r ∷ rs → Slot ws a r
 
--- The count after a search.
-abbrev pub count_of : Tried Turn Stopped → ℕ
-count_of (Ok t) = t.count
-count_of (Err s) = s.count
-
-pub record Takes (o : Out (List Result) × ℕ) (ws : Words) (r : Tried Turn Stopped) : Type 0 where
+pub record Takes (o : Out (List Result) × ℕ) (ws : Words) (r : Asked) : Type 0 where
   pub stops : (s : Stopped) → r ≡ Err s → or_nothing o.0 ≡ refused (number_of s.refusal)
-  pub goes : (t : Turn) → r ≡ Ok t → Taken (or_nothing o.0) ws 1282 t.n
+  pub goes : (t : Results) → r ≡ Ok t → Taken (or_nothing o.0) ws 1282 t.n
   pub count : count_of r ≡ o.1
 
-pub record Settles (asked : Asked) (r : Tried Turn Stopped) : Type 0 where
+pub record Settles (asked : Asked) (r : Asked) : Type 0 where
   pub at : (o : Out (List Result) × ℕ) (out : Words) → Answers o asked out → Takes o out r
-
--- A search is refused with a number of document 01.
-pub record Known (asked : Asked) : Type 0 where
-  pub told : (m c : ℕ) → asked ≡ Refused m c → Between 14 19 m
 
 -- Results, by the rule for 18 and 19.
 nothing_18 : (m : ℕ) → m ≡ 18 → or_nothing (refused m) ≡ got []
@@ -86,12 +73,12 @@ none_taken ws a o e = record { results = []; is = e; size = refl; first = λ r r
     no r rs z = omega (arith, ap (λ (l : List Result). length l) z)
 
 module _ (asked : Asked) where
-  pub settle_found : (c n : ℕ) → asked ≡ Found c n → Settles asked (Ok (record { n = n; count = c }))
+  pub settle_found : (h : Results) → asked ≡ Ok h → Settles asked (Ok h)
   unfolding or_nothing
-  settle_found c n e = record {
-    at = λ o out w. let g = w.found c n e in record {
+  settle_found h e = record {
+    at = λ o out w. let g = w.found h e in record {
       stops = λ s x. cc;
-      goes = λ t x. subst (λ (t : Turn). Taken (or_nothing o.0) out 1282 t.n) (let k : record { n = n; count = c } ≡ t = cc in k) (record { results = g.results; is = ap (λ (p : Out (List Result) × ℕ). or_nothing p.0) g.is; size = g.size; first = λ r rs p. one g.results out r rs p g.stand });
+      goes = λ t x. subst (λ (t : Results). Taken (or_nothing o.0) out 1282 t.n) (let k : h ≡ t = cc in k) (record { results = g.results; is = ap (λ (p : Out (List Result) × ℕ). or_nothing p.0) g.is; size = g.size; first = λ r rs p. one g.results out r rs p g.stand });
       count = sym (ap (λ (p : Out (List Result) × ℕ). p.1) g.is);
     };
   }
@@ -99,35 +86,30 @@ module _ (asked : Asked) where
       one : (fs : List Result) (out : Words) (r : Result) (rs : List Result) → fs ≡ r ∷ rs → Slots out 1282 fs → Slot out 1282 r
       one fs out r rs e s = subst (λ i. Slot out i r) (let z : 1282 + 1282 * 0 ≡ 1282 = omega arith in z) ((subst (λ (l : List Result). Slots out 1282 l) e s).at 0 (omega arith))
 
-  -- A refusal, as document 01 has it.
-  module _ (m c : ℕ) (e : asked ≡ Refused m c) where
-    nothing : ((o : Out (List Result)) → o ≡ refused m → or_nothing o ≡ got []) → Settles asked (Ok (record { n = 0; count = c }))
+  -- A refusal.
+  module _ (stopped : Stopped) (e : asked ≡ Err stopped) where
+    nothing : ((o : Out (List Result)) → o ≡ refused (number_of stopped.refusal) → or_nothing o ≡ got []) → Settles asked (Ok (record { n = 0; count = stopped.count }))
     nothing h = record {
-      at = λ o out w. let g = w.refuses m c e in record {
+      at = λ o out w. let g = w.refuses stopped e in record {
         stops = λ s x. cc;
-        goes = λ t x. subst (λ (t : Turn). Taken (or_nothing o.0) out 1282 t.n) (let k : record { n = 0; count = c } ≡ t = cc in k) (none_taken out 1282 (or_nothing o.0) (h o.0 (ap (λ (p : Out (List Result) × ℕ). p.0) g)));
+        goes = λ t x. subst (λ (t : Results). Taken (or_nothing o.0) out 1282 t.n) (let k : record { n = 0; count = stopped.count } ≡ t = cc in k) (none_taken out 1282 (or_nothing o.0) (h o.0 (ap (λ (p : Out (List Result) × ℕ). p.0) g)));
         count = sym (ap (λ (p : Out (List Result) × ℕ). p.1) g);
       };
     }
 
-    -- w is the refusal.
-    module _ (o : Option Refusal) (w : Refusal) (t : Reads m o) (d : o ≡ Some w) where
-      number : number_of w ≡ m
-      number = subst (λ x. Reads m x) d t
+    pub settle_none : (stopped.refusal ≡ SearchLimit) ⊎ (stopped.refusal ≡ ErrorType) → Settles asked (Ok (record { n = 0; count = stopped.count }))
+    settle_none = ⊎_elim
+        (λ h. nothing (λ o x. ap or_nothing x ∙ nothing_18 (number_of stopped.refusal) (ap number_of h)))
+        (λ h. let i : number_of stopped.refusal ≡ 19 = ap number_of h in nothing (λ o x. ap or_nothing x ∙ nothing_19 (number_of stopped.refusal) (λ z. omega arith) i))
 
-      pub settle_none : (w ≡ SearchLimit) ⊎ (w ≡ ErrorType) → Settles asked (Ok (record { n = 0; count = c }))
-      settle_none = ⊎_elim
-          (λ h. nothing (λ o x. ap or_nothing x ∙ nothing_18 m (sym number ∙ ap number_of h)))
-          (λ h. let i : m ≡ 19 = sym number ∙ ap number_of h in nothing (λ o x. ap or_nothing x ∙ nothing_19 m (λ z. omega arith) i))
-
-      pub settle_stop : ¬ (w ≡ SearchLimit) → ¬ (w ≡ ErrorType) → Settles asked (Err (record { refusal = w; count = c }))
-      settle_stop y h = record {
-        at = λ p out v. let g = v.refuses m c e in let k : p.0 ≡ refused m = ap (λ (p : Out (List Result) × ℕ). p.0) g in record {
-          stops = λ s x. ap or_nothing k ∙ nothing_else m (λ z. y (same_refusal w SearchLimit (number ∙ z))) (λ z. h (same_refusal w ErrorType (number ∙ z))) ∙ ap refused (sym number ∙ ap (λ (s : Stopped). number_of s.refusal) (let i : record { refusal = w; count = c } ≡ s = cc in i));
-          goes = λ t x. cc;
-          count = sym (ap (λ (p : Out (List Result) × ℕ). p.1) g);
-        };
-      }
+    pub settle_stop : ¬ (stopped.refusal ≡ SearchLimit) → ¬ (stopped.refusal ≡ ErrorType) → Settles asked (Err stopped)
+    settle_stop y h = record {
+      at = λ p out v. let g = v.refuses stopped e in let k : p.0 ≡ refused (number_of stopped.refusal) = ap (λ (p : Out (List Result) × ℕ). p.0) g in record {
+        stops = λ s x. ap or_nothing k ∙ nothing_else (number_of stopped.refusal) (λ z. y (same_refusal stopped.refusal SearchLimit z)) (λ z. h (same_refusal stopped.refusal ErrorType z)) ∙ ap (λ (s : Stopped). refused (number_of s.refusal)) (let i : stopped ≡ s = cc in i);
+        goes = λ t x. cc;
+        count = sym (ap (λ (p : Out (List Result) × ℕ). p.1) g);
+      };
+    }
 
 -- Results of one of the four questions: how many there are, and the first in a slot alone.
 pub record Holding (q : Words) (n : ℕ) (kept : Words) (fs : List Result) : Type 0 where
@@ -141,9 +123,9 @@ pub record Goes (q : Words) (o : Out (List Result)) (kept : Words) (n : ℕ) : T
   pub holds : Holding q n kept results
 
 -- One of the four questions is asked.
-pub record Turned (L : ℕ) (a : rules.Finder) (q : Words) (h : ℕ) (inv : Bool) (c : ℕ) (kept : Words) (r : Tried Turn Stopped) : Type 0 where
+pub record Turned (L : ℕ) (a : rules.Finder) (q : Words) (h : ℕ) (inv : Bool) (c : ℕ) (kept : Words) (r : Asked) : Type 0 where
   pub stops : (s : Stopped) → r ≡ Err s → or_nothing (within (ltb L) (flex_question a q h inv) c).0 ≡ refused (number_of s.refusal)
-  pub goes : (t : Turn) → r ≡ Ok t → Goes q (or_nothing (within (ltb L) (flex_question a q h inv) c).0) kept t.n
+  pub goes : (t : Results) → r ≡ Ok t → Goes q (or_nothing (within (ltb L) (flex_question a q h inv) c).0) kept t.n
   pub count : count_of r ≡ (within (ltb L) (flex_question a q h inv) c).1
   pub low : count_of r ≤ max L c + 1
 
@@ -167,11 +149,7 @@ counted P z (refused n) h fs e = go (eqb n 18 || eqb n 19) refl
         or_false x = rw (x, or_nothing)
 
 module _ (s sets q : Words) (f : Finder) (h : ℕ) (inv : Bool) (c : ℕ) (asked : Asked) (out : Words) (w : Answers (within (ltb f.limit) (flex_question (finder_of s f) q h inv) c) asked out) where
-  pub asked_known : Known asked
-  unfolding flex_question
-  asked_known = record { told = λ m d e. search_in (ltb f.limit) _ (finder_of s f) false _ _ c m (ap (λ (o : Out (List Result) × ℕ). o.0) (w.refuses m d e)) }
-
-  pub turned : (kept : Words) (r : Tried Turn Stopped) → Flexing s sets q f → Copied out kept → Settles asked r → Turned f.limit (finder_of s f) q h inv c kept r
+  pub turned : (kept : Words) (r : Asked) → Flexing s sets q f → Copied out kept → Settles asked r → Turned f.limit (finder_of s f) q h inv c kept r
   unfolding flex_question exported
   turned kept r k d e = record {
     stops = p.stops;

@@ -1,4 +1,5 @@
 pub mod Asked
+pub mod Calls
 pub mod Kept
 pub mod Rest
 pub mod Sides

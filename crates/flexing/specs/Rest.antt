@@ -18,12 +18,13 @@ use Rattle.rules.specs.Calls.{or_nothing, with_first, onward, in_turn, flex_sear
 use Rattle.refusals.specs.declared.Refusal.TheVariants.{ForkUnset, DropUnset, FlexSearchLimit}
 use Rattle.refusals.specs.declared.Stopped.{Stopped}
 use Rattle.refusals.specs.Numbers.{number_of, number_some, end_number, end_count}
+use Rattle.slots.specs.declared.Results.{Results}
+use Rattle.slots.specs.Turns.{Asked, count_of}
 use Rattle.closing.specs.Impl.{Closed}
 use Rattle.closing.specs.FlexEnd.{closed_refused}
 use Rattle.closing.specs.Ended.{Ends}
-use Rattle.flexing.specs.declared.Turn.{Turn}
 use Rattle.flexing.specs.Asked.{flex_question, the_searches}
-use Rattle.flexing.specs.Kept.{count_of, Holding, Turned}
+use Rattle.flexing.specs.Kept.{Holding, Turned}
 
 -- Results in front of those of later questions.
 unfoldable pub before : List (List Result) → Out (List (List Result)) → Out (List (List Result))
@@ -98,7 +99,7 @@ left_from a q i h = rw (the_searches a q) (go i h)
     go (suc (suc (suc (suc i)))) h = absurd (omega arith)
 
 -- One question more.
-module _ (L : ℕ) (a : rules.Finder) (q : Words) (start : ℕ) (ns : List ℕ) (ks : List Words) (i c : ℕ) (g : Going L a q start ns ks i c) (l : i < 4) (h : ℕ) (inv : Bool) (eh : h ≡ (question_of i).0) (ei : inv ≡ (question_of i).1) (k : Words) (r : Tried Turn Stopped) (d : Turned L a q h inv c k r) where
+module _ (L : ℕ) (a : rules.Finder) (q : Words) (start : ℕ) (ns : List ℕ) (ks : List Words) (i c : ℕ) (g : Going L a q start ns ks i c) (l : i < 4) (h : ℕ) (inv : Bool) (eh : h ≡ (question_of i).0) (ei : inv ≡ (question_of i).1) (k : Words) (r : Asked) (d : Turned L a q h inv c k r) where
   abbrev rest : List (Run (List Result))
   rest = drop (i + 1) (flex_searches a q)
 
@@ -108,7 +109,7 @@ module _ (L : ℕ) (a : rules.Finder) (q : Words) (start : ℕ) (ns : List ℕ) 
   whole : flex_rest (ltb L) a q [] (flex_searches a q) start ≡ flex_rest (ltb L) a q g.back (flex_question a q h inv ∷ rest) c
   whole = g.same ∙ ap (λ (ss : List (Run (List Result))). flex_rest (ltb L) a q g.back ss c) left
 
-  pub going_next : (t : Turn) → r ≡ Ok t → L ≤ limit_count → i < length ns → i < length ks → Going L a q start (set ns i t.n) (set ks i k) (i + 1) t.count
+  pub going_next : (t : Results) → r ≡ Ok t → L ≤ limit_count → i < length ns → i < length ks → Going L a q start (set ns i t.n) (set ks i k) (i + 1) t.count
   going_next t e low hn hk =
       let o = d.goes t e in
       let ec : t.count ≡ (within (ltb L) (flex_question a q h inv) c).1 = sym (ap count_of e) ∙ d.count in

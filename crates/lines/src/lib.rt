@@ -59,7 +59,7 @@ fn put_entry(out: &mut [u8], at: usize, i: usize) -> usize
     put_number(out, next, i)
 }
 
-// Puts a space and the id for each impl that the set of a node admits, rising.
+// Puts a space and the id for each impl that the set of a node admits, rising; each is looked for behind the one before it.
 fn put_impls(s: &[u32], ws: &[u32], node: usize, out: &mut [u8], at: usize) -> usize
     requires { Indexes s.now ws.now × (node < 384) × (many s.now header_impls ≤ 128) × (at + 512 ≤ length out.old) }
     ensures { PutsImpls s.now ws.now node at out.old out.new result × (result ≤ at + 512) }

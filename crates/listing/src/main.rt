@@ -12,25 +12,13 @@ use std::io;
 use std::io::Read;
 
 // The bytes of a sheet, and one more by which too many are seen.
-fn input() -> [u8; 16385]
-    ensures { 16385 ≡ length result }
-{
-    [0; 16385]
-}
+const BYTES: usize = 16385;
 
 // The words of a sheet.
-fn sheet() -> [u32; 4096]
-    ensures { 4096 ≡ length result }
-{
-    [0; 4096]
-}
+const SHEET: usize = 4096;
 
 // The words that checks and candidates work in.
-fn workspace() -> [u32; 90112]
-    ensures { 90112 ≡ length result }
-{
-    [0; 90112]
-}
+const WORKSPACE: usize = 90112;
 
 // Reads until the buffer is full or the input ends, and answers how many bytes it put at the front. (No method of the library does: `read_exact` refuses a short input.)
 fn read_full<R: Read>(source: &mut R, buf: &mut [u8]) -> io::Result<usize>
@@ -89,9 +77,9 @@ fn list_bytes(rt: &impl Print, bytes: &[u8], words: &mut [u32], ws: &mut [u32]) 
 }
 
 fn main(rt: HostRuntime) -> io::Result<()> {
-    let mut bytes = input();
+    let mut bytes = [0u8; BYTES];
     let n = read_full(&mut rt.reader(), &mut bytes)?;
-    let mut words = sheet();
-    let mut ws = workspace();
+    let mut words = [0u32; SHEET];
+    let mut ws = [0u32; WORKSPACE];
     list_bytes(&rt, &bytes[..n], &mut words, &mut ws)
 }

@@ -15,9 +15,10 @@ ghost use Rattle.loading.specs.Exports.{Reads, Asks, Exports, ExportsType};
 
 use chart::layout;
 use queries::Query;
+use table::KnownType;
 use transfer::PackedTable;
 
-// Reads the type words of the cells from a head, and says how many there are.
+// Reads the type words of the cells from a head, and says how many there are. (The count is asked for behind the loop, where an `enumerate` has none.)
 fn read_cells(q: &[u32], head: usize, cs: &mut [u32]) -> usize
     requires head_len_bound { length (chain q.now head) ≤ 8 }
     requires in_bounds { 8 ≤ length cs.old }
@@ -42,9 +43,13 @@ fn load_known(q: &[u32], p: usize, kind: u32, dst: &mut [u32])
     let mut cs = [0u32; 8];
     let head = words::offset(q, p, layout::NODE_CHILDREN) as usize;
     let m = read_cells(q, head, &mut cs);
-    let inverted = words::offset(q, p, layout::NODE_INVERTED) == 1;
-    let id = words::offset(q, p, layout::NODE_ID);
-    let _ = table::new_known(dst, inverted, kind, id, &cs[..m]);
+    let known = KnownType {
+        inverted: words::offset(q, p, layout::NODE_INVERTED) == 1,
+        kind,
+        id: words::offset(q, p, layout::NODE_ID),
+        children: &cs[..m],
+    };
+    let _ = table::new_known(dst, &known);
 }
 
 // Pushes the node that the record at p is.

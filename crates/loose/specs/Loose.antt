@@ -135,23 +135,20 @@ alike_read ls x y ks w a b k z e q o = subst (RefsAlike ls x y ks) (eq-eqb a b o
 pub alike_set : (ls : Words) (x y : ℕ) (ks : Words) (w a b v : ℕ) → Labelled ls y ks b → b ≢ 0 → w ≡ x % 2048 → a ≡ at ks w → a ≡ 0 → v ≡ at (set ks w b) w → RefsAlike ls x y (set ks w b) (eqb v b)
 alike_set ls x y ks w a b v k z e q o t = alike_both ls x y ks (set ks w b) v b k z (labelled-set ks x w a b v e q o t)
 
--- The children of a ref, as a row, where they are told.
+-- The children of a ref, as a row.
 pub record Kids (s ps ws : Words) (r : ℕ) (o : Row) : Type 0 where
-  pub few : o.n ≢ 9 → o.n ≤ 8
-  pub long : o.n ≢ 9 → o.n ≤ length o.types
-  pub are : o.n ≢ 9 → take o.n o.types ≡ kids s ps ws r
-
-pub kids_untold : (s ps ws : Words) (r : ℕ) (o : Row) → o.n ≡ 9 → Kids s ps ws r o
-kids_untold s ps ws r o e = record { few = λ z. absurd (z e); long = λ z. absurd (z e); are = λ z. absurd (z e) }
+  pub few : o.n ≤ 8
+  pub long : o.n ≤ length o.types
+  pub are : take o.n o.types ≡ kids s ps ws r
 
 pub kids-node : (s ps ws : Words) (r : ℕ) (o : Row) → r < 256 → ChildTypes ws r o → Kids s ps ws r o
-kids-node s ps ws r o h c = record { few = c.few; long = c.long; are = λ z. c.are z ∙ sym (kids_low s ps ws r h) }
+kids-node s ps ws r o h c = record { few = c.few; long = c.long; are = c.are ∙ sym (kids_low s ps ws r h) }
 
 pub kids_record : (s ps ws : Words) (r p h j : ℕ) (o : Row) → 256 ≤ r → p ≡ place ps r → h ≡ at s (p + 4) → j ≡ h → Cells s j o → Kids s ps ws r o
 kids_record s ps ws r p h j o l ep eh ej c = record {
   few = c.few;
   long = c.long;
-  are = λ z. c.are z ∙ ap (record_types s) (ej ∙ eh ∙ ap (λ k. at s (k + 4)) ep) ∙ sym (kids_high s ps ws r l);
+  are = c.are ∙ ap (record_types s) (ej ∙ eh ∙ ap (λ k. at s (k + 4)) ep) ∙ sym (kids_high s ps ws r l);
 }
 
 -- They are those below it.
@@ -162,8 +159,8 @@ kids_below s ps ws r o b = record { few = b.few; long = b.long; are = b.are }
 pub kids_known : (ws : Words) (r k : ℕ) → k ≡ kind_at (types_of ws) r → k ≢ 0 → kind_at (types_of ws) r ≢ 0
 kids_known ws r k e z q = z (e ∙ q)
 
-pub kids_few : (s ps ws : Words) (r : ℕ) (o : Row) → Kids s ps ws r o → o.n ≢ 9 → o.n ≤ 8
-kids_few s ps ws r o k z = k.few z
+pub kids_few : (s ps ws : Words) (r : ℕ) (o : Row) → Kids s ps ws r o → o.n ≤ 8
+kids_few s ps ws r o k = k.few
 
 -- true: the first n of xs and ys are labelled alike.
 pub record SameLabels (ls : Words) (n : ℕ) (xs ys ks : Words) (b : Bool) : Type 0 where
@@ -204,14 +201,14 @@ pub record SameKids (s ps ws ls : Words) (a z : ℕ) (ks : Words) (b : Bool) : T
 pub kids_not : (s ps ws ls : Words) (a z : ℕ) → SameKids s ps ws ls a z ls false
 kids_not s ps ws ls a z = record { fixed = fixed_same ls; same = λ e. absurd (never e) }
 
-pub kids-same : (s ps ws ls : Words) (a z : ℕ) (xs ys : Row) (ks : Words) (b : Bool) → Below s ps ws a xs → Below s ps ws z ys → xs.n ≢ 9 → ys.n ≢ 9 → xs.n ≡ ys.n → SameLabels ls xs.n xs.types ys.types ks b → SameKids s ps ws ls a z ks b
-kids-same s ps ws ls a z xs ys ks b ka kz zx zy e o = let k = kids_below s ps ws a xs ka in let j = kids_below s ps ws z ys kz in record {
+pub kids-same : (s ps ws ls : Words) (a z : ℕ) (xs ys : Row) (ks : Words) (b : Bool) → Below s ps ws a xs → Below s ps ws z ys → xs.n ≡ ys.n → SameLabels ls xs.n xs.types ys.types ks b → SameKids s ps ws ls a z ks b
+kids-same s ps ws ls a z xs ys ks b ka kz e o = let k = kids_below s ps ws a xs ka in let j = kids_below s ps ws z ys kz in record {
   fixed = o.fixed;
   same = λ t js f.
-      ap (labelled js) (sym (k.are zx))
-      ∙ rows-labelled js xs.n xs.types ys.types (k.long zx) (omega (arith, j.long zy)) (o.each t js f)
+      ap (labelled js) (sym k.are)
+      ∙ rows-labelled js xs.n xs.types ys.types k.long (omega (arith, j.long)) (o.each t js f)
       ∙ ap (λ v. labelled js (take v ys.types)) e
-      ∙ ap (labelled js) (j.are zy);
+      ∙ ap (labelled js) j.are;
 }
 
 -- true: a ref is closed.

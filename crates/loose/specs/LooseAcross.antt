@@ -15,9 +15,9 @@ use Rattle.refs.specs.Refs.{place}
 use Rattle.refs.specs.Children.{type_in_cell, cell_types_are, cells-none, cells_more}
 use Rattle.loose.specs.Loose.{held, labelled, kids_low, kids_high, Fixed, fixed_same, fixed_on, RefsAlike, SameKids}
 
--- A node has at most eight children where they are told.
-pub own_few : (ws : Words) (n m : ℕ) → ChildTypes ws n (row_at ws n m) → m ≢ 9 → m ≤ 8
-own_few ws n m c z = c.few z
+-- A node that is its own root has at most eight children.
+pub own_few : (ws : Words) (n m : ℕ) → ChildTypes ws n (row_at ws n m) → m ≤ 8
+own_few ws n m c = c.few
 
 -- true: the cells from h are labelled as the types of a row, and stay so.
 pub record CellsAlike (s ls : Words) (h : ℕ) (o : Row) (ks : Words) (b : Bool) : Type 0 where
@@ -83,11 +83,11 @@ module _ (s ls : Words) (h : ℕ) (o : Row) (ks : Words) (c j : ℕ) (k : Beside
   }
 
 -- The children of a ref that has a record and of a known node.
-pub across_same : (s ps ws ls : Words) (a z p h i : ℕ) (o : Row) (ks : Words) (b : Bool) → 1024 ≤ a → z < 256 → ChildTypes ws z o → o.n ≢ 9 → p ≡ place ps a → h ≡ at s (p + 4) → i ≡ h → CellsAlike s ls i o ks b → SameKids s ps ws ls a z ks b
-across_same s ps ws ls a z p h i o ks b ha hz c n ep eh ei k = record {
+pub across_same : (s ps ws ls : Words) (a z p h i : ℕ) (o : Row) (ks : Words) (b : Bool) → 1024 ≤ a → z < 256 → ChildTypes ws z o → p ≡ place ps a → h ≡ at s (p + 4) → i ≡ h → CellsAlike s ls i o ks b → SameKids s ps ws ls a z ks b
+across_same s ps ws ls a z p h i o ks b ha hz c ep eh ei k = record {
   fixed = k.fixed;
   same = λ t js f.
       ap (labelled js) (kids_high s ps ws a (omega arith) ∙ ap (record_types s) (sym (ei ∙ eh ∙ ap (λ v. at s (v + 4)) ep)))
       ∙ k.same t js f
-      ∙ ap (labelled js) (c.are n ∙ sym (kids_low s ps ws z hz));
+      ∙ ap (labelled js) (c.are ∙ sym (kids_low s ps ws z hz));
 }

@@ -38,13 +38,29 @@ fn put(ms: &mut [u32], i: usize, w: u32)
     }
 }
 
-// The word of the row for types x and y and a verdict.
-fn word_of(x: u32, y: u32, v: UnifyResult) -> u32
-    requires x_bound { x < 512 }
-    requires y_bound { y < 512 }
-    ensures { result ≡ entry x y (code_of v) }
-{
-    4 * (512 * x + y) + v as u32
+// Two type words.
+#[derive(Clone, Copy)]
+pub struct Pair {
+    pub x: u32,
+    pub y: u32,
+    pub ghost left: { x < 512 },
+    pub ghost right: { y < 512 },
+}
+
+impl Pair {
+    // Its number among all pairs.
+    fn number(self) -> u32
+        ensures { result ≡ 512 * self.x + self.y }
+    {
+        512 * self.x + self.y
+    }
+
+    // Its word of the row, with a verdict.
+    fn word(self, v: UnifyResult) -> u32
+        ensures { result ≡ entry self.x self.y (code_of v) }
+    {
+        4 * self.number() + v as u32
+    }
 }
 
 // A join: no pair is kept, and the table does not stand.
@@ -65,32 +81,30 @@ pub fn start(ms: &mut [u32])
     forget(ms)
 }
 
-// The verdict that is kept for types x and y, which is no success.
-pub fn recall(ms: &[u32], x: u32, y: u32) -> Option<UnifyResult>
-    requires x_bound { x < 512 }
-    requires y_bound { y < 512 }
-    ensures kept { Recalls ms.now x y (kept_code result) }
+// The verdict that is kept for a pair, which is no success.
+pub fn recall(ms: &[u32], pair: Pair) -> Option<UnifyResult>
+    ensures kept { Recalls ms.now pair.x pair.y (kept_code result) }
     ensures fails { result ≢ Some UnifyResult.Success }
 {
     let n = words::word(ms, COUNT);
     if n == 0 {
         return None;
     }
-    let p = words::offset(ms, PLACES, (512 * x + y) as usize);
+    let p = words::offset(ms, PLACES, pair.number() as usize);
     if n <= p {
         return None;
     }
     let w = words::offset(ms, ROW, p as usize);
-    if w == word_of(x, y, UnifyResult::Failure) {
+    if w == pair.word(UnifyResult::Failure) {
         Some(UnifyResult::Failure)
-    } else if w == word_of(x, y, UnifyResult::Indeterminate) {
+    } else if w == pair.word(UnifyResult::Indeterminate) {
         Some(UnifyResult::Indeterminate)
     } else {
         None
     }
 }
 
-// Begins a pair: the table stands. Gives back whether it stood before.
+// Begins a pair: the table stands. Gives back whether it stood before, as the word itself: in a lent slice that may be any number, and `end` puts it back.
 pub fn begin(ms: &mut [u32]) -> u32
     ensures before { result ≡ at ms.old memo_same }
     ensures after { ms.new ≡ set ms.old memo_same 1 }
@@ -113,26 +127,22 @@ fn add(ms: &mut [u32], pair: u32, w: u32)
     }
 }
 
-// Keeps a pair of types x and y with what it comes to, if that is no success.
-fn keep(ms: &mut [u32], x: u32, y: u32, v: UnifyResult)
-    requires x_bound { x < 512 }
-    requires y_bound { y < 512 }
-    ensures { Keeps ms.old ms.new x y (code_of v) }
+// Keeps a pair with what it comes to, if that is no success.
+fn keep(ms: &mut [u32], pair: Pair, v: UnifyResult)
+    ensures { Keeps ms.old ms.new pair.x pair.y (code_of v) }
 {
     if v != UnifyResult::Success {
-        add(ms, 512 * x + y, word_of(x, y, v));
+        add(ms, pair.number(), pair.word(v));
     }
 }
 
-// Ends a pair of types x and y: kept with what it comes to where the table stands and that is no success.
-pub fn end(ms: &mut [u32], before: u32, x: u32, y: u32, v: UnifyResult)
-    requires x_bound { x < 512 }
-    requires y_bound { y < 512 }
-    ensures { Ends ms.old ms.new before x y (code_of v) }
+// Ends a pair: kept with what it comes to where the table stands and that is no success.
+pub fn end(ms: &mut [u32], before: u32, pair: Pair, v: UnifyResult)
+    ensures { Ends ms.old ms.new before pair.x pair.y (code_of v) }
 {
     if words::word(ms, SAME) != 1 {
         return;
     }
-    keep(ms, x, y, v);
+    keep(ms, pair, v);
     put(ms, SAME, before)
 }

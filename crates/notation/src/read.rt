@@ -5,7 +5,7 @@ ghost use Rattle.notation.specs.State.{word_of, ended_by};
 use std::error::Error;
 use std::fmt;
 
-/// A line with something that is no decimal word.
+// A line with something that is no decimal word.
 #[derive(Clone, Copy, Debug, PartialEq, Eq)]
 pub struct NoWord {
     pub line: u32,
@@ -20,7 +20,7 @@ impl fmt::Display for NoWord {
 
 impl Error for NoWord {}
 
-/// Where a reader stands: between words, in a word with its value so far, or in a comment.
+// Where a reader stands: between words, in a word with its value so far, or in a comment.
 #[derive(Clone, Copy, Debug, PartialEq, Eq)]
 pub enum State {
     Between,
@@ -51,7 +51,7 @@ impl State {
     }
 }
 
-/// A reader of words: where it stands, and its line, from 1.
+// A reader of words: where it stands, and its line, from 1.
 #[derive(Clone, Copy, Debug)]
 pub struct Reader {
     pub state: State,
@@ -69,7 +69,7 @@ impl Reader {
         }
     }
 
-    /// Reads a byte more, and answers the word that it ends, if it ends one.
+    // Reads a byte more, and answers the word that it ends, if it ends one.
     pub fn read(&mut self, b: u8) -> Result<Option<u32>, NoWord>
         ensures ended { IfOk result (λ word. word ≡ ended_by self.old.state self.new.state) }
         ensures wrong { IfErr result (λ why. why.line ≡ self.old.line) }
@@ -88,7 +88,7 @@ impl Reader {
         Ok(ended)
     }
 
-    /// The word that a text ends with, if it ends with one.
+    // The word that a text ends with, if it ends with one.
     pub fn finish(self) -> Option<u32>
         ensures { result ≡ word_of self.state }
     {
@@ -99,7 +99,7 @@ impl Reader {
     }
 }
 
-/// The number that a text is: it has one word, and nothing else but what may stand round it.
+// The number that a text is: it has one word, and nothing else but what may stand round it.
 pub fn number(text: &str) -> Option<u32> {
     let mut reader = Reader::new();
     let mut found = None;

@@ -35,7 +35,7 @@ impl fmt::Display for Found {
 // How deep a tree may be: the search's own 16, and more.
 const DEPTH: usize = 32;
 
-/// The tree at a head of an answer.
+// The tree at a head of an answer.
 #[derive(Clone, Copy, Debug)]
 pub struct Tree<'a> {
     pub answer: &'a [u32],
@@ -62,6 +62,7 @@ impl<'a> Tree<'a> {
     }
 }
 
+// Beside that of `Type`: its levels are counted up, for the indent, and those of a type down.
 impl<'a> fmt::Display for Tree<'a> {
     fn fmt<W: fmt::Write>(&self, f: &mut fmt::Formatter<W>) -> fmt::Result {
         self.write(f, 0)

@@ -81,7 +81,7 @@ impl fmt::Display for Kind {
     }
 }
 
-/// A type by its type word, of the table that begins at a place of an answer.
+// A type by its type word, of the table that begins at a place of an answer.
 #[derive(Clone, Copy, Debug)]
 pub struct Type<'a> {
     pub answer: &'a [u32],

@@ -1,6 +1,6 @@
 -- An `ImplType` of the sheet is imported and met with the question: what that comes to, and its laws.
-use Rattle.std.specs.Prelude.{ℕ, ◌≤◌, ◌<◌, ◌≡◌, Bool, true, false, ◌≢◌, length, take}
-use Rattle.std.proofs.Common.{sym, subst, arith, length-take-le}
+use Rattle.std.specs.Prelude.{Result, Ok, Err, ℕ, ◌≤◌, ◌<◌, ◌≡◌, Bool, true, false, ◌≢◌, length, take}
+use Rattle.std.proofs.Common.{◌∙◌, sym, subst, arith, length-take-le}
 use Rattle.std.proofs.Math.Path.{ap}
 use mathlib.Core.List.{List, map}
 use Rattle.std.proofs.Math.Option.{Option}
@@ -17,9 +17,10 @@ use Rattle.transfer.specs.Imports.{types_in, Imports}
 use Rattle.unify.specs.Results.{Joins}
 use Rattle.unify.specs.Lists.{Nodes}
 use Rattle.queries.specs.declared.Query.{Query}
-use Rattle.queries.specs.Queries.{four, query_of}
-use Rattle.opening.specs.declared.Signed.{Signed}
-use Rattle.opening.specs.declared.Signed.TheVariants.{Full, Unfit, Fits}
+use Rattle.queries.specs.Queries.{query_of}
+use Rattle.queries.specs.Rows.{query_types}
+use Rattle.refusals.specs.declared.Refusal.{Refusal}
+use Rattle.refusals.specs.declared.Refusal.TheVariants.{TypesFull}
 
 -- The join of what was imported with question q.
 abbrev pub join_of : Words → ImplType × Types → ImplType → Unified
@@ -36,35 +37,46 @@ pub record Agrees (s : Words) (o : ImplType × Types) (q : ImplType) (out : Word
   pub met : (join_of s o q).0 ≡ success
   pub types : types_of out ≡ (join_of s o q).1
 
--- An import o that is met with question q.
-pub record Meets (s : Words) (o : ImplType × Types) (q : ImplType) (r : Signed) (out : Words) : Type 0 where
+-- An import o that is met with question q: refused where the table would pass its limit, else whether they unify.
+pub record Meets (s : Words) (o : ImplType × Types) (q : ImplType) (r : Result Bool Refusal) (out : Words) : Type 0 where
   pub packed : Packed out
-  pub full : r ≡ Full → limit_nodes < length o.1
-  pub unfit : r ≡ Unfit → Parts s o q
-  pub fits : r ≡ Fits → Agrees s o q out
+  pub full : (refusal : Refusal) → r ≡ Err refusal → (refusal ≡ TypesFull) × (limit_nodes < length o.1)
+  pub unfit : r ≡ Ok false → Parts s o q
+  pub fits : r ≡ Ok true → Agrees s o q out
+
+-- A number for each, and the refusal.
+case : Result Bool Refusal → ℕ
+case (Err refusal) = 0
+case (Ok false) = 1
+case (Ok true) = 2
+
+refusal_of : Result Bool Refusal → Refusal
+refusal_of (Err refusal) = refusal
+refusal_of (Ok b) = TypesFull
+
+value_of : Result Bool Refusal → Bool
+value_of (Err refusal) = false
+value_of (Ok b) = b
+
+told_case : (b : Bool) → case (Ok b) ≡ 0 → ⊥
+unfolding case
+told_case true e = absurd (omega (arith, e))
+told_case false e = absurd (omega (arith, e))
 
 -- There was no room.
-pub meets_none : (s : Words) (o : ImplType × Types) (q : ImplType) (out : Words) → Packed out → limit_nodes < length o.1 → Meets s o q Full out
-meets_none s o q out p l = record { packed = p; full = λ z. l; unfit = λ z. absurd (subst IsFull z tt); fits = λ z. absurd (subst IsFull z tt) }
-  where
-    IsFull : Signed → Type 0
-    IsFull Full = Unit {0}
-    IsFull Unfit = ⊥
-    IsFull Fits = ⊥
-
--- Of four words the first.
-pub four-length : (xs : Words) (n : ℕ) → n ≤ 4 → n ≡ length (take n (four xs))
-four-length xs n h = sym (length-take-le n (four xs) h)
+pub meets_none : (s : Words) (o : ImplType × Types) (q : ImplType) (refusal : Refusal) (out : Words) → refusal ≡ TypesFull → Packed out → limit_nodes < length o.1 → Meets s o q (Err refusal) out
+unfolding case refusal_of
+meets_none s o q refusal out e p l = record { packed = p; full = λ x z. (sym (ap refusal_of z) ∙ e, l); unfit = λ z. absurd (omega (arith, ap case z)); fits = λ z. absurd (omega (arith, ap case z)) }
 
 -- The types of a question are nodes.
-pub query_nodes : (ts : Types) (q : Query) → AllIn (length ts) (query_of q).1 → Nodes ts (take q.n (four q.args))
-unfolding query_of
-query_nodes ts q a = record { there = a }
+pub query_nodes : (ts : Types) (q : Query) → length q.args ≡ 4 → AllIn (length ts) (query_of q).1 → Nodes ts (take q.n q.args)
+unfolding types_in
+query_nodes ts q l a = record { there = subst (λ (x : ImplType). AllIn (length ts) x.1) (query_types q l) a }
 
 -- The question by its fields.
-pub joins_question : (s ws us : Words) (tr : ℕ) (xs : Words) (q : Query) (r : Bool) → Joins (unify_impl_type s (types_of ws) (tr, map type_of_word xs) (q.tr, map type_of_word (take q.n (four q.args)))) us r → Joins (unify_impl_type s (types_of ws) (tr, map type_of_word xs) (query_of q)) us r
-unfolding query_of
-joins_question s ws us tr xs q r j = j
+pub joins_question : (s ws us : Words) (tr : ℕ) (xs : Words) (q : Query) (r : Bool) → length q.args ≡ 4 → Joins (unify_impl_type s (types_of ws) (tr, map type_of_word xs) (q.tr, map type_of_word (take q.n q.args))) us r → Joins (unify_impl_type s (types_of ws) (tr, map type_of_word xs) (query_of q)) us r
+unfolding types_in
+joins_question s ws us tr xs q r l j = subst (λ (x : ImplType). Joins (unify_impl_type s (types_of ws) (tr, map type_of_word xs) x) us r) (sym (query_types q l)) j
 
 -- The first n types of xs are imported from src into the table that ds is, as the arguments of a trait? tr: es has the table, and the first of vs the arguments.
 abbrev pub imported : Types → Option (List Ty) → ℕ → ℕ → Words → Words → ImplType × Types
@@ -79,9 +91,9 @@ module _ (src : Types) (ps : Option (List Ty)) (tr n : ℕ) (xs ds es vs : Words
   brought-length h = sym (length-take-le n vs (omega (arith, i.replaces.len)))
 
   -- There is no room.
-  pub meets_full : (s : Words) (q : ImplType) → r ≡ false → Meets s (imported src ps tr n xs ds) q Full es
+  pub meets_full : (s : Words) (q : ImplType) (refusal : Refusal) → refusal ≡ TypesFull → r ≡ false → Meets s (imported src ps tr n xs ds) q (Err refusal) es
   unfolding import_impl_type
-  meets_full s q e = meets_none s (imported src ps tr n xs ds) q es i.replaces.packed (i.comes.full e)
+  meets_full s q refusal t e = meets_none s (imported src ps tr n xs ds) q refusal es t i.replaces.packed (i.comes.full e)
 
   module _ (e : r ≡ true) (b : Brought (types_of ds) (imported src ps tr n xs ds).0.1 (imported src ps tr n xs ds).1) where
     there : Brought (types_of ds) (map type_of_word (take n vs)) (types_of es)
@@ -105,32 +117,25 @@ module _ (src : Types) (ps : Option (List Ty)) (tr n : ℕ) (xs ds es vs : Words
       few : length (imported src ps tr n xs ds).1 ≤ limit_nodes
       few = subst (λ (o : ImplType × Types). length o.1 ≤ limit_nodes) (sym (brings e)) (types_few es)
 
-      pub meets_unfit : ok ≡ false → Meets s (imported src ps tr n xs ds) q Unfit us
-      meets_unfit f = record { packed = j.packed; full = λ z. absurd (subst IsUnfit z tt); unfit = λ z. record { room = few; failed = now_met.failed f }; fits = λ z. absurd (subst IsUnfit z tt) }
-        where
-          IsUnfit : Signed → Type 0
-          IsUnfit Full = ⊥
-          IsUnfit Unfit = Unit {0}
-          IsUnfit Fits = ⊥
-
-      pub meets_fits : ok ≡ true → Meets s (imported src ps tr n xs ds) q Fits us
-      meets_fits f = record { packed = j.packed; full = λ z. absurd (subst IsFits z tt); unfit = λ z. absurd (subst IsFits z tt); fits = λ z. record { room = few; met = now_met.met f; types = now_met.types f } }
-        where
-          IsFits : Signed → Type 0
-          IsFits Full = ⊥
-          IsFits Unfit = ⊥
-          IsFits Fits = Unit {0}
+      pub meets_told : Meets s (imported src ps tr n xs ds) q (Ok ok) us
+      unfolding case value_of
+      meets_told = record {
+        packed = j.packed;
+        full = λ x z. absurd (told_case ok (ap case z));
+        unfit = λ z. record { room = few; failed = now_met.failed (ap value_of z) };
+        fits = λ z. record { room = few; met = now_met.met (ap value_of z); types = now_met.types (ap value_of z) };
+      }
 
 -- A question's type words are imported.
-pub query_inside : (src : Types) (p : Query) → AllIn (length src) (query_of p).1 → AllIn (length src) (types_in p.n (four p.args))
-unfolding query_of types_in
-query_inside src p a = a
+pub query_inside : (src : Types) (p : Query) → length p.args ≡ 4 → AllIn (length src) (query_of p).1 → AllIn (length src) (types_in p.n p.args)
+query_inside src p l a = subst (λ (x : ImplType). AllIn (length src) x.1) (query_types p l) a
 
-module _ (src : Types) (ps : Option (List Ty)) (p : Query) (ds : Words) where
-  pub query_brought : Brought (types_of ds) (import_impl_type src ps (query_of p) (types_of ds)).0.1 (import_impl_type src ps (query_of p) (types_of ds)).1 → Brought (types_of ds) (imported src ps p.tr p.n (four p.args) ds).0.1 (imported src ps p.tr p.n (four p.args) ds).1
-  unfolding query_of types_in
-  query_brought b = b
+module _ (src : Types) (ps : Option (List Ty)) (p : Query) (ds : Words) (l : length p.args ≡ 4) where
+  whole : import_impl_type src ps (query_of p) (types_of ds) ≡ imported src ps p.tr p.n p.args ds
+  whole = ap (λ (x : ImplType). import_impl_type src ps x (types_of ds)) (query_types p l)
 
-  pub query_meets : (s us : Words) (q : ImplType) (r : Signed) → Meets s (imported src ps p.tr p.n (four p.args) ds) q r us → Meets s (import_impl_type src ps (query_of p) (types_of ds)) q r us
-  unfolding query_of types_in
-  query_meets s us q r m = m
+  pub query_brought : Brought (types_of ds) (import_impl_type src ps (query_of p) (types_of ds)).0.1 (import_impl_type src ps (query_of p) (types_of ds)).1 → Brought (types_of ds) (imported src ps p.tr p.n p.args ds).0.1 (imported src ps p.tr p.n p.args ds).1
+  query_brought b = subst (λ (o : ImplType × Types). Brought (types_of ds) o.0.1 o.1) whole b
+
+  pub query_meets : (s us : Words) (q : ImplType) (r : Result Bool Refusal) → Meets s (imported src ps p.tr p.n p.args ds) q r us → Meets s (import_impl_type src ps (query_of p) (types_of ds)) q r us
+  query_meets s us q r m = subst (λ (o : ImplType × Types). Meets s o q r us) (sym whole) m

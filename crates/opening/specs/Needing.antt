@@ -1,5 +1,5 @@
 -- One candidate's impl parameters, imported under the types that stand for its type parameters: its sub-questions.
-use Rattle.std.specs.Prelude.{ℕ, ◌+◌, ◌*◌, ◌≤◌, ◌<◌, ◌≡◌, refl, Bool, true, false, length, take}
+use Rattle.std.specs.Prelude.{ℕ, ◌+◌, ◌*◌, ◌≤◌, ◌<◌, ◌≡◌, refl, Bool, true, false, length, take, Result, Ok, Err}
 use Rattle.std.proofs.Common.{sym, ◌∙◌, ap, arith}
 use Rattle.std.proofs.Math.Path.{ap₂, subst}
 use mathlib.Core.List.{List}
@@ -19,8 +19,10 @@ use Rattle.table.specs.Nodes.{types_few}
 use Rattle.transfer.specs.Moving.{params_of}
 use Rattle.transfer.specs.Imports.{types_in, Imports, ImportsImpls, imports_impls}
 use Rattle.transfer.specs.Callers.{inside_all}
+use Rattle.refusals.specs.declared.Refusal.{Refusal}
+use Rattle.refusals.specs.declared.Refusal.TheVariants.{TypesFull}
 use Rattle.queries.specs.declared.Queries.{Queries}
-use Rattle.queries.specs.Queries.{queries_of}
+use Rattle.queries.specs.Queries.{query_in, queries_of}
 use Rattle.queries.specs.Few.{Few, few_params}
 use Rattle.queries.specs.Gathering.{WithinFour}
 use Rattle.queries.specs.Rows.{Rowed, Unrowed, impls_imported, row_inside}
@@ -34,12 +36,25 @@ pub record Asks (o : List ImplType × Types) (r : Queries) (out : Words) : Type 
   pub is : o ≡ (queries_of r, types_of out)
   pub room : length o.1 ≤ limit_nodes
   pub within : WithinFour r
+  pub counts : (k : ℕ) → (query_in r k).n ≤ 4
 
--- More than four stand for no room.
-pub record Needs (o : List ImplType × Types) (r : Queries) (out : Words) : Type 0 where
+-- Refused where there is no room.
+pub record Needs (o : List ImplType × Types) (r : Result Queries Refusal) (out : Words) : Type 0 where
   pub packed : Packed out
-  pub full : 4 < r.n → limit_nodes < length o.1
-  pub asks : r.n ≤ 4 → Asks o r out
+  pub full : (refusal : Refusal) → r ≡ Err refusal → (refusal ≡ TypesFull) × (limit_nodes < length o.1)
+  pub asks : (qs : Queries) → r ≡ Ok qs → Asks o qs out
+
+is_told : Result Queries Refusal → ℕ
+is_told (Ok qs) = 1
+is_told (Err refusal) = 0
+
+refusal_of : Result Queries Refusal → Refusal
+refusal_of (Err refusal) = refusal
+refusal_of (Ok qs) = TypesFull
+
+queries_told : Queries → Result Queries Refusal → Queries
+queries_told r (Ok qs) = qs
+queries_told r (Err refusal) = r
 
 -- The type words of qs are the first m of ts, and vs has what they become.
 module _ (src : Types) (qs : Queries) (ts : Words) (m : ℕ) (rowed : Rowed qs ts m) where
@@ -50,14 +65,16 @@ module _ (src : Types) (qs : Queries) (ts : Words) (m : ℕ) (rowed : Rowed qs t
     impls : ImportsImpls src ps ws us ts vs m b
     impls = imports_impls src ps ws us ts vs m b i
 
-    pub needs_full : (r : Queries) → r.n ≡ 5 → b ≡ false → Needs (import_impl_types src ps (queries_of qs) (types_of ws)) r us
-    needs_full r e f = record { packed = i.replaces.packed; full = λ l. (impls.comes (queries_of qs) (sym rowed.is)).full f; asks = λ l. absurd (omega (arith, e)) }
+    pub needs_full : (refusal : Refusal) → refusal ≡ TypesFull → b ≡ false → Needs (import_impl_types src ps (queries_of qs) (types_of ws)) (Err refusal) us
+    unfolding is_told refusal_of
+    needs_full refusal e f = record { packed = i.replaces.packed; full = λ x z. (sym (ap refusal_of z) ∙ e, (impls.comes (queries_of qs) (sym rowed.is)).full f); asks = λ x z. absurd (omega (arith, ap is_told z)) }
 
-    pub needs_asks : (r : Queries) → Unrowed qs vs r → b ≡ true → Needs (import_impl_types src ps (queries_of qs) (types_of ws)) r us
+    pub needs_asks : (r : Queries) → Unrowed qs vs r → b ≡ true → Needs (import_impl_types src ps (queries_of qs) (types_of ws)) (Ok r) us
+    unfolding is_told queries_told
     needs_asks r u f = record {
       packed = i.replaces.packed;
-      full = λ l. absurd (omega (arith, u.within.many));
-      asks = λ l. record { is = whole; room = subst (λ (o : List ImplType × Types). length o.1 ≤ limit_nodes) (sym whole) (types_few us); within = u.within };
+      full = λ x z. absurd (omega (arith, ap is_told z));
+      asks = λ x z. subst (λ (v : Queries). Asks (import_impl_types src ps (queries_of qs) (types_of ws)) v us) (ap (queries_told r) z) (record { is = whole; room = subst (λ (o : List ImplType × Types). length o.1 ≤ limit_nodes) (sym whole) (types_few us); within = u.within; counts = u.few });
     }
       where
         whole : import_impl_types src ps (queries_of qs) (types_of ws) ≡ (queries_of r, types_of us)
@@ -93,14 +110,14 @@ module _ (s : Words) (sound : Sound s) (i : ℕ) (h : i < many s header_impls) (
       pub generics_inside : QueriesIn (length (table s head)) (queries_of qs)
       generics_inside = subst (λ (ps : List ImplType). QueriesIn (length (table s head)) ps) (sym eq) (subst (λ (ts : Types). QueriesIn (length ts) (impl_params s g).1) (sym (params-table s sound g head there e)) (impl_params_in (finder s sound) sound.question sound.ready g there))
 
-      pub generics_needs : (ps ds us : Words) (r : Queries) → Needs (import_impl_types (table s head) (params_of true ps) (queries_of qs) (types_of ds)) r us → Needs (needed_by s i (params_of true ps) (types_of ds)) r us
+      pub generics_needs : (ps ds us : Words) (r : Result Queries Refusal) → Needs (import_impl_types (table s head) (params_of true ps) (queries_of qs) (types_of ds)) r us → Needs (needed_by s i (params_of true ps) (types_of ds)) r us
       generics_needs ps ds us r n =
           subst (λ (o : List ImplType × Types). Needs o r us)
           (ap₂ (λ (src : Types) (l : List ImplType). import_impl_types src (params_of true ps) l (types_of ds)) (params-table s sound g head there e) eq
           ∙ ap (λ k. import_impl_types (impl_params s k).0 (params_of true ps) (impl_params s k).1 (types_of ds)) own) n
 
 -- After the join: for whatever table and question this is the table of. b is the count of nodes before the fresh unknowns.
-pub record Follows (s : Words) (i b : ℕ) (ds : Words) (r : Queries) (out : Words) : Type 0 where
+pub record Follows (s : Words) (i b : ℕ) (ds : Words) (r : Result Queries Refusal) (out : Words) : Type 0 where
   pub at : (ts : Types) (q : ImplType) → length ts ≡ b → types_of ds ≡ (met s ts q i).1 → Needs (needs s ts q i) r out
 
 -- n is the count of type parameters of impl i.
@@ -111,7 +128,7 @@ module _ (s : Words) (i g n : ℕ) (eg : g ≡ field s header_impls i impl_gener
   pub standing_few : (b : ℕ) (ds : Words) → b + fresh_count s i ≤ length (types_of ds) → b + n ≤ 256
   standing_few b ds l = omega (arith, count, types_few ds)
 
-  pub need_follows : (b : ℕ) (ps ds us : Words) (r : Queries) → Stands b n ps → Needs (needed_by s i (params_of true (take n ps)) (types_of ds)) r us → Follows s i b ds r us
+  pub need_follows : (b : ℕ) (ps ds us : Words) (r : Result Queries Refusal) → Stands b n ps → Needs (needed_by s i (params_of true (take n ps)) (types_of ds)) r us → Follows s i b ds r us
   unfolding params_of
   need_follows b ps ds us r t m = record {
     at = λ ts q e f.

@@ -1,5 +1,5 @@
 -- One candidate: its signature, under the types that stand for its type parameters, and after fresh unknowns.
-use Rattle.std.specs.Prelude.{ℕ, ◌+◌, ◌≤◌, ◌<◌, ◌≡◌, Bool, true, false, take}
+use Rattle.std.specs.Prelude.{Result, Err, ℕ, ◌+◌, ◌≤◌, ◌<◌, ◌≡◌, Bool, true, false, take}
 use Rattle.std.proofs.Common.{sym, ◌∙◌, le_trans, arith, leb→le}
 use Rattle.std.proofs.Math.Path.{ap, ap₂, subst}
 use mathlib.Core.List.{List}
@@ -23,8 +23,8 @@ use Rattle.transfer.specs.Moving.{params_of}
 use Rattle.queries.specs.declared.Query.{Query}
 use Rattle.queries.specs.Queries.{query_of}
 use Rattle.queries.specs.Few.{few_args}
-use Rattle.opening.specs.declared.Signed.{Signed}
-use Rattle.opening.specs.declared.Signed.TheVariants.{Full}
+use Rattle.refusals.specs.declared.Refusal.{Refusal}
+use Rattle.refusals.specs.declared.Refusal.TheVariants.{TypesFull}
 use Rattle.opening.specs.Fresh.{Freshens}
 use Rattle.opening.specs.Standing.{standing, standing-fresh, Stands}
 use Rattle.opening.specs.Meeting.{Meets, meets_none}
@@ -65,7 +65,7 @@ module _ (s : Words) (sound : Sound s) (i : ℕ) (h : i < many s header_impls) w
       pub signature_leaves : (ps ds : Words) → Leaves (types_of ds) (signed_by s i (params_of true ps) (types_of ds)) → Brought (types_of ds) (import_impl_type (table s head) (params_of true ps) (query_of p) (types_of ds)).0.1 (import_impl_type (table s head) (params_of true ps) (query_of p) (types_of ds)).1
       signature_leaves ps ds b = subst (λ (o : ImplType × Types). Leaves (types_of ds) o) (sym (same_import (params_of true ps) (types_of ds))) b
 
-      pub signature_meets : (ps ds us : Words) (q : ImplType) (r : Signed) → Meets s (import_impl_type (table s head) (params_of true ps) (query_of p) (types_of ds)) q r us → Meets s (signed_by s i (params_of true ps) (types_of ds)) q r us
+      pub signature_meets : (ps ds us : Words) (q : ImplType) (r : Result Bool Refusal) → Meets s (import_impl_type (table s head) (params_of true ps) (query_of p) (types_of ds)) q r us → Meets s (signed_by s i (params_of true ps) (types_of ds)) q r us
       signature_meets ps ds us q r m = subst (λ (o : ImplType × Types). Meets s o q r us) (same_import (params_of true ps) (types_of ds)) m
 
 -- Under the types from node b on, n of them.
@@ -77,7 +77,7 @@ module _ (s : Words) (i b n : ℕ) (ps ds : Words) (t : Stands b n ps) where
   pub stood_leaves : Leaves (types_of ds) (signed_by s i (some (standing b n)) (types_of ds)) → Leaves (types_of ds) (signed_by s i (params_of true (take n ps)) (types_of ds))
   stood_leaves l = subst (λ (o : ImplType × Types). Leaves (types_of ds) o) (sym stood) l
 
-  pub stood_meets : (us : Words) (q : ImplType) (r : Signed) → Meets s (signed_by s i (params_of true (take n ps)) (types_of ds)) q r us → Meets s (signed_by s i (some (standing b n)) (types_of ds)) q r us
+  pub stood_meets : (us : Words) (q : ImplType) (r : Result Bool Refusal) → Meets s (signed_by s i (params_of true (take n ps)) (types_of ds)) q r us → Meets s (signed_by s i (some (standing b n)) (types_of ds)) q r us
   stood_meets us q r m = subst (λ (o : ImplType × Types). Meets s o q r us) stood m
 
 -- g are the generics of impl i, and n their count of type parameters.
@@ -99,8 +99,8 @@ module _ (s : Words) (sound : Sound s) (i : ℕ) (h : i < many s header_impls) (
     brought = signature_brought (finder s sound) sound.question sound.ready (types_of ws) (query_of q) neat a i h
 
     -- There is no room for them.
-    pub sign_full : ok ≡ false → Meets s (signed s (types_of ws) i) (query_of q) Full us
-    sign_full e = meets_none s (signed s (types_of ws) i) (query_of q) us f.packed (le_trans (subst (λ k. limit_nodes < length (with_fresh (types_of ws) k)) count (f.full e)) brought.grown)
+    pub sign_full : (refusal : Refusal) → refusal ≡ TypesFull → ok ≡ false → Meets s (signed s (types_of ws) i) (query_of q) (Err refusal) us
+    sign_full refusal t e = meets_none s (signed s (types_of ws) i) (query_of q) refusal us t f.packed (le_trans (subst (λ k. limit_nodes < length (with_fresh (types_of ws) k)) count (f.full e)) brought.grown)
 
     -- There is.
     module _ (e : ok ≡ true) where
@@ -123,5 +123,5 @@ module _ (s : Words) (sound : Sound s) (i : ℕ) (h : i < many s header_impls) (
       pub fresh-leaves : Leaves (types_of us) (signed_by s i (some (standing b n)) (types_of us))
       fresh-leaves = subst (λ (o : ImplType × Types). Leaves (types_of us) o) (sym is_signed) (subst (λ (ts : Types). Leaves ts (signed s (types_of ws) i)) (sym now_fresh) brought)
 
-      pub sign_meets : (vs : Words) (r : Signed) → Meets s (signed_by s i (some (standing b n)) (types_of us)) (query_of q) r vs → Meets s (signed s (types_of ws) i) (query_of q) r vs
+      pub sign_meets : (vs : Words) (r : Result Bool Refusal) → Meets s (signed_by s i (some (standing b n)) (types_of us)) (query_of q) r vs → Meets s (signed s (types_of ws) i) (query_of q) r vs
       sign_meets vs r m = subst (λ (o : ImplType × Types). Meets s o (query_of q) r vs) is_signed m

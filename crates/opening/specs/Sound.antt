@@ -1,5 +1,5 @@
 -- What a call that passed the checks promises to the work on one candidate or one impl parameter, and what that work is in the rules.
-use Rattle.std.specs.Prelude.{ℕ, ◌*◌, ◌≤◌, ◌<◌, ◌≡◌, false, length}
+use Rattle.std.specs.Prelude.{Bool, Result, ℕ, ◌*◌, ◌≤◌, ◌<◌, ◌≡◌, false, length}
 use Rattle.std.proofs.Common.{sym, arith}
 use Rattle.std.proofs.Math.Path.{ap, subst}
 use Rattle.std.proofs.Math.Option.{none}
@@ -17,7 +17,7 @@ use Rattle.table.specs.Packing.{types_of}
 use Rattle.transfer.specs.Moving.{params_of}
 use Rattle.queries.specs.declared.Query.{Query}
 use Rattle.queries.specs.Queries.{query_of}
-use Rattle.opening.specs.declared.Signed.{Signed}
+use Rattle.refusals.specs.declared.Refusal.{Refusal}
 use Rattle.queries.specs.Sizes.{generics_few, impl_few}
 use Rattle.opening.specs.Bringing.{Lent}
 use Rattle.opening.specs.Meeting.{Meets}
@@ -65,6 +65,6 @@ module _ (s : Words) (sound : Sound s) where
       unfolding params_of
       param-brought xs ds n = query_brought (table s head) params_neat none (types_of ds) n (low_none (types_of ds)) (query_of p) param_inside
 
-    pub param_meets : (p : Query) (xs ds us : Words) (q : ImplType) (r : Signed) → Meets s (import_impl_type (table s head) (params_of false xs) (query_of p) (types_of ds)) q r us → Meets s (import_impl_type (impl_params s g).0 none (query_of p) (types_of ds)) q r us
+    pub param_meets : (p : Query) (xs ds us : Words) (q : ImplType) (r : Result Bool Refusal) → Meets s (import_impl_type (table s head) (params_of false xs) (query_of p) (types_of ds)) q r us → Meets s (import_impl_type (impl_params s g).0 none (query_of p) (types_of ds)) q r us
     unfolding params_of
     param_meets p xs ds us q r m = subst (λ (ts : Types). Meets s (import_impl_type ts none (query_of p) (types_of ds)) q r us) params-table m

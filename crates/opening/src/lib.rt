@@ -3,7 +3,7 @@
 #![tactic(auto)]
 
 ghost use Rattle.std.specs.Prelude.{◌≡◌, true, map as map_list, ◌+◌, ◌*◌, ◌<◌, ◌≤◌, length};
-ghost use Rattle.std.specs.Result.{is_ok};
+ghost use Rattle.std.specs.Result.{is_ok, IfErr};
 ghost use Rattle.std.proofs.Math.Option.{none, some};
 ghost use Rattle.rules.specs.Layout.{header_generics, header_impls};
 ghost use Rattle.rules.specs.Sheet.{field, many};
@@ -35,19 +35,12 @@ use queries::{Queries, Query};
 use refusals::Refusal;
 use transfer::Records;
 
-// What an import and the join with the question come to: the table would pass its limit, they do not unify, or they do.
-#[derive(Clone, Copy)]
-pub enum Signed {
-    Full,
-    Unfit,
-    Fits,
-}
-
-#[tactic(auto, using(crate::specs::Fresh::fresh_more, crate::specs::Fresh::fresh_full, crate::specs::Fresh::fresh_done))]
 // Pushes n fresh unknowns to a table. Refused where there is no room.
+#[tactic(auto, using(crate::specs::Fresh::fresh_more, crate::specs::Fresh::fresh_full, crate::specs::Fresh::fresh_done))]
 fn fresh(ws: &mut [u32], n: usize) -> Result<(), Refusal>
     requires { Packed ws.old }
-    ensures { Freshens ws.old ws.new n (is_ok result) }
+    ensures freshens { Freshens ws.old ws.new n (is_ok result) }
+    ensures full { IfErr result (λ refusal. refusal ≡ Refusal.TypesFull) }
 {
     for i in 0..n {
         table::new_var(ws)?;
@@ -55,8 +48,8 @@ fn fresh(ws: &mut [u32], n: usize) -> Result<(), Refusal>
     Ok(())
 }
 
-#[tactic(auto, using(crate::specs::Standing::standing_more))]
 // Writes the types that stand for n type parameters: the nodes from base on.
+#[tactic(auto, using(crate::specs::Standing::standing_more))]
 fn stand(base: u32, n: usize, ps: &mut [u32])
     requires n_bound { base + n ≤ 256 }
     requires n_in_bounds { n ≤ length ps.old }
@@ -68,7 +61,7 @@ fn stand(base: u32, n: usize, ps: &mut [u32])
 }
 
 // Word k of record `id` of the chain that header word h heads.
-fn word_of(s: &[u32], h: usize, id: usize, k: usize) -> u32
+pub fn word_of(s: &[u32], h: usize, id: usize, k: usize) -> u32
     ensures { result ≡ field s.now h id k }
 {
     let head = words::next(s, h);
@@ -93,7 +86,8 @@ fn bring(
     requires packed { Packed dst.old }
     requires m_in_bounds { m ≤ length ts.old }
     requires all_in { AllIn (length (table_of sheet.now head)) (types_in m ts.old) }
-    ensures { Imports (import_types (table_of sheet.now head) (params_in params.entry) (types_in m ts.old) (types_of dst.old)) dst.new ts.old ts.new m (is_ok result) }
+    ensures imports { Imports (import_types (table_of sheet.now head) (params_in params.entry) (types_in m ts.old) (types_of dst.old)) dst.new ts.old ts.new m (is_ok result) }
+    ensures full { IfErr result (λ refusal. refusal ≡ Refusal.TypesFull) }
 {
     let n = chart::index_chain(sheet, head, places, 0);
     let places = &places[..n];
@@ -109,12 +103,11 @@ fn joins(sheet: &[u32], dst: &mut [u32], marks: &mut [u32], tr: u32, xs: &[u32],
     requires in_bounds { 256 ≤ length marks.old }
     ensures { Joins (unify_impl_type sheet.now (types_of dst.old) (tr, map_list type_of_word xs.now) (query_of q)) dst.new result }
 {
-    let ys = [q.args[0], q.args[1], q.args[2], q.args[3]];
-    let n = q.n;
-    unify::join_impl_type(sheet, dst, marks, tr, xs, q.tr, &ys[..n])
+    unify::join_impl_type(sheet, dst, marks, tr, xs, q.tr, &q.args[..q.n])
 }
 
-// Imports the first n types of xs, in place, from the sheet's table at a head, and joins them, as the arguments of a trait?, with the question.
+// Imports the first n types of xs, in place, from the sheet's table at a head, and joins them, as the arguments of a trait?, with the question: whether they unify.
+// Refused where the table would pass its limit.
 fn meet_types(
     sheet: &[u32],
     head: u32,
@@ -126,7 +119,7 @@ fn meet_types(
     xs: &mut [u32],
     n: usize,
     q: Query,
-) -> Signed
+) -> Result<bool, Refusal>
     requires neat { Neat (table_of sheet.now head) }
     requires lent { Lent sheet.now head places.old map.old }
     requires type_words { GivenWords params }
@@ -138,16 +131,8 @@ fn meet_types(
     requires brought { Brought (types_of dst.old) (imported (table_of sheet.now head) (params_in params) tr n xs.old dst.old).0.1 (imported (table_of sheet.now head) (params_in params) tr n xs.old dst.old).1 }
     ensures { Meets sheet.now (imported (table_of sheet.now head) (params_in params.entry) tr n xs.old dst.old) (query_of q) result dst.new }
 {
-    match bring(sheet, head, dst, places, map, params, xs, n) {
-        Err(_) => Signed::Full,
-        Ok(()) => {
-            if joins(sheet, dst, map, tr, &xs[..n], q) {
-                Signed::Fits
-            } else {
-                Signed::Unfit
-            }
-        }
-    }
+    bring(sheet, head, dst, places, map, params, xs, n)?;
+    Ok(joins(sheet, dst, map, tr, &xs[..n], q))
 }
 
 // Imports p from the sheet's table at a head, and joins it with question q.
@@ -160,7 +145,7 @@ fn meet(
     params: Option<&[u32]>,
     p: Query,
     q: Query,
-) -> Signed
+) -> Result<bool, Refusal>
     requires neat { Neat (table_of sheet.now head) }
     requires lent { Lent sheet.now head places.old map.old }
     requires type_words { GivenWords params }
@@ -172,7 +157,7 @@ fn meet(
     requires brought { Brought (types_of dst.old) (import_impl_type (table_of sheet.now head) (params_in params) (query_of p) (types_of dst.old)).0.1 (import_impl_type (table_of sheet.now head) (params_in params) (query_of p) (types_of dst.old)).1 }
     ensures { Meets sheet.now (import_impl_type (table_of sheet.now head) (params_in params.entry) (query_of p) (types_of dst.old)) (query_of q) result dst.new }
 {
-    let mut xs = [p.args[0], p.args[1], p.args[2], p.args[3]];
+    let mut xs = p.args;
     meet_types(sheet, head, dst, places, map, params, p.tr, &mut xs, p.n, q)
 }
 
@@ -185,7 +170,7 @@ pub fn meet_param(
     map: &mut [u32],
     q: Query,
     p: Query,
-) -> Signed
+) -> Result<bool, Refusal>
     requires sound { Sound sheet.now }
     requires generics_bound { generics < many sheet.now header_generics }
     requires sheet_len_bound { length sheet.now ≤ 5 * length places.old }
@@ -211,7 +196,7 @@ fn sign_with(
     ps: &[u32],
     q: Query,
     i: usize,
-) -> Signed
+) -> Result<bool, Refusal>
     requires sound { Sound sheet.now }
     requires i_bound { i < many sheet.now header_impls }
     requires sheet_len_bound { length sheet.now ≤ 5 * length places.old }
@@ -240,7 +225,7 @@ fn sign_from(
     n: usize,
     q: Query,
     i: usize,
-) -> Signed
+) -> Result<bool, Refusal>
     requires sound { Sound sheet.now }
     requires i_bound { i < many sheet.now header_impls }
     requires sheet_len_bound { length sheet.now ≤ 5 * length places.old }
@@ -266,7 +251,7 @@ pub fn sign(
     map: &mut [u32],
     q: Query,
     i: usize,
-) -> Signed
+) -> Result<bool, Refusal>
     requires sound { Sound sheet.now }
     requires i_bound { i < many sheet.now header_impls }
     requires sheet_len_bound { length sheet.now ≤ 5 * length places.old }
@@ -280,22 +265,8 @@ pub fn sign(
     let base = table::count(dst);
     let g = chart::impl_generics(sheet, i);
     let n = chart::type_params(sheet, g);
-    match fresh(dst, n) {
-        Err(_) => Signed::Full,
-        Ok(()) => sign_from(sheet, dst, places, map, base, n, q, i),
-    }
-}
-
-// What stands for no room: more than four sub-questions.
-fn crowded() -> Queries
-    ensures { result.n ≡ 5 }
-{
-    Queries {
-        n: 5,
-        trs: [0u32; 4],
-        counts: [0usize; 4],
-        args: [0u32; 16],
-    }
+    fresh(dst, n)?;
+    sign_from(sheet, dst, places, map, base, n, q, i)
 }
 
 // Imports sub-questions qs, whose type words are the first m of ts, from the sheet's table at a head with the parameters ps.
@@ -309,7 +280,7 @@ fn bring_row(
     qs: Queries,
     ts: &mut [u32],
     m: usize,
-) -> Queries
+) -> Result<Queries, Refusal>
     requires neat { Neat (table_of sheet.now head) }
     requires lent { Lent sheet.now head places.old map.old }
     requires type_words { TypeWords ps.now }
@@ -320,10 +291,8 @@ fn bring_row(
     requires rowed { Rowed qs ts.old m }
     ensures { Needs (import_impl_types (table_of sheet.now head) (params_of true ps.now) (queries_of qs) (types_of dst.old)) result dst.new }
 {
-    match bring(sheet, head, dst, places, map, Some(ps), ts, m) {
-        Ok(()) => queries::unrow(qs, ts),
-        Err(_) => crowded(),
-    }
+    bring(sheet, head, dst, places, map, Some(ps), ts, m)?;
+    Ok(queries::unrow(qs, ts))
 }
 
 // Imports sub-questions qs from the sheet's table at a head with the parameters ps.
@@ -335,7 +304,7 @@ fn bring_queries(
     map: &mut [u32],
     ps: &[u32],
     qs: Queries,
-) -> Queries
+) -> Result<Queries, Refusal>
     requires neat { Neat (table_of sheet.now head) }
     requires lent { Lent sheet.now head places.old map.old }
     requires type_words { TypeWords ps.now }
@@ -357,7 +326,7 @@ fn need_with(
     map: &mut [u32],
     ps: &[u32],
     i: usize,
-) -> Queries
+) -> Result<Queries, Refusal>
     requires sound { Sound sheet.now }
     requires i_bound { i < many sheet.now header_impls }
     requires sheet_len_bound { length sheet.now ≤ 5 * length places.old }
@@ -373,7 +342,7 @@ fn need_with(
 }
 
 // The sub-questions of candidate i after `sign`: its impl parameters, with its fresh unknowns, from node base on, for its type parameters.
-// More than four where there is no room.
+// Refused where there is no room.
 pub fn need(
     sheet: &[u32],
     dst: &mut [u32],
@@ -381,7 +350,7 @@ pub fn need(
     map: &mut [u32],
     base: u32,
     i: usize,
-) -> Queries
+) -> Result<Queries, Refusal>
     requires sound { Sound sheet.now }
     requires i_bound { i < many sheet.now header_impls }
     requires sheet_len_bound { length sheet.now ≤ 5 * length places.old }

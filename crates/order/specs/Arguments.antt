@@ -117,11 +117,14 @@ pub record Asked (s ps ws : Words) (p q : Query) (m : Words) (k : ℕ) : Type 0 
   pub few : q.n ≤ 4
   pub rest : (m' : Words) → FollowsAll s ps ws m (drop k (own_types p q)) (drop k (asked_types ws q)) m' 0 → Brought s ps ws p q → ⊥
 
-pub asked_start : (s ps ws : Words) (p q : Query) (n : ℕ) → n ≡ 8192 → q.n ≤ 4 → Asked s ps ws p q (replicate n 0) 0
-asked_start s ps ws p q n e l = record { few = l; rest = λ m' f. followed_clash s ps ws p q (replicate n 0) m' (length-replicate {A = ℕ} n 0 ∙ e) zeros f }
+asked_none : (s ps ws : Words) (p q : Query) (n : ℕ) → n ≡ 8192 → q.n ≤ 4 → Asked s ps ws p q (replicate n 0) 0
+asked_none s ps ws p q n e l = record { few = l; rest = λ m' f. followed_clash s ps ws p q (replicate n 0) m' (length-replicate {A = ℕ} n 0 ∙ e) zeros f }
   where
     zeros : (j : ℕ) → at (replicate n 0) j ≡ 0
     zeros j = ⊎_elim (λ h. get_or-replicate {A = ℕ} n j 0 0 h) (λ h. sym (word_past (replicate n 0) j (omega (arith, length-replicate {A = ℕ} n 0)))) (lt_or j n)
+
+pub asked_start : (s ps ws : Words) (p q : Query) (m : Words) → m ≡ replicate 8192 0 → q.n ≤ 4 → Asked s ps ws p q m 0
+asked_start s ps ws p q m e l = subst (λ (w : Words). Asked s ps ws p q w 0) (sym e) (asked_none s ps ws p q 8192 refl l)
 
 map-four : (g : ℕ → ℕ) (n : ℕ) (xs : Words) (k : ℕ) → n ≤ 4 → k < n → drop k (map g (take n (four xs))) ≡ g (at xs k) ∷ drop (k + 1) (map g (take n (four xs)))
 map-four g (suc n) xs zero l h = refl

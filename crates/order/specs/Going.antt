@@ -1,6 +1,7 @@
 -- The steps of the test, as the code takes them.
-use Rattle.std.specs.Prelude.{ℕ, ◌/◌, ◌%◌, ◌<◌, ◌≡◌, refl, Bool, true, false, not, map, ◌≢◌, eqb}
-use Rattle.std.proofs.Common.{sym, ◌∙◌, ap, ap₂, subst, inl, inr, arith, eq-eqb as eq_yes, ne_eqb as eq_no}
+use Rattle.std.specs.Prelude.{ℕ, ◌/◌, ◌%◌, ◌<◌, ◌≡◌, refl, Bool, true, false, not, Option, Some, None, MatchOption, map, ◌≢◌, eqb}
+use Rattle.std.specs.Option.{is_some}
+use Rattle.std.proofs.Common.{sym, ◌∙◌, ap, ap₂, inl, inr, arith, true≢false, eq-eqb as eq_yes}
 use Rattle.rules.specs.Lists.{Words}
 use Rattle.rules.specs.Sheet.{at, kind_flag}
 use Rattle.refs.specs.Meaning.{turn}
@@ -9,8 +10,8 @@ use Rattle.rules.specs.Types.{Types, find}
 use Rattle.order.specs.Stage.{stands, Stage, kind_word, id_word, kids}
 use Rattle.order.specs.Mirror.{source, Mirror, mirror_marks}
 use Rattle.order.specs.Following.{Follows, FollowsAll, Meets, Owns, RootOf, all_nothing, follows_nothing, meets_nothing, follows_found, same_class, own_class, meet_class}
-use Rattle.order.specs.Meeting.{Joins, Tells, tells_kind, meets_bind, meets_kinds, meets_error, meets_ids, meets_flag, meets_kids, meets_join}
-use Rattle.order.specs.Words.{Roots, Steps, Shortens, mirror_shorter, root_stays}
+use Rattle.order.specs.Meeting.{Joins, tells_kind, meets_bind, meets_kinds, meets_error, meets_ids, meets_flag, meets_kids, meets_join}
+use Rattle.order.specs.Words.{Linked, Roots, Steps, Shortens, mirror_shorter, root_stays}
 use Rattle.order.specs.Owning.{not_held}
 
 -- Two types by their roots, to which they are linked first.
@@ -60,17 +61,11 @@ pair_near s ps ws m a b x y p q e = follows_found s ps ws m a b (λ st ts k la l
 
 -- Two roots of which one is unknown.
 module _ (s ps ws m : Words) (x y p q k l : ℕ) (ep : p ≡ turn x (source m (x / 2))) (eq : q ≡ turn y (source m (y / 2))) (ek : k ≡ kind_word s ps ws (p / 2)) (el : l ≡ kind_word s ps ws (q / 2)) where
-  tells_x : (b : Bool) → eqb k 0 ≡ b → Tells s ps ws m x b
-  tells_x b e = subst (Tells s ps ws m x) e (tells_kind s ps ws m x p ep k ek)
+  pub meet_left : (m' : Words) (r : ℕ) → k ≡ 0 → Joins ws m x y (eqb k 0) (eqb l 0) m' r → Meets s ps ws m x y m' r
+  meet_left m' r e j = meets_bind s ps ws m x y (eqb k 0) (eqb l 0) m' r (tells_kind s ps ws m x p ep k ek) (tells_kind s ps ws m y q eq l el) (inl (eq_yes k 0 e)) j
 
-  tells_y : (b : Bool) → eqb l 0 ≡ b → Tells s ps ws m y b
-  tells_y b e = subst (Tells s ps ws m y) e (tells_kind s ps ws m y q eq l el)
-
-  pub meet_left : (m' : Words) (r : ℕ) → k ≡ 0 → Joins ws m x y true (eqb l 0) m' r → Meets s ps ws m x y m' r
-  meet_left m' r e j = meets_bind s ps ws m x y true (eqb l 0) m' r (tells_x true (eq_yes k 0 e)) (tells_y (eqb l 0) refl) (inl refl) j
-
-  pub meet_right : (m' : Words) (r : ℕ) → k ≢ 0 → l ≡ 0 → Joins ws m x y false true m' r → Meets s ps ws m x y m' r
-  meet_right m' r n e j = meets_bind s ps ws m x y false true m' r (tells_x false (eq_no k 0 n)) (tells_y true (eq_yes l 0 e)) (inr refl) j
+  pub meet_right : (m' : Words) (r : ℕ) → l ≡ 0 → Joins ws m x y (eqb k 0) (eqb l 0) m' r → Meets s ps ws m x y m' r
+  meet_right m' r e j = meets_bind s ps ws m x y (eqb k 0) (eqb l 0) m' r (tells_kind s ps ws m x p ep k ek) (tells_kind s ps ws m y q eq l el) (inr (eq_yes l 0 e)) j
 
 -- Types p and q of which known roots have their states: 2, they clash; else whether they meet inverted.
 pub record Compared (s ps ws : Words) (p q c : ℕ) : Type 0 where
@@ -103,12 +98,14 @@ pub record Rejoins (ws m : Words) (x y : ℕ) (m' : Words) (r : ℕ) : Type 0 wh
 pub rejoins_not : (ws m : Words) (x y : ℕ) (m' : Words) → Rejoins ws m x y m' 2
 rejoins_not ws m x y m' = record { went = λ e. omega (arith, e); left = λ e. absurd (omega (arith, e)); right = λ e. absurd (omega (arith, e)); joins = λ e. absurd (omega (arith, e)) }
 
-pub rejoins_both : (ws m : Words) (x y i j u v : ℕ) (m' : Words) (r : ℕ) → x < 4096 → y < 4096 → i ≡ x / 2 % 2048 → j ≡ y / 2 % 2048 → u ≡ at m i → v ≡ at m j → u ≡ 0 → v ≡ 0 → Joins ws m x y false false m' r → Rejoins ws m x y m' r
-rejoins_both ws m x y i j u v m' r hx hy ei ej eu ev zu zv g = record {
-  went = g.went;
-  left = λ e. ap (at m) (sym (ei ∙ (let z : x / 2 % 2048 ≡ x / 2 = omega (arith, hx) in z))) ∙ sym eu ∙ zu;
-  right = λ e. ap (at m) (sym (ej ∙ (let z : y / 2 % 2048 ≡ y / 2 = omega (arith, hy) in z))) ∙ sym ev ∙ zv;
-  joins = λ e. g;
+pub rejoins_both : (ws m : Words) (x y : ℕ) (o p : Option ℕ) (m' : Words) (r : ℕ) → x < 4096 → y < 4096 → MatchOption o (at m (x / 2 % 2048) ≡ 0) (Linked m x) → MatchOption p (at m (y / 2 % 2048) ≡ 0) (Linked m y) → is_some o ≡ false → is_some p ≡ false → Joins ws m x y false false m' r → Rejoins ws m x y m' r
+rejoins_both ws m x y (Some u) p m' r hx hy f g e d j = absurd (true≢false e)
+rejoins_both ws m x y None (Some v) m' r hx hy f g e d j = absurd (true≢false d)
+rejoins_both ws m x y None None m' r hx hy f g e d j = record {
+  went = j.went;
+  left = λ z. ap (at m) (let w : x / 2 ≡ x / 2 % 2048 = omega (arith, hx) in w) ∙ f;
+  right = λ z. ap (at m) (let w : y / 2 ≡ y / 2 % 2048 = omega (arith, hy) in w) ∙ g;
+  joins = λ z. j;
 }
 
 -- Two known roots.

@@ -1,8 +1,8 @@
 -- What a step of the test comes to, and what two sides, as the numbers that `Following` and `Going` speak of.
-use Rattle.std.specs.Prelude.{ℕ, ◌+◌, ◌-◌, ◌*◌, ◌/◌, ◌%◌, ◌<◌, ◌≤◌, refl, Bool, true, false, not, Option, Some, None, Result, Ok, Err, ◌≡◌, ◌≢◌}
+use Rattle.std.specs.Prelude.{ℕ, ◌+◌, ◌*◌, ◌/◌, ◌<◌, ◌≤◌, refl, Bool, true, false, not, Option, Some, None, Result, Ok, Err, ◌≡◌, ◌≢◌}
 use Rattle.std.specs.Int.{from_bool}
 use Rattle.std.specs.Option.{IfSome}
-use Rattle.std.proofs.Common.{ap, arith, sym, ◌∙◌, lt-ltb, le-ltb}
+use Rattle.std.proofs.Common.{ap, arith, ◌∙◌, lt-ltb, le-ltb}
 use Rattle.std.proofs.lemmas.Option.{IfSome_then}
 use Rattle.rules.specs.Lists.{Words}
 use Rattle.rules.specs.Sheet.{at}
@@ -15,7 +15,7 @@ use Rattle.order.specs.Stage.{base, kind_word, id_word}
 use Rattle.order.specs.Joined.{Hangs, joins_left, joins_right}
 use Rattle.order.specs.Meeting.{Joins}
 use Rattle.order.specs.Going.{Compared, compared_bit, compared_flag}
-use Rattle.order.specs.Words.{Found, Roots, roots_up, roots_param}
+use Rattle.order.specs.Words.{Linked, Found, Roots, roots_up, roots_param}
 use Rattle.order.specs.declared.Halt.{Halt}
 use Rattle.order.specs.declared.Halt.TheVariants.{Clash, Stop}
 
@@ -39,8 +39,8 @@ side_code (Some b) = from_bool b
 side_code None = 2
 
 -- The root of a type by its first link,
-pub roots_first : (s ps m : Words) (t w u v : ℕ) (o : Option ℕ) → w ≡ t / 2 % 2048 → u ≡ at m w → u ≢ 0 → v ≡ turn (t % 2) (u - 1) → IfSome o (λ x. (x < 4096) × Found m v x) → IfSome o (λ x. (x < 4096) × Roots s ps m t x)
-roots_first s ps m t w u v o ew eu z ev f = IfSome_then o f (λ x p. (p.0, roots_up s ps m t w u v x ew eu z ev (λ h. p.1) p.0))
+pub roots_first : (s ps m : Words) (t v : ℕ) (o : Option ℕ) → Linked m t v → IfSome o (λ x. (x < 4096) × Found m v x) → IfSome o (λ x. (x < 4096) × Roots s ps m t x)
+roots_first s ps m t v o h f = IfSome_then o f (λ x p. (p.0, roots_up s ps m t v x h p.1))
 
 -- or by its parameter.
 pub roots_parameter : (s ps m : Words) (t p k d b v : ℕ) (i : Bool) (o : Option ℕ) → 1024 ≤ t / 2 → p ≡ place ps (t / 2) → k ≡ at s (p + 1) → k ≡ 1 → d ≡ at s (p + 3) → d < 8 → i ≡ record_side s p → b ≡ from_bool i → v ≡ turn t (2 * (256 + d) + b) → IfSome o (λ x. (x < 4096) × Found m v x) → IfSome o (λ x. (x < 4096) × Roots s ps m t x)

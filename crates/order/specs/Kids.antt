@@ -95,11 +95,11 @@ module _ (s ps ws m : Words) (h : ℕ) (o : Row) (b : ℕ) (m₁ : Words) (c j :
     }
 
 -- The children of a ref that has a record and of a known node.
-pub kids_across : (s ps ws m : Words) (a z b p h i n : ℕ) (m' : Words) (r : ℕ) → 1024 ≤ a → z < 256 → ChildTypes ws z (row_at ws z n) → n ≢ 9 → p ≡ place ps a → h ≡ at s (p + 4) → i ≡ h → Cells s ps ws m i (row_at ws z n) b m' r → FollowsAll s ps ws m (kids s ps ws a) (map (turn b) (kids s ps ws z)) m' r
+pub kids_across : (s ps ws m : Words) (a z b p h i n : ℕ) (m' : Words) (r : ℕ) → 1024 ≤ a → z < 256 → ChildTypes ws z (row_at ws z n) → p ≡ place ps a → h ≡ at s (p + 4) → i ≡ h → Cells s ps ws m i (row_at ws z n) b m' r → FollowsAll s ps ws m (kids s ps ws a) (map (turn b) (kids s ps ws z)) m' r
 unfolding kids
-kids_across s ps ws m a z b p h i n m' r ha hz c e ep eh ei f =
+kids_across s ps ws m a z b p h i n m' r ha hz c ep eh ei f =
     subst (λ (us : Words). FollowsAll s ps ws m us (map (turn b) (kids s ps ws z)) m' r) (sym (high ∙ ap (record_types s) (sym (ei ∙ eh ∙ ap (λ v. at s (v + 4)) ep))))
-    (subst (λ (vs : Words). FollowsAll s ps ws m (record_types s i) (map (turn b) vs) m' r) (c.are e ∙ sym low) f.all)
+    (subst (λ (vs : Words). FollowsAll s ps ws m (record_types s i) (map (turn b) vs) m' r) (c.are ∙ sym low) f.all)
   where
     high : kids s ps ws a ≡ record_types s (at s (place ps a + 4))
     high = rw (le-ltb a 256 (omega arith), kids)
@@ -107,8 +107,8 @@ kids_across s ps ws m a z b p h i n m' r ha hz c e ep eh ei f =
     low : kids s ps ws z ≡ node_types ws z
     low = rw (lt-ltb z 256 hz, kids)
 
-pub arity_few : (ws : Words) (z n : ℕ) → ChildTypes ws z (row_at ws z n) → n ≢ 9 → n ≤ 8
-arity_few ws z n c e = c.few e
+pub arity_few : (ws : Words) (z n : ℕ) → ChildTypes ws z (row_at ws z n) → n ≤ 8
+arity_few ws z n c = c.few
 
 -- Two rows are met, the types of the second turned by b.
 pub record Paired (s ps ws m : Words) (x y : Row) (b : ℕ) (m' : Words) (r : ℕ) : Type 0 where
@@ -146,13 +146,13 @@ module _ (s ps ws m : Words) (x y : Row) (b : ℕ) (m₁ : Words) (j : ℕ) (k :
     rows_on m₂ r f e = record { even = k.even; rest = λ m' t g. here_rows m' t (follows_more s ps ws m₁ u v m₂ r _ _ m' t f e g) }
 
 -- The rows are those of the children of two refs.
-module _ (s ps ws : Words) (a z : ℕ) (x y : Row) (p : Kids s ps ws a x) (q : Kids s ps ws z y) (nx : x.n ≢ 9) (ny : y.n ≢ 9) where
+module _ (s ps ws : Words) (a z : ℕ) (x y : Row) (p : Kids s ps ws a x) (q : Kids s ps ws z y) where
   pub rows_even : x.n ≡ y.n → Even x y
-  rows_even e = record { same = e; most = p.few nx; left = p.long nx; right = q.long ny }
+  rows_even e = record { same = e; most = p.few; left = p.long; right = q.long }
 
   -- They are not as many,
   pub rows_uneven : (m : Words) (b : ℕ) (m' : Words) → x.n ≢ y.n → FollowsAll s ps ws m (kids s ps ws a) (map (turn b) (kids s ps ws z)) m' 0
-  rows_uneven m b m' d = follows_uneven s ps ws m _ _ m' (λ e. d (sym (count x (p.long nx)) ∙ ap length (p.are nx) ∙ e ∙ turned (kids s ps ws z) ∙ sym (ap length (q.are ny)) ∙ count y (q.long ny)))
+  rows_uneven m b m' d = follows_uneven s ps ws m _ _ m' (λ e. d (sym (count x p.long) ∙ ap length p.are ∙ e ∙ turned (kids s ps ws z) ∙ sym (ap length q.are) ∙ count y q.long))
     where
       count : (o : Row) → o.n ≤ length o.types → length (take o.n o.types) ≡ o.n
       count o l = length-take-le o.n o.types l
@@ -163,4 +163,4 @@ module _ (s ps ws : Words) (a z : ℕ) (x y : Row) (p : Kids s ps ws a x) (q : K
 
   -- or they are met.
   pub rows-kids : (m : Words) (b : ℕ) (m' : Words) (r : ℕ) → Paired s ps ws m x y b m' r → FollowsAll s ps ws m (kids s ps ws a) (map (turn b) (kids s ps ws z)) m' r
-  rows-kids m b m' r f = subst (λ (us : Words). FollowsAll s ps ws m us (map (turn b) (kids s ps ws z)) m' r) (p.are nx) (subst (λ (vs : Words). FollowsAll s ps ws m (take x.n x.types) (map (turn b) vs) m' r) (q.are ny) f.all)
+  rows-kids m b m' r f = subst (λ (us : Words). FollowsAll s ps ws m us (map (turn b) (kids s ps ws z)) m' r) p.are (subst (λ (vs : Words). FollowsAll s ps ws m (take x.n x.types) (map (turn b) vs) m' r) q.are f.all)

@@ -1,3 +1,4 @@
+pub mod Notes
 pub mod Stage
 pub mod Mirror
 pub mod Following

@@ -121,8 +121,8 @@ pub record Owning (s ps ws m : Words) (o : Row) (m₁ : Words) (j : ℕ) : Type 
   pub few : o.n ≤ 8
   pub rest : (m' : Words) → OwnsAll s ps ws m₁ (drop j (take o.n o.types)) m' false → OwnsAll s ps ws m (take o.n o.types) m' false
 
-pub owning_start : (s ps ws m : Words) (r : ℕ) (o : Row) → Kids s ps ws r o → o.n ≢ 9 → Owning s ps ws m o m 0
-owning_start s ps ws m r o k z = record { marks = marks_same m; long = k.long z; few = k.few z; rest = λ m' p. p }
+pub owning_start : (s ps ws m : Words) (r : ℕ) (o : Row) → Kids s ps ws r o → Owning s ps ws m o m 0
+owning_start s ps ws m r o k = record { marks = marks_same m; long = k.long; few = k.few; rest = λ m' p. p }
 
 module _ (s ps ws m : Words) (o : Row) (m₁ : Words) (j : ℕ) (k : Owning s ps ws m o m₁ j) where
   here : j < o.n → drop j (take o.n o.types) ≡ at o.types j ∷ drop (j + 1) (take o.n o.types)
@@ -136,9 +136,9 @@ module _ (s ps ws m : Words) (o : Row) (m₁ : Words) (j : ℕ) (k : Owning s ps
     rest = λ m' p. k.rest m' (subst (λ (us : Words). OwnsAll s ps ws m₁ us m' false) (sym (here h)) (subst (λ v. OwnsAll s ps ws m₁ (v ∷ drop (j + 1) (take o.n o.types)) m' false) e (all_more s ps ws m₁ u m₂ b (drop (j + 1) (take o.n o.types)) m' false w p)));
   }
 
-  pub owning_not : (r u : ℕ) (m₂ : Words) (b : Bool) → Kids s ps ws r o → o.n ≢ 9 → j < o.n → u ≡ at o.types j → Owns s ps ws m₁ u m₂ b → not b ≡ true → OwnsAll s ps ws m (kids s ps ws r) m₂ false
-  owning_not r u m₂ b t z h e w nb =
-      subst (λ (us : Words). OwnsAll s ps ws m us m₂ false) (t.are z)
+  pub owning_not : (r u : ℕ) (m₂ : Words) (b : Bool) → Kids s ps ws r o → j < o.n → u ≡ at o.types j → Owns s ps ws m₁ u m₂ b → not b ≡ true → OwnsAll s ps ws m (kids s ps ws r) m₂ false
+  owning_not r u m₂ b t h e w nb =
+      subst (λ (us : Words). OwnsAll s ps ws m us m₂ false) t.are
       (k.rest m₂ (subst (λ (us : Words). OwnsAll s ps ws m₁ us m₂ false) (sym (here h)) (subst (λ v. OwnsAll s ps ws m₁ (v ∷ drop (j + 1) (take o.n o.types)) m₂ false) e (all_one s ps ws m₁ u (drop (j + 1) (take o.n o.types)) m₂ (subst (Owns s ps ws m₁ u m₂) (not_held b nb) w)))))
 
   pub owning_end : (us : Words) → OwnsAll s ps ws m us m₁ true

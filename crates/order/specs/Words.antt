@@ -1,5 +1,6 @@
 -- What the test reads, by its words: roots along links, what refs are, and their children.
-use Rattle.std.specs.Prelude.{ℕ, ◌+◌, ◌-◌, ◌*◌, ◌/◌, ◌%◌, ◌≤◌, ◌<◌, ◌≡◌, refl, Bool, ◌≢◌, ◌⊎◌, eqb, length, take, set}
+use Rattle.std.specs.Prelude.{ℕ, ◌+◌, ◌-◌, ◌*◌, ◌/◌, ◌%◌, ◌≤◌, ◌<◌, ◌≡◌, refl, Bool, Option, Some, None, MatchOption, ◌≢◌, ◌⊎◌, eqb, length, take, set}
+use Rattle.std.specs.Option.{unwrap_or}
 use Rattle.std.proofs.Math.Path.{sym, ap, subst}
 use Rattle.std.proofs.Common.{◌∙◌, ap₂, inl, inr, ⊎_elim, length-set, get_or-set_same, get_or-set_other, lt-ltb, le-ltb}
 use Rattle.std.proofs.Math.Bool.{true, false}
@@ -19,6 +20,10 @@ use Rattle.refs.specs.Children.{Cells, Below, below}
 use Rattle.order.specs.Stage.{stands, Plain, Stage, kind_word, id_word, kids, base, stands-turn, find_invert}
 use Rattle.order.specs.Mirror.{source, Sound, Mirror, link_find, root_find, stands_at}
 
+-- Type t is linked to type v.
+abbrev pub Linked : Words → ℕ → ℕ → Type 0
+Linked m t v = (at m (t / 2 % 2048) ≢ 0) × (v ≡ turn (t % 2) (at m (t / 2 % 2048) - 1))
+
 -- x is found along links from t.
 pub record Leads (m : Words) (t x : ℕ) : Type 0 where
   pub at : (s ps ws : Words) (st : Stage s ps ws) (ts : Types) → Mirror s ps ws st m ts → Sound s ps ws st (t / 2) → Sound s ps ws st (x / 2) × (find ts (stands st.to t) ≡ find ts (stands st.to x))
@@ -37,31 +42,34 @@ leads-same m t = record { at = λ s ps ws st ts k o. (o, refl) }
 low_ref : (r : ℕ) → r < 2048 → r % 2048 ≡ r
 low_ref r h = omega arith
 
-pub leads_up : (m : Words) (t x w u v : ℕ) → Leads m t x → w ≡ x / 2 % 2048 → u ≡ at m w → u ≢ 0 → v ≡ turn (x % 2) (u - 1) → Leads m t v
-leads_up m t x w u v f e q z ev = record {
+-- A type that came is what it is linked to.
+linked_find : (s ps ws : Words) (st : Stage s ps ws) (m : Words) (ts : Types) → Mirror s ps ws st m ts → (t v : ℕ) → st.live (t / 2) ≡ true → Linked m t v → Sound s ps ws st (v / 2) × (find ts (stands st.to t) ≡ find ts (stands st.to v))
+linked_find s ps ws st m ts k t v l o =
+    let u = at m (t / 2 % 2048) in
+    link_find s ps ws st m ts k t u v l (ap (at m) (low_ref (t / 2) (st.low (t / 2) l))) o.0 (o.1 ∙ (let y : turn (t % 2) (u - 1) ≡ turn t (u - 1) = omega arith in y))
+
+pub leads_up : (m : Words) (t x v : ℕ) → Leads m t x → Linked m x v → Leads m t v
+leads_up m t x v f h = record {
   at = λ s ps ws st ts k o.
       let a = f.at s ps ws st ts k o in
-      let b = link_find s ps ws st m ts k x u v a.0.live (q ∙ ap (at m) (e ∙ low_ref (x / 2) (st.low (x / 2) a.0.live))) z (ev ∙ (let y : turn (x % 2) (u - 1) ≡ turn x (u - 1) = omega arith in y)) in
+      let b = linked_find s ps ws st m ts k x v a.0.live h in
       (b.0, a.1 ∙ b.1);
 }
 
-pub found_root : (m : Words) (t x w u : ℕ) → Leads m t x → w ≡ x / 2 % 2048 → u ≡ at m w → u ≡ 0 → x < 4096 → Found m t x
-found_root m t x w u f e q z h = record {
+pub found_root : (m : Words) (t x : ℕ) → Leads m t x → at m (x / 2 % 2048) ≡ 0 → Found m t x
+found_root m t x f z = record {
   at = λ s ps ws st ts k o.
       let a = f.at s ps ws st ts k o in
-      let r : at m (x / 2) ≡ 0 = sym (q ∙ ap (at m) (e ∙ low_ref (x / 2) (st.low (x / 2) a.0.live))) ∙ z in
+      let r : at m (x / 2) ≡ 0 = ap (at m) (sym (low_ref (x / 2) (st.low (x / 2) a.0.live))) ∙ z in
       (a.0, r, a.1 ∙ root_find s ps ws st m ts k x a.0 r);
 }
 
-pub found_lost : (m : Words) (t : ℕ) → 8192 < 4096 → Found m t 8192
-found_lost m t h = absurd (omega (arith, h))
-
 -- A ref that has a link is plain by it;
-pub roots_up : (s ps m : Words) (t w u v x : ℕ) → w ≡ t / 2 % 2048 → u ≡ at m w → u ≢ 0 → v ≡ turn (t % 2) (u - 1) → (x < 4096 → Found m v x) → x < 4096 → Roots s ps m t x
-roots_up s ps m t w u v x e q z ev f h = record {
+pub roots_up : (s ps m : Words) (t v x : ℕ) → Linked m t v → Found m v x → Roots s ps m t x
+roots_up s ps m t v x h f = record {
   at = λ ws st ts k l.
-      let b = link_find s ps ws st m ts k t u v l (q ∙ ap (at m) (e ∙ low_ref (t / 2) (st.low (t / 2) l))) z (ev ∙ (let y : turn (t % 2) (u - 1) ≡ turn t (u - 1) = omega arith in y)) in
-      let a = (f h).at s ps ws st ts k b.0 in
+      let b = linked_find s ps ws st m ts k t v l h in
+      let a = f.at s ps ws st ts k b.0 in
       (a.0, a.1, b.1 ∙ a.2);
 }
 
@@ -82,9 +90,6 @@ roots_low s ps m t e h l = roots_plain s ps m t e (plain_low s ps (t / 2) h)
 
 pub roots_known : (s ps m : Words) (t p k : ℕ) → at m (t / 2 % 2048) ≡ 0 → p ≡ place ps (t / 2) → k ≡ at s (p + 1) → k ≢ 1 → t < 4096 → Roots s ps m t t
 roots_known s ps m t p k e ep ek z h = roots_plain s ps m t e (record { not_param = λ l y. z (ek ∙ ap (λ j. at s (j + 1)) ep ∙ y) })
-
-pub roots_lost : (s ps m : Words) (t : ℕ) → 8192 < 4096 → Roots s ps m t 8192
-roots_lost s ps m t h = absurd (omega (arith, h))
 
 pub roots_none : (m : Words) (t w u : ℕ) → w ≡ t / 2 % 2048 → u ≡ at m w → u ≡ 0 → at m (t / 2 % 2048) ≡ 0
 roots_none m t w u e q z = ap (at m) (sym e) ∙ sym q ∙ z
@@ -138,22 +143,19 @@ pub size_other : (ws m : Words) (r w g : ℕ) → 256 ≤ r → w ≡ r → g �
 unfolding base
 size_other ws m r w g h ew eg l = ap₂ (λ (i j : ℕ). i + j) (let z : 1 ≡ base ws r = rw (le-ltb r 256 h, base) in z) (eg ∙ ap (λ j. at m (2048 + j)) ew)
 
--- The children of a ref, where they are told.
+-- The children of a ref.
 pub record Kids (s ps ws : Words) (r : ℕ) (o : Row) : Type 0 where
-  pub few : o.n ≢ 9 → o.n ≤ 8
-  pub long : o.n ≢ 9 → o.n ≤ length o.types
-  pub are : o.n ≢ 9 → take o.n o.types ≡ kids s ps ws r
-
-pub kids_untold : (s ps ws : Words) (r : ℕ) (o : Row) → o.n ≡ 9 → Kids s ps ws r o
-kids_untold s ps ws r o e = record { few = λ z. absurd (z e); long = λ z. absurd (z e); are = λ z. absurd (z e) }
+  pub few : o.n ≤ 8
+  pub long : o.n ≤ length o.types
+  pub are : take o.n o.types ≡ kids s ps ws r
 
 pub kids-node : (s ps ws : Words) (r : ℕ) (o : Row) → r < 256 → ChildTypes ws r o → Kids s ps ws r o
 unfolding kids
-kids-node s ps ws r o h c = record { few = c.few; long = c.long; are = λ z. c.are z ∙ rw (lt-ltb r 256 h, kids) }
+kids-node s ps ws r o h c = record { few = c.few; long = c.long; are = c.are ∙ rw (lt-ltb r 256 h, kids) }
 
 pub kids_record : (s ps ws : Words) (r p h j : ℕ) (o : Row) → 256 ≤ r → p ≡ place ps r → h ≡ at s (p + 4) → j ≡ h → Cells s j o → Kids s ps ws r o
 unfolding kids
-kids_record s ps ws r p h j o l ep eh ej c = record { few = c.few; long = c.long; are = λ z. c.are z ∙ ap (record_types s) (ej ∙ eh ∙ ap (λ k. at s (k + 4)) ep) ∙ rw (le-ltb r 256 l, kids) }
+kids_record s ps ws r p h j o l ep eh ej c = record { few = c.few; long = c.long; are = c.are ∙ ap (record_types s) (ej ∙ eh ∙ ap (λ k. at s (k + 4)) ep) ∙ rw (le-ltb r 256 l, kids) }
 
 -- They are those below it.
 pub kids_below : (s ps ws : Words) (r : ℕ) (o : Row) → Below s ps ws r o → Kids s ps ws r o
@@ -177,8 +179,13 @@ pub record Steps (m : Words) (t x : ℕ) : Type 0 where
 pub steps-none : (m : Words) (t : ℕ) → Steps m t t
 steps-none m t = record { at = λ s ps ws st ts k l. refl }
 
-pub steps_up : (m : Words) (t w u v : ℕ) → w ≡ t / 2 % 2048 → u ≡ at m w → u ≢ 0 → v ≡ turn (t % 2) (u - 1) → Steps m t v
-steps_up m t w u v e q z ev = record { at = λ s ps ws st ts k l. (link_find s ps ws st m ts k t u v l (q ∙ ap (at m) (e ∙ low_ref (t / 2) (st.low (t / 2) l))) z (ev ∙ (let y : turn (t % 2) (u - 1) ≡ turn t (u - 1) = omega arith in y))).1 }
+pub steps_up : (m : Words) (t v : ℕ) → Linked m t v → Steps m t v
+steps_up m t v h = record { at = λ s ps ws st ts k l. (linked_find s ps ws st m ts k t v l h).1 }
+
+-- or itself.
+pub steps_either : (m : Words) (t v : ℕ) (o : Option ℕ) → MatchOption o (at m (t / 2 % 2048) ≡ 0) (Linked m t) → v ≡ unwrap_or o t → Steps m t v
+steps_either m t v None h e = subst (Steps m t) (sym e) (steps-none m t)
+steps_either m t v (Some u) h e = subst (Steps m t) (sym e) (steps_up m t u h)
 
 -- Type t, whose root is x, is linked to it directly; nothing is written where it is its own.
 pub record Shortens (m : Words) (t x : ℕ) (m' : Words) : Type 0 where

@@ -1,5 +1,5 @@
 -- Up to four questions put together, and the impl parameters of generics so read.
-use Rattle.std.specs.Prelude.{ℕ, zero, suc, ◌+◌, ◌≤◌, ◌<◌, ◌≡◌, refl, List, [], ◌∷◌, map, length, get_or}
+use Rattle.std.specs.Prelude.{ℕ, zero, suc, ◌+◌, ◌≤◌, ◌<◌, ◌≡◌, refl, List, [], ◌∷◌, map, length}
 use Rattle.std.proofs.Math.Path.{sym, ap}
 use Rattle.std.proofs.Common.{◌∙◌, ap₂, subst, not-suc-le-zero, arith}
 use Rattle.std.proofs.Math.ListN.{take, length-map}
@@ -18,21 +18,11 @@ use Rattle.queries.specs.Few.{Few, map_at}
 -- At most four, with at most four type words each.
 pub record WithinFour (qs : Queries) : Type 0 where
   pub many : qs.n ≤ 4
-  pub each : (k : ℕ) → k < 4 → get_or qs.counts k 0 ≤ 4
+  pub each : (k : ℕ) → k < 4 → (query_in qs k).n ≤ 4
 
 -- The first n of four questions.
-unfoldable pub gathered : ℕ → Query → Query → Query → Query → Queries
-gathered n a b c d = record {
-  n = n;
-  trs = a.tr ∷ b.tr ∷ c.tr ∷ d.tr ∷ [];
-  counts = a.n ∷ b.n ∷ c.n ∷ d.n ∷ [];
-  args =
-      get_or a.args 0 0 ∷ get_or a.args 1 0 ∷ get_or a.args 2 0 ∷ get_or a.args 3 0
-      ∷ get_or b.args 0 0 ∷ get_or b.args 1 0 ∷ get_or b.args 2 0 ∷ get_or b.args 3 0
-      ∷ get_or c.args 0 0 ∷ get_or c.args 1 0 ∷ get_or c.args 2 0 ∷ get_or c.args 3 0
-      ∷ get_or d.args 0 0 ∷ get_or d.args 1 0 ∷ get_or d.args 2 0 ∷ get_or d.args 3 0
-      ∷ [];
-}
+abbrev pub gathered : ℕ → Query → Query → Query → Query → Queries
+gathered n a b c d = record { n = n; items = a ∷ b ∷ c ∷ d ∷ [] }
 
 up_to-four : {A : Type 0} (f : ℕ → A) (n : ℕ) → n ≤ 4 → up_to f n ≡ take n (f 0 ∷ f 1 ∷ f 2 ∷ f 3 ∷ [])
 unfolding up_to
@@ -49,14 +39,13 @@ unfolding queries_of
 queries_four qs h = up_to-four (λ k. query_of (query_in qs k)) qs.n h
 
 pub queries_gathered : (n : ℕ) (a b c d : Query) → n ≤ 4 → queries_of (gathered n a b c d) ≡ take n (query_of a ∷ query_of b ∷ query_of c ∷ query_of d ∷ [])
-unfolding query_of gathered
+unfolding query_of
 queries_gathered n a b c d h = queries_four (gathered n a b c d) h
 
 pub within-gathered : (n : ℕ) (a b c d : Query) → n ≤ 4 → a.n ≤ 4 → b.n ≤ 4 → c.n ≤ 4 → d.n ≤ 4 → WithinFour (gathered n a b c d)
-unfolding gathered
 within-gathered n a b c d h ha hb hc hd = record { many = h; each = go }
   where
-    go : (k : ℕ) → k < 4 → get_or (a.n ∷ b.n ∷ c.n ∷ d.n ∷ []) k 0 ≤ 4
+    go : (k : ℕ) → k < 4 → (query_in (gathered n a b c d) k).n ≤ 4
     go zero l = ha
     go (suc zero) l = hb
     go (suc (suc zero)) l = hc
@@ -115,14 +104,14 @@ module _ (s : Words) (g h n : ℕ) (a b c d : Query) (e : h ≡ field s header_g
   unfolding params_from
   params-many = omega (arith, (few_generics s g h e f).many, length-map (chain s h) (param_of s))
 
-  module _ (ra : ParamRead s h 0 a) (rb : ParamRead s h 1 b) (rc : ParamRead s h 2 c) (rd : ParamRead s h 3 d) (r : Queries) (q : r ≡ gathered n a b c d) where
-    pub params_read : queries_of r ≡ (impl_params s g).1
+  module _ (ra : ParamRead s h 0 a) (rb : ParamRead s h 1 b) (rc : ParamRead s h 2 c) (rd : ParamRead s h 3 d) where
+    pub params_read : queries_of (gathered n a b c d) ≡ (impl_params s g).1
     unfolding params_from
     params_read =
-        ap queries_of q ∙ queries_gathered n a b c d params-many
+        queries_gathered n a b c d params-many
         ∙ ap (λ k. take k (query_of a ∷ query_of b ∷ query_of c ∷ query_of d ∷ [])) l
         ∙ first_four (param_of s) (chain s h) (query_of a) (query_of b) (query_of c) (query_of d) (omega (arith, params-many)) ra.is rb.is rc.is rd.is
         ∙ sym (params_of_generics s g h e)
 
-    pub params-within : WithinFour r
-    params-within = subst WithinFour (sym q) (within-gathered n a b c d params-many ra.few rb.few rc.few rd.few)
+    pub params-within : WithinFour (gathered n a b c d)
+    params-within = within-gathered n a b c d params-many ra.few rb.few rc.few rd.few

@@ -1,5 +1,5 @@
 -- Sub-questions in the code's words.
-use Rattle.std.specs.Prelude.{ℕ, suc, ◌+◌, ◌*◌, ◌≤◌, ◌<◌, ◌≡◌, List, [], ◌∷◌, map, length, get_or, take, drop}
+use Rattle.std.specs.Prelude.{ℕ, suc, ◌+◌, ◌≤◌, ◌<◌, ◌≡◌, List, [], ◌∷◌, map, length, get_or, take, drop}
 use Rattle.std.proofs.Common.{sym, ◌∙◌, ap, add-one, arith, drop_of_length-le, drop-cons}
 use Rattle.rules.specs.Lists.{Words}
 use Rattle.rules.specs.Types.{ImplType}
@@ -17,13 +17,13 @@ four xs = get_or xs 0 0 ∷ get_or xs 1 0 ∷ get_or xs 2 0 ∷ get_or xs 3 0 �
 unfoldable pub query_of : Query → ImplType
 query_of q = (q.tr, map type_of_word (take q.n (four q.args)))
 
+-- No question, past the last.
+abbrev pub no_query : Query
+no_query = record { tr = 0; n = 0; args = [] }
+
 -- Sub-question k.
 abbrev pub query_in : Queries → ℕ → Query
-query_in qs k = record {
-  tr = get_or qs.trs k 0;
-  n = get_or qs.counts k 0;
-  args = get_or qs.args (4 * k) 0 ∷ get_or qs.args (4 * k + 1) 0 ∷ get_or qs.args (4 * k + 2) 0 ∷ get_or qs.args (4 * k + 3) 0 ∷ [];
-}
+query_in qs k = get_or qs.items k no_query
 
 -- All of them.
 unfoldable pub queries_of : Queries → List ImplType

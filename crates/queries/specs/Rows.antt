@@ -1,13 +1,15 @@
 -- The type words of sub-questions in one row, and sub-questions with the words of a row.
-use Prim.Native.Nat.{ℕ, zero, suc, ◌+◌, ◌*◌, ◌≤◌, ◌<◌}
-use Rattle.std.specs.Prelude.{◌≡◌, refl, Bool, length, drop, set}
+use Prim.Native.Nat.{ℕ, zero, suc, ◌+◌, ◌-◌, ◌*◌, ◌≤◌, ◌<◌}
+use Rattle.std.specs.Prelude.{◌≡◌, refl, Bool, length, drop}
 use Rattle.std.proofs.Math.Path.{sym, ap}
-use Rattle.std.proofs.Common.{◌∙◌, ap₂, subst, le_of_suc-le-suc, not-suc-le-zero, zero-add, add-zero, suc-add, add-one, arith, length-append, length-drop, length-set, length-take-le, take-add, take-take, drop-drop, get_or-drop}
+use Rattle.std.proofs.Common.{◌∙◌, ap₂, subst, le_of_suc-le-suc, not-suc-le-zero, zero-add, suc-add, add-one, arith, length-append, length-drop, length-take-le, take-take, drop-drop}
 use mathlib.Core.List.{List, [], ◌∷◌, ◌++◌, map, map-append, append-nil, append_assoc}
 use Rattle.std.proofs.Math.Option.{Option}
-use Rattle.std.proofs.Math.ListN.{get_or, take}
-use Rattle.std.proofs.lemmas.List.{length-map, take-set-le, drop-set-add}
-use Rattle.std.proofs.Math.Seq.{take-nil}
+use Rattle.std.proofs.Math.ListN.{take}
+use Rattle.std.proofs.lemmas.List.{length-map}
+use Rattle.std.proofs.Math.Seq.{take-nil, take-append-add}
+use Rattle.std.proofs.lemmas.Slice.{take-put_mid}
+use borrow.Rule.Slice.PartMut.{put_mid, mid_of}
 use Rattle.rules.specs.Lists.{Words, concat_map}
 use Rattle.rules.specs.Sheet.{at}
 use Rattle.rules.specs.Types.{Ty, Types, ImplType}
@@ -23,82 +25,44 @@ use Rattle.queries.specs.Queries.{four, query_of, query_in, queries_of}
 use Rattle.queries.specs.Reading.{map-take}
 use Rattle.queries.specs.Gathering.{WithinFour, gathered, queries_gathered, queries_four}
 
+-- A question's four places are all that its words have.
+pub query_types : (q : Query) → length q.args ≡ 4 → query_of q ≡ (q.tr, types_in q.n q.args)
+unfolding query_of types_in
+query_types q h = ap (λ (l : Words). (q.tr, map type_of_word (take q.n l))) (go q.args h)
+  where
+    go : (ts : Words) → length ts ≡ 4 → four ts ≡ ts
+    go [] e = absurd (not-suc-le-zero {n = 0} (omega arith))
+    go (a ∷ []) e = absurd (not-suc-le-zero {n = 0} (omega arith))
+    go (a ∷ b ∷ []) e = absurd (not-suc-le-zero {n = 0} (omega arith))
+    go (a ∷ b ∷ c ∷ []) e = absurd (not-suc-le-zero {n = 0} (omega arith))
+    go (a ∷ b ∷ c ∷ d ∷ []) e = refl
+    go (a ∷ b ∷ c ∷ d ∷ x ∷ ts) e = absurd (not-suc-le-zero {n = 0} (omega arith))
+
 -- A question's type words, written behind the first m of a row: r are written.
 pub record Put (q : Query) (ts us : Words) (m r : ℕ) : Type 0 where
   pub ends : r ≡ m + q.n
   pub is : types_in r us ≡ types_in m ts ++ (query_of q).1
 
--- Four words in the place of the first four.
-four-set : (ts : Words) (x y z w : ℕ) → 4 ≤ length ts → set (set (set (set ts 0 x) 1 y) 2 z) 3 w ≡ x ∷ y ∷ z ∷ w ∷ drop 4 ts
-four-set [] x y z w h = absurd (not-suc-le-zero h)
-four-set (a ∷ []) x y z w h = absurd (not-suc-le-zero {n = 0} (omega arith))
-four-set (a ∷ b ∷ []) x y z w h = absurd (not-suc-le-zero {n = 0} (omega arith))
-four-set (a ∷ b ∷ c ∷ []) x y z w h = absurd (not-suc-le-zero {n = 0} (omega arith))
-four-set (a ∷ b ∷ c ∷ d ∷ ts) x y z w h = refl
-
--- The first n of four, whatever stands behind them.
-four_first : (n x y z w : ℕ) (ts : Words) → n ≤ 4 → take n (x ∷ y ∷ z ∷ w ∷ ts) ≡ take n (x ∷ y ∷ z ∷ w ∷ [])
-four_first zero x y z w ts h = refl
-four_first (suc zero) x y z w ts h = refl
-four_first (suc (suc zero)) x y z w ts h = refl
-four_first (suc (suc (suc zero))) x y z w ts h = refl
-four_first (suc (suc (suc (suc zero)))) x y z w ts h = refl
-four_first (suc (suc (suc (suc (suc n))))) x y z w ts h = absurd (not-suc-le-zero {n = 0} (omega arith))
-
-module _ (ts : Words) (m x y z w : ℕ) where
-  abbrev written : Words
-  written = set (set (set (set ts m x) (m + 1) y) (m + 2) z) (m + 3) w
-
-  written_low : take m written ≡ take m ts
-  written_low =
-      take-set-le m (set (set (set ts m x) (m + 1) y) (m + 2) z) (m + 3) w (omega arith)
-      ∙ take-set-le m (set (set ts m x) (m + 1) y) (m + 2) z (omega arith)
-      ∙ take-set-le m (set ts m x) (m + 1) y (omega arith)
-      ∙ take-set-le m ts m x (omega arith)
-
-  written_high : drop m written ≡ set (set (set (set (drop m ts) 0 x) 1 y) 2 z) 3 w
-  written_high =
-      drop-set-add m (set (set (set ts m x) (m + 1) y) (m + 2) z) 3 w
-      ∙ ap (λ (l : Words). set l 3 w) (drop-set-add m (set (set ts m x) (m + 1) y) 2 z)
-      ∙ ap (λ (l : Words). set (set l 2 z) 3 w) (drop-set-add m (set ts m x) 1 y)
-      ∙ ap (λ (l : Words). set (set (set l 1 y) 2 z) 3 w) (ap (λ i. drop m (set ts i x)) (sym (add-zero m)) ∙ drop-set-add m ts 0 x)
-
-  -- They have room.
-  pub room_second : m + 4 ≤ length ts → m + 1 < length (set ts m x)
-  room_second h = omega (arith, length-set ts m x)
-
-  pub room_third : m + 4 ≤ length ts → m + 2 < length (set (set ts m x) (m + 1) y)
-  room_third h = omega (arith, length-set ts m x, length-set (set ts m x) (m + 1) y)
-
-  pub room_fourth : m + 4 ≤ length ts → m + 3 < length (set (set (set ts m x) (m + 1) y) (m + 2) z)
-  room_fourth h = omega (arith, length-set ts m x, length-set (set ts m x) (m + 1) y, length-set (set (set ts m x) (m + 1) y) (m + 2) z)
-
 -- Where there is room for four words they are written, and as many of them count as are the question's.
-pub put_query : (q : Query) (ts : Words) (m : ℕ) → q.n ≤ 4 → m + 4 ≤ length ts →
-    Put q ts (set (set (set (set ts m (get_or q.args 0 0)) (m + 1) (get_or q.args 1 0)) (m + 2) (get_or q.args 2 0)) (m + 3) (get_or q.args 3 0)) m (m + q.n)
-unfolding types_in query_of
-put_query q ts m h l = record {
+pub put_query : (q : Query) (ts ys : Words) (m : ℕ) → q.n ≤ 4 → m + 4 ≤ length ts → length q.args ≡ 4 → ys ≡ q.args → Put q ts (put_mid m (m + 4 - m) ts ys) m (m + q.n)
+unfolding types_in
+put_query q ts ys m few room long e = record {
   ends = refl;
-  is = ap (map type_of_word) (take-add m q.n us ∙ ap₂ {C = Words} (λ (a b : Words). a ++ b) (written_low ts m x y z w) last) ∙ map-append type_of_word (take m ts) (take q.n (four q.args));
+  is = ap (map type_of_word) words ∙ map-append type_of_word (take m ts) (take q.n q.args) ∙ ap (λ (x : ImplType). map type_of_word (take m ts) ++ x.1) (sym (query_types q long));
 }
   where
-    x : ℕ
-    x = get_or q.args 0 0
-
-    y : ℕ
-    y = get_or q.args 1 0
-
-    z : ℕ
-    z = get_or q.args 2 0
-
-    w : ℕ
-    w = get_or q.args 3 0
-
     us : Words
-    us = written ts m x y z w
+    us = put_mid m (m + 4 - m) ts ys
 
-    last : take q.n (drop m us) ≡ take q.n (four q.args)
-    last = ap (take q.n) (written_high ts m x y z w ∙ four-set (drop m ts) x y z w (omega (arith, length-drop m ts))) ∙ four_first q.n x y z w (drop 4 (drop m ts)) h
+    many : length (take m ts) ≡ m
+    many = length-take-le m ts (omega arith)
+
+    words : take (m + q.n) us ≡ take m ts ++ take q.n q.args
+    words =
+        sym (take-take (m + q.n) (m + 4) us (omega arith))
+        ∙ ap (take (m + q.n)) (take-put_mid m (m + 4 - m) ts ys (m + 4) (omega (arith, long, ap length e)) (omega arith) ∙ ap (λ (l : Words). take m ts ++ l) e)
+        ∙ ap (λ k. take (k + q.n) (take m ts ++ q.args)) (sym many)
+        ∙ take-append-add (take m ts) q.args q.n
 
 row-append : (xs ys : List ImplType) → row (xs ++ ys) ≡ row xs ++ row ys
 unfolding concat_map
@@ -121,24 +85,14 @@ pub rowing_start : (qs : Queries) (ts : Words) → Rowing qs ts 0 0
 unfolding types_in up_to concat_map
 rowing_start qs ts = record { low = omega arith; room = omega arith; is = refl }
 
-pub rowing_below : (qs : Queries) (k : ℕ) → WithinFour qs → k < qs.n → k < 4
-rowing_below qs k f l = omega (arith, f.many)
-
--- The next has at most four type words, and there is room for four.
-pub rowing_few : (qs : Queries) (ts : Words) (k m : ℕ) (q : Query) → WithinFour qs → Rowing qs ts k m → k < qs.n → q ≡ query_in qs k → q.n ≤ 4
-rowing_few qs ts k m q f g l e = subst (λ (p : Query). p.n ≤ 4) (sym e) (f.each k (omega (arith, f.many)))
-
-pub rowing_room : (qs : Queries) (ts us : Words) (k m : ℕ) → WithinFour qs → Rowing qs ts k m → k < qs.n → 16 ≤ length us → length ts ≡ length us → m + 4 ≤ length ts
-rowing_room qs ts us k m f g l h e = omega (arith, f.many, g.room)
-
-pub rowing_next : (qs : Queries) (ts us : Words) (k m r : ℕ) (q : Query) → WithinFour qs → Rowing qs ts k m → k < qs.n → q ≡ query_in qs k → Put q ts us m r → Rowing qs us (k + 1) r
+pub rowing_next : (qs : Queries) (ts us : Words) (k m r : ℕ) → WithinFour qs → Rowing qs ts k m → k < qs.n → Put (query_in qs k) ts us m r → Rowing qs us (k + 1) r
 unfolding up_to concat_map
-rowing_next qs ts us k m r q f g l e p = record {
+rowing_next qs ts us k m r f g l p = record {
   low = omega arith;
-  room = omega (arith, g.room, p.ends, rowing_few qs ts k m q f g l e);
+  room = omega (arith, g.room, p.ends, f.each k (omega (arith, f.many)));
   is =
       p.is
-      ∙ ap₂ {C = List Ty} (λ (x y : List Ty). x ++ y) g.is (ap (λ (c : Query). (query_of c).1) e ∙ sym (append-nil (query_of (query_in qs k)).1))
+      ∙ ap₂ {C = List Ty} (λ (x y : List Ty). x ++ y) g.is (sym (append-nil (query_of (query_in qs k)).1))
       ∙ sym (row-append (up_to (λ j. query_of (query_in qs j)) k) (query_of (query_in qs k) ∷ []))
       ∙ ap (λ i. row (up_to (λ j. query_of (query_in qs j)) i)) (sym (add-one k));
 }
@@ -154,49 +108,32 @@ rowed qs ts us k m f g l h e = record {
     is : types_in m ts ≡ row (queries_of qs)
     is = g.is ∙ ap (λ i. row (up_to (λ j. query_of (query_in qs j)) i)) (let q : k ≡ qs.n = omega (arith, g.low) in q)
 
--- Sub-question k with the words of a row from place o on, as many as it has.
-pub record Cut (qs : Queries) (k : ℕ) (ts : Words) (o : ℕ) (r : Query) : Type 0 where
-  pub is : query_of r ≡ (get_or qs.trs k 0, types_in r.n (drop o ts))
-  pub count : r.n ≡ get_or qs.counts k 0
+-- A question with the words of a row from place o on, as many as it has.
+pub record Cut (q : Query) (ts : Words) (o : ℕ) (r : Query) : Type 0 where
+  pub is : query_of r ≡ (q.tr, types_in r.n (drop o ts))
+  pub count : r.n ≡ q.n
   pub few : r.n ≤ 4
 
--- The first n of a list, by their places.
-four_front : (n : ℕ) (ts : Words) → n ≤ 4 → n ≤ length ts → take n (at ts 0 ∷ at ts 1 ∷ at ts 2 ∷ at ts 3 ∷ []) ≡ take n ts
-four_front zero ts h l = refl
-four_front (suc n) [] h l = absurd (not-suc-le-zero l)
-four_front (suc zero) (a ∷ ts) h l = refl
-four_front (suc (suc n)) (a ∷ []) h l = absurd (not-suc-le-zero {n = 0} (omega arith))
-four_front (suc (suc zero)) (a ∷ b ∷ ts) h l = refl
-four_front (suc (suc (suc n))) (a ∷ b ∷ []) h l = absurd (not-suc-le-zero {n = 0} (omega arith))
-four_front (suc (suc (suc zero))) (a ∷ b ∷ c ∷ ts) h l = refl
-four_front (suc (suc (suc (suc n)))) (a ∷ b ∷ c ∷ []) h l = absurd (not-suc-le-zero {n = 0} (omega arith))
-four_front (suc (suc (suc (suc zero)))) (a ∷ b ∷ c ∷ d ∷ ts) h l = refl
-four_front (suc (suc (suc (suc (suc n))))) (a ∷ b ∷ c ∷ d ∷ ts) h l = absurd (not-suc-le-zero {n = 0} (omega arith))
-
-pub cut_read : (qs : Queries) (k : ℕ) (ts : Words) (o x y z w : ℕ) → WithinFour qs → k < 4 → o + 4 ≤ length ts → x ≡ at ts (o + 0) → y ≡ at ts (o + 1) → z ≡ at ts (o + 2) → w ≡ at ts (o + 3) →
-    Cut qs k ts o (record { tr = get_or qs.trs k 0; n = get_or qs.counts k 0; args = x ∷ y ∷ z ∷ w ∷ [] })
-unfolding query_of types_in
-cut_read qs k ts o x y z w f h l ex ey ez ew = record {
-  is = ap (λ (us : Words). (get_or qs.trs k 0, map type_of_word us)) (ap (take n) read ∙ four_front n (drop o ts) (f.each k h) (omega (arith, f.each k h, length-drop o ts)));
-  count = refl;
-  few = f.each k h;
-}
+pub cut_read : (q : Query) (ts us : Words) (o : ℕ) → q.n ≤ 4 → o + 4 ≤ length ts → us ≡ mid_of o (o + 4 - o) ts → Cut q ts o (record { tr = q.tr; n = q.n; args = us })
+unfolding types_in
+cut_read q ts us o few room e = record { is = query_types (record { tr = q.tr; n = q.n; args = us }) long ∙ ap (λ (l : Words). (q.tr, map type_of_word l)) words; count = refl; few = few }
   where
-    n : ℕ
-    n = get_or qs.counts k 0
+    part : us ≡ take 4 (drop o ts)
+    part = e ∙ ap (λ k. take k (drop o ts)) (let z : o + 4 - o ≡ 4 = omega arith in z)
 
-    us : Words
-    us = drop o ts
+    long : length us ≡ 4
+    long = ap length part ∙ length-take-le 4 (drop o ts) (omega (arith, length-drop o ts))
 
-    read : x ∷ y ∷ z ∷ w ∷ [] ≡ at us 0 ∷ at us 1 ∷ at us 2 ∷ at us 3 ∷ []
-    read t = (ex ∙ sym (get_or-drop o ts 0 0)) t ∷ (ey ∙ sym (get_or-drop o ts 1 0)) t ∷ (ez ∙ sym (get_or-drop o ts 2 0)) t ∷ (ew ∙ sym (get_or-drop o ts 3 0)) t ∷ []
+    words : take q.n us ≡ take q.n (drop o ts)
+    words = ap (take q.n) part ∙ take-take q.n 4 (drop o ts) few
 
 -- Sub-questions with the words of a row, as many to each: those of `regroup`.
 pub record Unrowed (qs : Queries) (ts : Words) (r : Queries) : Type 0 where
   pub is : (m : ℕ) → m ≡ length (row (queries_of qs)) → queries_of r ≡ regroup (queries_of qs) (types_in m ts)
   pub many : r.n ≡ qs.n
-  pub counts : (k : ℕ) → k < 4 → get_or r.counts k 0 ≡ get_or qs.counts k 0
+  pub counts : (k : ℕ) → k < 4 → (query_in r k).n ≡ (query_in qs k).n
   pub within : WithinFour r
+  pub few : (k : ℕ) → (query_in r k).n ≤ 4
 
 map-drop : {A B : Type 0} (f : A → B) (n : ℕ) (xs : List A) → map f (drop n xs) ≡ drop n (map f xs)
 map-drop f zero xs = refl
@@ -256,11 +193,14 @@ unfolding query_of
 query_many q h = length-map (take q.n (four q.args)) type_of_word ∙ length-take-le q.n (four q.args) h
 
 -- The four cut out of a row and put together.
-module _ (qs : Queries) (ts : Words) (a b c d : Query) (r : Queries) (e : r ≡ gathered qs.n a b c d) (f : WithinFour qs) (ca : Cut qs 0 ts 0 a) (cb : Cut qs 1 ts a.n b) (cc : Cut qs 2 ts (a.n + b.n) c) (cd : Cut qs 3 ts (a.n + b.n + c.n) d) where
+module _ (qs : Queries) (ts : Words) (a b c d : Query) (f : WithinFour qs) (ca : Cut (query_in qs 0) ts 0 a) (cb : Cut (query_in qs 1) ts a.n b) (cc : Cut (query_in qs 2) ts (a.n + b.n) c) (cd : Cut (query_in qs 3) ts (a.n + b.n + c.n) d) where
+  abbrev r : Queries
+  r = gathered qs.n a b c d
+
   unrowed_is : (m : ℕ) → m ≡ length (row (queries_of qs)) → queries_of r ≡ regroup (queries_of qs) (types_in m ts)
   unfolding types_in query_of
   unrowed_is m l =
-      ap queries_of e ∙ queries_gathered qs.n a b c d f.many
+      queries_gathered qs.n a b c d f.many
       ∙ ap (take qs.n) ((λ t. ca.is t ∷ cb.is t ∷ cc.is t ∷ cd.is t ∷ []) ∙ sym there)
       ∙ sym (regroup-take qs.n all xs)
       ∙ ap (λ (l : List ImplType). regroup l xs) (sym (queries_four qs f.many))
@@ -273,36 +213,30 @@ module _ (qs : Queries) (ts : Words) (a b c d : Query) (r : Queries) (e : r ≡ 
       all : List ImplType
       all = query_of (query_in qs 0) ∷ query_of (query_in qs 1) ∷ query_of (query_in qs 2) ∷ query_of (query_in qs 3) ∷ []
 
-      size : (k : ℕ) → k < 4 → (n : ℕ) → n ≡ get_or qs.counts k 0 → length (query_of (query_in qs k)).1 ≡ n
+      size : (k : ℕ) → k < 4 → (n : ℕ) → n ≡ (query_in qs k).n → length (query_of (query_in qs k)).1 ≡ n
       size k h n q = query_many (query_in qs k) (f.each k h) ∙ sym q
 
       there :
           regroup all xs
-          ≡ (get_or qs.trs 0 0, types_in a.n (drop 0 ts)) ∷ (get_or qs.trs 1 0, types_in b.n (drop a.n ts)) ∷ (get_or qs.trs 2 0, types_in c.n (drop (a.n + b.n) ts)) ∷ (get_or qs.trs 3 0, types_in d.n (drop (a.n + b.n + c.n) ts)) ∷ []
+          ≡ ((query_in qs 0).tr, types_in a.n (drop 0 ts)) ∷ ((query_in qs 1).tr, types_in b.n (drop a.n ts)) ∷ ((query_in qs 2).tr, types_in c.n (drop (a.n + b.n) ts)) ∷ ((query_in qs 3).tr, types_in d.n (drop (a.n + b.n + c.n) ts)) ∷ []
       there = regroup-four (query_of (query_in qs 0)) (query_of (query_in qs 1)) (query_of (query_in qs 2)) (query_of (query_in qs 3)) a.n b.n c.n d.n ts (size 0 (omega arith) a.n ca.count) (size 1 (omega arith) b.n cb.count) (size 2 (omega arith) c.n cc.count) (size 3 (omega arith) d.n cd.count)
 
-  unrowed_counts : (k : ℕ) → k < 4 → get_or r.counts k 0 ≡ get_or qs.counts k 0
-  unfolding gathered
-  unrowed_counts k h = ap (λ (q : Queries). get_or q.counts k 0) e ∙ go k h
-    where
-      go : (k : ℕ) → k < 4 → get_or (a.n ∷ b.n ∷ c.n ∷ d.n ∷ []) k 0 ≡ get_or qs.counts k 0
-      go zero h = ca.count
-      go (suc zero) h = cb.count
-      go (suc (suc zero)) h = cc.count
-      go (suc (suc (suc zero))) h = cd.count
-      go (suc (suc (suc (suc k)))) h = absurd (not-suc-le-zero {n = 0} (omega arith))
+  unrowed_counts : (k : ℕ) → k < 4 → (query_in r k).n ≡ (query_in qs k).n
+  unrowed_counts zero h = ca.count
+  unrowed_counts (suc zero) h = cb.count
+  unrowed_counts (suc (suc zero)) h = cc.count
+  unrowed_counts (suc (suc (suc zero))) h = cd.count
+  unrowed_counts (suc (suc (suc (suc k)))) h = absurd (not-suc-le-zero {n = 0} (omega arith))
 
-  unrowed_many : r.n ≡ qs.n
-  unfolding gathered
-  unrowed_many = ap (λ (q : Queries). q.n) e
+  unrowed_few : (k : ℕ) → (query_in r k).n ≤ 4
+  unrowed_few zero = ca.few
+  unrowed_few (suc zero) = cb.few
+  unrowed_few (suc (suc zero)) = cc.few
+  unrowed_few (suc (suc (suc zero))) = cd.few
+  unrowed_few (suc (suc (suc (suc k)))) = omega arith
 
   pub unrowed : Unrowed qs ts r
-  unrowed = record {
-    is = unrowed_is;
-    many = unrowed_many;
-    counts = unrowed_counts;
-    within = record { many = omega (arith, f.many, unrowed_many); each = λ k h. omega (arith, f.each k h, unrowed_counts k h) };
-  }
+  unrowed = record { is = unrowed_is; many = refl; counts = unrowed_counts; within = record { many = f.many; each = λ k h. unrowed_few k }; few = unrowed_few }
 
 -- In a row, imported in place, and out of the row again: what `import` of the sub-questions gives.
 pub impls_imported : (src : Types) (ps : Option (List Ty)) (ws us ts vs : Words) (qs r : Queries) (m : ℕ) (b : Bool) → Rowed qs ts m → ImportsImpls src ps ws us ts vs m b → Unrowed qs vs r →
@@ -323,29 +257,3 @@ words_in n (t ∷ ts) h (suc j) l = words_in n ts h.1 j (le_of_suc-le-suc l)
 pub row_inside : (src : Types) (qs : Queries) (ps : List ImplType) (ts : Words) (m : ℕ) → Rowed qs ts m → queries_of qs ≡ ps → QueriesIn (length src) ps → Inside src (take m ts)
 unfolding types_in
 row_inside src qs ps ts m w e h = record { each = words_in (length src) (take m ts) (subst (AllIn (length src)) (sym (w.is ∙ ap (λ (l : List ImplType). row l) e)) (in_row (length src) ps h)) }
-
--- A question's four places are all that its words have.
-pub query_types : (q : Query) → length q.args ≡ 4 → query_of q ≡ (q.tr, types_in q.n q.args)
-unfolding query_of types_in
-query_types q h = ap (λ (l : Words). (q.tr, map type_of_word (take q.n l))) (go q.args h)
-  where
-    go : (ts : Words) → length ts ≡ 4 → four ts ≡ ts
-    go [] e = absurd (not-suc-le-zero {n = 0} (omega arith))
-    go (a ∷ []) e = absurd (not-suc-le-zero {n = 0} (omega arith))
-    go (a ∷ b ∷ []) e = absurd (not-suc-le-zero {n = 0} (omega arith))
-    go (a ∷ b ∷ c ∷ []) e = absurd (not-suc-le-zero {n = 0} (omega arith))
-    go (a ∷ b ∷ c ∷ d ∷ []) e = refl
-    go (a ∷ b ∷ c ∷ d ∷ x ∷ ts) e = absurd (not-suc-le-zero {n = 0} (omega arith))
-
-pub query_inside : (src : Types) (q : Query) (p : ImplType) → length q.args ≡ 4 → query_of q ≡ p → AllIn (length src) p.1 → Inside src (take q.n q.args)
-unfolding types_in
-query_inside src q p h e i = record { each = words_in (length src) (take q.n q.args) (subst (AllIn (length src)) (ap (λ (x : ImplType). x.1) (sym e ∙ query_types q h)) i) }
-
--- The same of a copy of its four places, word by word.
-pub query_words : (q : Query) → query_of q ≡ (q.tr, types_in q.n (four q.args))
-unfolding query_of types_in
-query_words q = refl
-
-pub words_inside : (src : Types) (q : Query) (p : ImplType) → query_of q ≡ p → AllIn (length src) p.1 → Inside src (take q.n (four q.args))
-unfolding query_of
-words_inside src q p e i = record { each = words_in (length src) (take q.n (four q.args)) (subst (AllIn (length src)) (ap (λ (x : ImplType). x.1) (sym e)) i) }

@@ -1,10 +1,9 @@
 -- The walk that marks what some types reach.
-use Rattle.std.specs.Prelude.{ℕ, zero, suc, ◌+◌, ◌-◌, ◌/◌, ◌≤◌, ◌<◌, ◌≡◌, refl, Bool, true, false, [], ◌∷◌, ◌≢◌, ◌⊎◌, eqb, length, set}
+use Rattle.std.specs.Prelude.{ℕ, ◌+◌, ◌/◌, ◌≤◌, ◌<◌, ◌≡◌, refl, Bool, true, false, [], ◌∷◌, ◌≢◌, ◌⊎◌, eqb, length, set}
 use Rattle.std.proofs.Common.{sym, ◌∙◌, ap, subst, inl, inr, ⊎_elim, eq-or-lt_of_le, arith, length-set, get_or-set_same, get_or-set_other, eqb-true}
-use Rattle.std.proofs.Math.Nat.{suc-sub-suc, sub-zero}
 use Rattle.std.proofs.Math.Decide.{ℕ_discrete}
 use Rattle.rules.specs.Lists.{Words}
-use Rattle.rules.specs.Sheet.{at, chain, chain_of}
+use Rattle.rules.specs.Sheet.{at, chain}
 use Rattle.rules.specs.WordLaws.{word_past}
 use Rattle.rules.specs.Members.{In, in_cases, in_empty}
 use Rattle.rules.specs.Pigeonholes.{lt_or}

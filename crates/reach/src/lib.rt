@@ -22,112 +22,110 @@ const SMALL: usize = 4;
 // From which word on impl parameters stand.
 const PARAMS: usize = 128;
 
-const PARAM: u32 = 1;
-
 // Whether the node of the record at p is a Param, where parameters are given.
-fn is_given(sheet: &[u32], with: bool, p: usize) -> bool
-    ensures { Spares sheet.now with p result }
+fn is_given<const GIVEN: bool>(sheet: &[u32], p: usize) -> bool
+    ensures { Spares sheet.now GIVEN p result }
 {
-    with && words::offset(sheet, p, layout::NODE_KIND) == PARAM
+    GIVEN && chart::field_at(sheet, p, layout::NODE_KIND) == layout::KIND_PARAM
 }
 
-// Marks node k and queues its record, unless it is marked already or a Param that is given. The queue's end after it; none where the queue is full.
+// The records of marked nodes, as many as `end` says.
+#[derive(Drop)]
+struct Queue {
+    records: [u32; 256],
+    end: usize,
+}
+
+// Marks node k and queues its record, unless it is marked already or a Param that is given. None where the queue is full.
 #[tactic(auto, using(crate::specs::Walk::enters_new))]
-fn enter(
+fn enter<const GIVEN: bool>(
     sheet: &[u32],
     places: &mut [u32],
-    queue: &mut [u32; 256],
-    end: usize,
-    with: bool,
+    queue: &mut Queue,
     k: usize,
-) -> Option<usize>
-    ensures { IfSome result (Enters sheet.now with places.old queue.old end k places.new queue.new) }
+) -> Option<()>
+    ensures { IfSome result (λ _. Enters sheet.now GIVEN places.old queue.old.records queue.old.end k places.new queue.new.records queue.new.end) }
 {
     let p = words::word(places, k);
-    if p == 0 || is_given(sheet, with, p as usize) {
-        return Some(end);
+    if p == 0 || is_given::<GIVEN>(sheet, p as usize) {
+        return Some(());
     }
-    if end >= NODES {
+    if queue.end >= NODES {
         return None;
     }
     places[k] = 0;
-    queue[end] = p;
-    Some(end + 1)
+    queue.records[queue.end] = p;
+    queue.end += 1;
+    Some(())
 }
 
 // The same for the nodes that the cells of a chain name.
 #[tactic(auto, using(crate::specs::Walk::turning_on, crate::specs::Walk::turning_end))]
-fn enter_cells(
+fn enter_cells<const GIVEN: bool>(
     sheet: &[u32],
     places: &mut [u32],
-    queue: &mut [u32; 256],
-    end: usize,
-    with: bool,
+    queue: &mut Queue,
     head: usize,
-) -> Option<usize>
-    ensures { IfSome result (EntersCells sheet.now with places.old queue.old end head places.new queue.new) }
+) -> Option<()>
+    ensures { IfSome result (λ _. EntersCells sheet.now GIVEN places.old queue.old.records queue.old.end head places.new queue.new.records queue.new.end) }
 {
-    let mut e = end;
     for c in words::records(sheet, head) {
         let t = words::offset(sheet, c, layout::CELL_TYPE);
-        e = enter(sheet, places, queue, e, with, t as usize / 2)?;
+        enter::<GIVEN>(sheet, places, queue, t as usize / 2)?;
     }
-    Some(e)
+    Some(())
 }
 
-// Works off the queue, whose end is n, and grows. Its end then; none where it is full.
+// Works off the queue, which grows. None where it is full.
 #[tactic(auto, using(crate::specs::Walk::running_on))]
-fn run(
-    sheet: &[u32],
-    places: &mut [u32],
-    queue: &mut [u32; 256],
-    n: usize,
-    with: bool,
-) -> Option<usize>
-    ensures { IfSome result (Ends sheet.now with places.old queue.old n places.new queue.new) }
+fn run<const GIVEN: bool>(sheet: &[u32], places: &mut [u32], queue: &mut Queue) -> Option<()>
+    ensures { IfSome result (λ _. Ends sheet.now GIVEN places.old queue.old.records queue.old.end places.new queue.new.records queue.new.end) }
 {
-    let mut end = n;
     for k in 0..NODES {
-        if k >= end {
+        if k >= queue.end {
             break;
         }
-        let head = words::offset(sheet, queue[k] as usize, layout::NODE_CHILDREN);
-        end = enter_cells(sheet, places, queue, end, with, head as usize)?;
+        let head = words::offset(sheet, queue.records[k] as usize, layout::NODE_CHILDREN);
+        enter_cells::<GIVEN>(sheet, places, queue, head as usize)?;
     }
-    Some(end)
+    Some(())
 }
 
 // How many nodes the import of the arguments from a head makes; none where a walk would go to more than NODES. The table's records are at the places given.
 #[tactic(auto, using(crate::specs::Counts::tells_walked))]
-fn walk(sheet: &[u32], places: &mut [u32], args: u32, with: bool) -> Option<usize>
-    ensures { IfSome result (Tells sheet.now with places.old args) }
+fn walk<const GIVEN: bool>(sheet: &[u32], places: &mut [u32], args: u32) -> Option<usize>
+    ensures { IfSome result (Tells sheet.now GIVEN places.old args) }
 {
-    let mut queue = [0u32; 256];
-    let end = enter_cells(sheet, places, &mut queue, 0, with, args as usize)?;
-    run(sheet, places, &mut queue, end, with)
+    let mut queue = Queue {
+        records: [0u32; 256],
+        end: 0,
+    };
+    enter_cells::<GIVEN>(sheet, places, &mut queue, args as usize)?;
+    run::<GIVEN>(sheet, places, &mut queue)?;
+    Some(queue.end)
 }
 
 // The same; all nodes of the table where a walk would go to more, and of a small table.
 #[tactic(auto, using(crate::specs::Counts::tells_all))]
-fn tell(sheet: &[u32], places: &mut [u32], args: u32, with: bool) -> usize
-    ensures { Tells sheet.now with places.old args result }
+fn tell<const GIVEN: bool>(sheet: &[u32], places: &mut [u32], args: u32) -> usize
+    ensures { Tells sheet.now GIVEN places.old args result }
 {
     let n = places.len();
     if n <= SMALL {
         return n;
     }
-    walk(sheet, places, args, with).unwrap_or(n)
+    walk::<GIVEN>(sheet, places, args).unwrap_or(n)
 }
 
 // The same for the table from a head. The places of its records are written to `places`.
-fn count(sheet: &[u32], places: &mut [u32], head: u32, args: u32, with: bool) -> usize
+fn count<const GIVEN: bool>(sheet: &[u32], places: &mut [u32], head: u32, args: u32) -> usize
     requires sheet_len_bound { length sheet.now ≤ 4096 }
     requires head_in_bounds { 5 * length (chain sheet.now head) ≤ length sheet.now }
     requires sheet_len_bound_2 { length sheet.now ≤ 5 * length places.old }
-    ensures { Counts sheet.now head args with result }
+    ensures { Counts sheet.now head args GIVEN result }
 {
     let n = chart::index_chain(sheet, head, places, 0);
-    tell(sheet, &mut places[..n], args, with)
+    tell::<GIVEN>(sheet, &mut places[..n], args)
 }
 
 // How many type parameters the generics of the impl whose record is at p have. Word g of `generics` is the place of the record of generics g.
@@ -157,7 +155,7 @@ fn put_signature(
 {
     let head = words::offset(sheet, p, layout::IMPL_TABLE);
     let args = words::offset(sheet, p, layout::IMPL_ARGS);
-    let n = count(sheet, places, head, args, true);
+    let n = count::<true>(sheet, places, head, args);
     let m = type_params(sheet, generics, p);
     taken[i] = n as u32 + m;
 }
@@ -185,7 +183,7 @@ fn put_param(sheet: &[u32], places: &mut [u32], taken: &mut [u32], head: u32, p:
     ensures { PutsParam sheet.now head p k taken.old taken.new }
 {
     let args = words::offset(sheet, p, layout::IMPL_PARAM_ARGS);
-    let n = count(sheet, places, head, args, false);
+    let n = count::<false>(sheet, places, head, args);
     taken[PARAMS + k] = n as u32;
 }
 

@@ -16,14 +16,11 @@ use Rattle.table.specs.ChildTypes.{ChildTypes}
 use Rattle.refs.specs.Meaning.{node_types, row, record_types, Meaning}
 use Rattle.refs.specs.Refs.{KindOf, place, side_of, side-node, side_record, ref_low, record_plain}
 
--- The cells of a chain, where there are at most eight.
+-- The cells of a chain, of which there are at most eight.
 pub record Cells (s : Words) (h : ℕ) (o : Row) : Type 0 where
-  pub few : o.n ≢ 9 → o.n ≤ 8
-  pub long : o.n ≢ 9 → o.n ≤ length o.types
-  pub are : o.n ≢ 9 → take o.n o.types ≡ record_types s h
-
-pub cells_untold : (s : Words) (h : ℕ) (o : Row) → o.n ≡ 9 → Cells s h o
-cells_untold s h o e = record { few = λ z. absurd (z e); long = λ z. absurd (z e); are = λ z. absurd (z e) }
+  pub few : o.n ≤ 8
+  pub long : o.n ≤ length o.types
+  pub are : take o.n o.types ≡ record_types s h
 
 -- The type in the cell at a place.
 abbrev pub type_in_cell : Words → ℕ → ℕ
@@ -48,7 +45,7 @@ walks_start s h ns cs e q = record {
 }
 
 pub walks_end : (s : Words) (h : ℕ) (ns cs : Words) (j : ℕ) → Walks s h ns cs j → cs ≡ [] → Cells s h (record { n = j; types = ns })
-walks_end s h ns cs j w e = record { few = λ z. w.few; long = λ z. omega (arith, w.few, w.long); are = λ z. sym (append-nil (take j ns)) ∙ ap (λ (l : Words). take j ns ++ map (type_in_cell s) l) (sym e) ∙ w.rest }
+walks_end s h ns cs j w e = record { few = w.few; long = omega (arith, w.few, w.long); are = sym (append-nil (take j ns)) ∙ ap (λ (l : Words). take j ns ++ map (type_in_cell s) l) (sym e) ∙ w.rest }
 
 pub walks_on : (s : Words) (h : ℕ) (ns cs : Words) (c : ℕ) (ds : Words) (j v x : ℕ) → Walks s h ns cs j → cs ≡ c ∷ ds → j ≢ 8 → v ≡ at s (c + 1) → x ≡ 2048 + v % 2048 → Walks s h (set ns j x) ds (j + 1)
 walks_on s h ns cs c ds j v x w e y ev ex = record {
@@ -81,21 +78,18 @@ pub record Over (s : Words) (t : Signed) (i : Bool) (u : Signed) : Type 0 where
 
 -- What a ref means is over what the row says.
 pub record Gathers (s ps ws : Words) (r : ℕ) (o : Row) : Type 0 where
-  pub few : o.n ≢ 9 → o.n ≤ 8
-  pub long : o.n ≢ 9 → o.n ≤ length o.types
-  pub are : o.n ≢ 9 → (m : SignedSol) → Meaning s ps ws m → Over s (m (r % 2048)) (side_of s ps ws r) (row s m (take o.n o.types))
-
-pub gathers_untold : (s ps ws : Words) (r : ℕ) (o : Row) → o.n ≡ 9 → Gathers s ps ws r o
-gathers_untold s ps ws r o e = record { few = λ z. absurd (z e); long = λ z. absurd (z e); are = λ z. absurd (z e) }
+  pub few : o.n ≤ 8
+  pub long : o.n ≤ length o.types
+  pub are : (m : SignedSol) → Meaning s ps ws m → Over s (m (r % 2048)) (side_of s ps ws r) (row s m (take o.n o.types))
 
 pub gathers_node : (s ps ws : Words) (r k : ℕ) (o : Row) → KindOf s ps ws r k → k ≢ 0 → r < 256 → ChildTypes ws r o → Gathers s ps ws r o
 gathers_node s ps ws r k o e z h c = record {
   few = c.few;
   long = c.long;
-  are = λ y m w. record {
+  are = λ m w. record {
     kind = kind_at (types_of ws) r;
     id = label w.records.name (kind_at (types_of ws) r) (id_at (types_of ws) r) r;
-    is = ref_low m r (omega arith) ∙ w.nodes.root r h (λ q. z (e.node h ∙ q)) (c.root y) ∙ (λ t. made s (sym (side-node s ps ws r h) t) (kind_at (types_of ws) r) (label w.records.name (kind_at (types_of ws) r) (id_at (types_of ws) r) r) (row s m (sym (c.are y) t)));
+    is = ref_low m r (omega arith) ∙ w.nodes.root r h (λ q. z (e.node h ∙ q)) c.root ∙ (λ t. made s (sym (side-node s ps ws r h) t) (kind_at (types_of ws) r) (label w.records.name (kind_at (types_of ws) r) (id_at (types_of ws) r) r) (row s m (sym c.are t)));
   };
 }
 
@@ -116,9 +110,9 @@ pub gathers_record : (s ps ws : Words) (r k p h j : ℕ) (o : Row) → KindOf s 
 gathers_record s ps ws r k p h j o e z l ep eh ej c = record {
   few = c.few;
   long = c.long;
-  are = λ y m w.
+  are = λ m w.
       let v = over_record s ps ws m r k p h j w e z l ep eh ej in
-      record { kind = v.kind; id = v.id; is = v.is ∙ ap (λ (x : Words). made s (side_of s ps ws r) v.kind v.id (row s m x)) (sym (c.are y)) };
+      record { kind = v.kind; id = v.id; is = v.is ∙ ap (λ (x : Words). made s (side_of s ps ws r) v.kind v.id (row s m x)) (sym c.are) };
 }
 
 -- The types below a ref, by its node or its record.
@@ -133,34 +127,31 @@ pub below_high : (s ps ws : Words) (r : ℕ) → 256 ≤ r → below s ps ws r �
 unfolding below
 below_high s ps ws r h = rw (le-ltb r 256 h, below)
 
--- They are what the row says, where it is told.
+-- They are what the row says.
 pub record Below (s ps ws : Words) (r : ℕ) (o : Row) : Type 0 where
-  pub root : o.n ≢ 9 → r < 256 → rep (types_of ws) r ≡ r
-  pub few : o.n ≢ 9 → o.n ≤ 8
-  pub long : o.n ≢ 9 → o.n ≤ length o.types
-  pub are : o.n ≢ 9 → take o.n o.types ≡ below s ps ws r
-
-pub below_untold : (s ps ws : Words) (r : ℕ) (o : Row) → o.n ≡ 9 → Below s ps ws r o
-below_untold s ps ws r o e = record { root = λ z. absurd (z e); few = λ z. absurd (z e); long = λ z. absurd (z e); are = λ z. absurd (z e) }
+  pub root : r < 256 → rep (types_of ws) r ≡ r
+  pub few : o.n ≤ 8
+  pub long : o.n ≤ length o.types
+  pub are : take o.n o.types ≡ below s ps ws r
 
 pub below_node : (s ps ws : Words) (r : ℕ) (o : Row) → r < 256 → ChildTypes ws r o → Below s ps ws r o
-below_node s ps ws r o h c = record { root = λ z l. c.root z; few = c.few; long = c.long; are = λ z. c.are z ∙ sym (below_low s ps ws r h) }
+below_node s ps ws r o h c = record { root = λ l. c.root; few = c.few; long = c.long; are = c.are ∙ sym (below_low s ps ws r h) }
 
 pub below_record : (s ps ws : Words) (r p h : ℕ) (o : Row) → 256 ≤ r → p ≡ place ps r → h ≡ at s (p + 4) → Cells s h o → Below s ps ws r o
 below_record s ps ws r p h o l ep eh c = record {
-  root = λ z q. absurd (omega (arith, l, q));
+  root = λ q. absurd (omega (arith, l, q));
   few = c.few;
   long = c.long;
-  are = λ z. c.are z ∙ ap (record_types s) (eh ∙ ap (λ k. at s (k + 4)) ep) ∙ sym (below_high s ps ws r l);
+  are = c.are ∙ ap (record_types s) (eh ∙ ap (λ k. at s (k + 4)) ep) ∙ sym (below_high s ps ws r l);
 }
 
 pub gathers_below : (s ps ws : Words) (r k : ℕ) (o : Row) → KindOf s ps ws r k → k ≢ 0 → Below s ps ws r o → Gathers s ps ws r o
-gathers_below s ps ws r k o e z b = record { few = b.few; long = b.long; are = λ y m w. ⊎_elim (low y m w) (high y m w) (lt_or r 256) }
+gathers_below s ps ws r k o e z b = record { few = b.few; long = b.long; are = λ m w. ⊎_elim (low m w) (high m w) (lt_or r 256) }
   where
-    low : o.n ≢ 9 → (m : SignedSol) → Meaning s ps ws m → r < 256 → Over s (m (r % 2048)) (side_of s ps ws r) (row s m (take o.n o.types))
-    low y m w h = (gathers_node s ps ws r k o e z h (record { root = λ x. b.root x h; few = b.few; long = b.long; are = λ x. b.are x ∙ below_low s ps ws r h })).are y m w
+    low : (m : SignedSol) → Meaning s ps ws m → r < 256 → Over s (m (r % 2048)) (side_of s ps ws r) (row s m (take o.n o.types))
+    low m w h = (gathers_node s ps ws r k o e z h (record { root = b.root h; few = b.few; long = b.long; are = b.are ∙ below_low s ps ws r h })).are m w
 
-    high : o.n ≢ 9 → (m : SignedSol) → Meaning s ps ws m → 256 ≤ r → Over s (m (r % 2048)) (side_of s ps ws r) (row s m (take o.n o.types))
-    high y m w l =
+    high : (m : SignedSol) → Meaning s ps ws m → 256 ≤ r → Over s (m (r % 2048)) (side_of s ps ws r) (row s m (take o.n o.types))
+    high m w l =
         let v = over_record s ps ws m r k (place ps r) (at s (place ps r + 4)) (at s (place ps r + 4)) w e z l refl refl refl in
-        record { kind = v.kind; id = v.id; is = v.is ∙ ap (λ (x : Words). made s (side_of s ps ws r) v.kind v.id (row s m x)) (sym (b.are y ∙ below_high s ps ws r l)) }
+        record { kind = v.kind; id = v.id; is = v.is ∙ ap (λ (x : Words). made s (side_of s ps ws r) v.kind v.id (row s m x)) (sym (b.are ∙ below_high s ps ws r l)) }

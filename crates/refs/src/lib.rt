@@ -5,14 +5,17 @@
 
 ghost use Rattle.std.specs.Prelude.{◌≡◌, ◌+◌, ◌/◌, ◌%◌, IfSome, length, min};
 ghost use Rattle.rules.specs.Sheet.{at};
-ghost use Rattle.table.specs.Packing.{Packed};
 ghost use Rattle.refs.specs.Refs.{place, KindOf, IdOf, side_of, type_side, apart as Apart_of, Alike};
 ghost use Rattle.refs.specs.Meaning.{turn as turn_of, record_side};
 ghost use Rattle.refs.specs.Links.{Finds, Links, Settles};
-ghost use Rattle.refs.specs.Children.{Cells, Below, Gathers};
+ghost use Rattle.refs.specs.Children.{Cells};
 
 use chart::layout;
 use table::Row;
+
+mod tables;
+
+pub use tables::Sides;
 
 pub const NODES: u32 = 256;
 
@@ -22,9 +25,6 @@ pub const RECORDS: u32 = 1024;
 
 pub const PARAM: u32 = 1;
 
-// A row that is not told.
-pub const UNTOLD: usize = 9;
-
 // How many records there are, at most 1,024.
 pub fn record_count(places: &[u32]) -> u32
     ensures { result ≡ min (length places.now) 1024 }
@@ -32,7 +32,7 @@ pub fn record_count(places: &[u32]) -> u32
     places.len().min(1024) as u32
 }
 
-// The place of the record of a ref; 0 where there is none.
+// The place of the record of a ref; 0 where there is none, as in every chain: what is read there is 0 or the header's, so that callers need no other case.
 pub fn place_of(places: &[u32], r: u32) -> usize
     ensures { result ≡ place places.now r }
 {
@@ -42,7 +42,8 @@ pub fn place_of(places: &[u32], r: u32) -> usize
     words::next(places, (r - RECORDS) as usize)
 }
 
-// The kind of a ref; 0 where it is unknown, and for a Param of the signature.
+// The kind of a ref; 0, the sheet's own number of an unknown, where it is unknown, and for a Param of the signature.
+// This and what follows up to `apart` read any table: as methods they would ask for the packed one of `Sides`, which is more than they asked.
 pub fn kind(sheet: &[u32], places: &[u32], ws: &[u32], r: u32) -> u32
     ensures { KindOf sheet.now places.now ws.now r result }
 {
@@ -132,57 +133,20 @@ pub fn own_type(t: u32) -> u32
     2 * RECORDS + t % 2048
 }
 
-// A row that is not told.
-pub fn untold() -> Row
-    ensures { result.n ≡ 9 }
-{
-    Row {
-        n: UNTOLD,
-        types: [0u32; 8],
-    }
-}
-
-// The types in the cells of the chain from a head; not told where there are more than eight.
-pub fn cells(sheet: &[u32], head: usize) -> Row
-    ensures { Cells sheet.now head result }
+// The types in the cells of the chain from a head; none where there are more than eight.
+pub fn cells(sheet: &[u32], head: usize) -> Option<Row>
+    ensures { IfSome result (Cells sheet.now head) }
 {
     let mut types = [0u32; 8];
     let mut n = 0;
     for c in words::records(sheet, head) {
         if n == types.len() {
-            return untold();
+            return None;
         }
         types[n] = own_type(words::offset(sheet, c, layout::CELL_TYPE));
         n += 1;
     }
-    Row { n, types }
-}
-
-// The types below a ref, by its node or its record; not told of an unknown node.
-pub fn below(sheet: &[u32], places: &[u32], ws: &[u32], r: u32) -> Row
-    requires { Packed ws.now }
-    ensures { Below sheet.now places.now ws.now r result }
-{
-    if r < NODES {
-        if table::kind_of(ws, r) == 0 {
-            return untold();
-        }
-        return table::child_types(ws, r);
-    }
-    let p = place_of(places, r);
-    let head = words::offset(sheet, p, layout::NODE_CHILDREN);
-    cells(sheet, head as usize)
-}
-
-// The children of a ref, if it is known.
-pub fn children(sheet: &[u32], places: &[u32], ws: &[u32], r: u32) -> Row
-    requires { Packed ws.now }
-    ensures { Gathers sheet.now places.now ws.now r result }
-{
-    if kind(sheet, places, ws, r) == 0 {
-        return untold();
-    }
-    below(sheet, places, ws, r)
+    Some(Row { n, types })
 }
 
 // The ref of a type, as an index.

@@ -1,13 +1,17 @@
 -- What a call in a sitting comes to: its number, the count spent after it, and what answer buffer and workspace hold.
-use Rattle.std.specs.Prelude.{ℕ, ◌≡◌, refl}
+use Rattle.std.specs.Prelude.{ℕ, ◌≡◌, refl, Result, Ok, Err}
 use Rattle.std.proofs.Common.{sym, ◌∙◌, ap}
 use Rattle.rules.specs.Lists.{Words}
 use Rattle.rules.specs.Run.{Out, got, refused}
 use Rattle.rules.specs.Calls.{answer_after, work_after}
-use Rattle.calls.specs.declared.Outcome.{Outcome}
-use Rattle.calls.specs.declared.Outcome.TheVariants.{Answered, Refused}
-use Rattle.calls.specs.Outcomes.{outcome_of, number_of, count_of, Calls}
-use Rattle.sitting.specs.declared.Tally.{Tally}
+use Rattle.refusals.specs.declared.Stopped.{Stopped}
+use Rattle.refusals.specs.Numbers.{end_number, end_count}
+use Rattle.calls.specs.Outcomes.{Outcome, outcome_of, told, number_of, count_of, Calls}
+
+-- What a call comes to as two numbers: 0 where it is answered, and the count after it.
+pub record Tally : Type 0 where
+  pub number : ℕ
+  pub count : ℕ
 
 abbrev pub tally : ℕ → ℕ → Tally
 tally n c = record { number = n; count = c }
@@ -27,14 +31,6 @@ pub record Sits (o : Out Words × ℕ) (answer answer' work work' : Words) (r : 
   pub answer_is : answer' ≡ answer_after o.0 answer
   pub work_is : work' ≡ work_after o.0 work
 
-pub tally_answered : (o : Outcome) (c : ℕ) → o ≡ Answered c → tally 0 c ≡ tally_of o
-unfolding tally_of number_of count_of
-tally_answered o c e = ap tally_of (sym e)
-
-pub tally_refused : (o : Outcome) (n c : ℕ) → o ≡ Refused n c → tally n c ≡ tally_of o
-unfolding tally_of number_of count_of
-tally_refused o n c e = ap tally_of (sym e)
-
 number_same : (x : Out Words) (c : ℕ) → number_of (outcome_of (x, c)) ≡ number_in x
 unfolding number_of outcome_of number_in
 number_same (got ws) c = refl
@@ -45,12 +41,17 @@ unfolding count_of outcome_of
 count_same (got ws) c = refl
 count_same (refused n) c = refl
 
+told_tally : (r : Result ℕ Stopped) → tally_of (told r) ≡ tally (end_number r) (end_count r)
+unfolding tally_of number_of count_of
+told_tally (Ok c) = refl
+told_tally (Err s) = refl
+
 -- A call of `calls` whose outcome is told as two numbers.
-pub sits : (o : Out Words × ℕ) (answer answer' work work' : Words) (r : Outcome) (t : Tally) → Calls o answer answer' work work' r → t ≡ tally_of r → Sits o answer answer' work work' t
+pub sits : (o : Out Words × ℕ) (answer answer' work work' : Words) (r : Result ℕ Stopped) (n c : ℕ) → Calls o answer answer' work work' r → n ≡ end_number r → c ≡ end_count r → Sits o answer answer' work work' (tally n c)
 unfolding tally_of
-sits o answer answer' work work' r t k e = record {
-  number_is = ap (λ (x : Tally). x.number) e ∙ ap number_of k.outcome ∙ number_same o.0 o.1;
-  spent_is = ap (λ (x : Tally). x.count) e ∙ ap count_of k.outcome ∙ count_same o.0 o.1;
+sits o answer answer' work work' r n c k en ec = record {
+  number_is = en ∙ sym (ap (λ (x : Tally). x.number) (told_tally r)) ∙ ap number_of k.outcome ∙ number_same o.0 o.1;
+  spent_is = ec ∙ sym (ap (λ (x : Tally). x.count) (told_tally r)) ∙ ap count_of k.outcome ∙ count_same o.0 o.1;
   answer_is = k.answer_is;
   work_is = k.work_is;
 }

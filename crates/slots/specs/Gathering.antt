@@ -5,17 +5,15 @@ use Rattle.std.proofs.Math.Path.{ap}
 use Rattle.std.proofs.Math.ListN.{get_or}
 use Rattle.rules.specs.Lists.{Words}
 use Rattle.rules.specs.Sheet.{at}
-use Rattle.rules.specs.Run.{stop, within}
+use Rattle.rules.specs.Run.{within}
 use Rattle.rules.specs.Search.{end, Result, add_results}
 use Rattle.trees.specs.Forests.{Single}
 use Rattle.refusals.specs.declared.Refusal.{Refusal}
-use Rattle.refusals.specs.Numbers.{number_of}
-use Rattle.slots.specs.declared.Asked.{Asked}
-use Rattle.slots.specs.declared.Asked.TheVariants.{Found, Refused}
+use Rattle.slots.specs.declared.Results.{Results}
 use Rattle.slots.specs.Slots.{slot_length, Slot, Slots, slot_kept, slots_kept}
 use Rattle.slots.specs.Copies.{Filled}
 use Rattle.slots.specs.Adding.{Verdict, results_end, Adds, Gives, behind, Element, Joins}
-use Rattle.slots.specs.Turns.{Answers, answers_refused, answers_found}
+use Rattle.slots.specs.Turns.{Asked, Answers, answers_refused, answers_found}
 
 -- Some m results stand from a place on.
 pub record Row (ws : Words) (a m : ℕ) : Type 0 where
@@ -23,12 +21,12 @@ pub record Row (ws : Words) (a m : ℕ) : Type 0 where
   pub size : length results ≡ m
   pub slots : Slots ws a results
 
--- What is made of the m results at `from` is added behind n; slot 0 and what lies behind slot 4 is as it was.
-pub record Gathers (give : Result → Result) (ws us : Words) (n from m count : ℕ) (r : Asked) : Type 0 where
+-- What is made of the results at `from` is added behind n; slot 0 and what lies behind slot 4 is as it was.
+pub record Gathers (give : Result → Result) (ws us : Words) (n from : ℕ) (sub : Results) (r : Asked) : Type 0 where
   pub len : length us ≡ length ws
   pub low : (i : ℕ) → i < slot_length → at us i ≡ at ws i
   pub high : (i : ℕ) → results_end ≤ i → at us i ≡ at ws i
-  pub at : (fs gs : List Result) → length fs ≡ n → length gs ≡ m → Slots ws slot_length fs → Slots ws from gs → (over : ℕ → Bool) → Answers (within over (add_results fs (map give gs)) count) r us
+  pub at : (fs gs : List Result) → length fs ≡ n → length gs ≡ sub.n → Slots ws slot_length fs → Slots ws from gs → (over : ℕ → Bool) → Answers (within over (add_results fs (map give gs)) sub.count) r us
 
 -- On the way: k of them are added, and n results stand.
 pub record Partly (give : Result → Result) (fs gs : List Result) (ws : Words) (n k : ℕ) : Type 0 where
@@ -45,8 +43,8 @@ pub record Gathering (give : Result → Result) (ws us : Words) (from n₀ n m k
   pub at : (fs gs : List Result) → length fs ≡ n₀ → length gs ≡ m → Slots ws slot_length fs → Slots ws from gs → Partly give fs gs us n k
 
 -- The same behind the tree of the result at e.
-pub record JoinGathers (ws us : Words) (n e from m count : ℕ) (r : Asked) : Type 0 where
-  pub at : (x : Result) → Slot ws e x → Single x.1 → Gathers (behind x.1) ws us n from m count r
+pub record JoinGathers (ws us : Words) (n e from : ℕ) (sub : Results) (r : Asked) : Type 0 where
+  pub at : (x : Result) → Slot ws e x → Single x.1 → Gathers (behind x.1) ws us n from sub r
 
 pub record JoinGathering (ws us : Words) (e from n₀ n m k : ℕ) : Type 0 where
   pub at : (x : Result) → Slot ws e x → Single x.1 → Gathering (behind x.1) ws us from n₀ n m k
@@ -97,17 +95,18 @@ module _ (give : Result → Result) (ws us : Words) (from n₀ n m k : ℕ) (beh
               same = q.same ∙ ap (add_results q.results) (next gs d) ∙ h.goes e (map give (drop (k + 1) gs));
             }
 
-    pub gathering_stops : (refusal : Refusal) (number count : ℕ) → o ≡ Err refusal → number ≡ number_of refusal → Gathers give ws vs n₀ from m count (Refused number count)
+    pub gathering_stops : (refusal : Refusal) (sub : Results) → o ≡ Err refusal → m ≡ sub.n → Gathers give ws vs n₀ from sub (Err (record { refusal = refusal; count = sub.count }))
     unfolding within
-    gathering_stops refusal number count e z = record {
+    gathering_stops refusal sub e z = record {
       len = frame.len ∙ g.len;
       low = λ i l. frame.low i l ∙ g.low i l;
       high = λ i l. frame.high i l ∙ g.high i l;
       at = λ fs gs p d s t over.
-          let q = g.at fs gs p d s t in
+          let d' : length gs ≡ m = d ∙ sym z in
+          let q = g.at fs gs p d' s t in
           let x = get_or gs k ([], end) in
-          let h = (a.at x (still gs d t)).at q.results q.size q.stand in
-          answers_refused _ number count vs (ap (λ r. within over r count) (q.same ∙ ap (add_results q.results) (next gs d) ∙ h.stops refusal e (map give (drop (k + 1) gs)) ∙ ap stop (sym z)));
+          let h = (a.at x (still gs d' t)).at q.results q.size q.stand in
+          answers_refused _ (record { refusal = refusal; count = sub.count }) vs (ap (λ r. within over r sub.count) (q.same ∙ ap (add_results q.results) (next gs d') ∙ h.stops refusal e (map give (drop (k + 1) gs))));
     }
 
 drop_all : (k : ℕ) (gs : List Result) → length gs ≤ k → drop k gs ≡ []
@@ -117,15 +116,15 @@ drop_all k gs h = none (drop k gs) (omega (arith, length-drop k gs))
     none [] e = refl
     none (x ∷ l) e = absurd (omega arith)
 
-pub gathering_done : (give : Result → Result) (ws us : Words) (from n₀ n m k count : ℕ) → Gathering give ws us from n₀ n m k → m ≤ k → count ≤ 4000000000 → Gathers give ws us n₀ from m count (Found count n)
+pub gathering_done : (give : Result → Result) (ws us : Words) (from n₀ n k : ℕ) (sub : Results) → Gathering give ws us from n₀ n sub.n k → sub.n ≤ k → sub.count ≤ 4000000000 → Gathers give ws us n₀ from sub (Ok (record { n = n; count = sub.count }))
 unfolding within add_results
-gathering_done give ws us from n₀ n m k count g h low = record {
+gathering_done give ws us from n₀ n k sub g h low = record {
   len = g.len;
   low = g.low;
   high = g.high;
   at = λ fs gs p d s t over.
       let q = g.at fs gs p d s t in
-      answers_found _ count n q.results us (ap (λ r. within over r count) (q.same ∙ ap (λ (l : List Result). add_results q.results (map give l)) (drop_all k gs (omega arith)))) low q.size g.few q.stand;
+      answers_found _ (record { n = n; count = sub.count }) q.results us (ap (λ r. within over r sub.count) (q.same ∙ ap (λ (l : List Result). add_results q.results (map give l)) (drop_all k gs (omega arith)))) low q.size g.few q.stand;
 }
 
 -- The element stands still.
@@ -149,13 +148,13 @@ module _ (ws us : Words) (e from n₀ n m k : ℕ) (el : Element ws e) (behind-a
   pub joining_few : (vs : Words) (o : Verdict) → 6410 ≤ from → Row ws from m → k < m → Joins us vs n e (from + 1282 * k) o → o ≡ Ok tt → n + 1 ≤ 4
   joining_few vs o b row more j d = ((joining_more vs o b row more j d).at el.result el.slot el.one).few
 
-  pub joining_stops : (vs : Words) (o : Verdict) (refusal : Refusal) (number count : ℕ) → 6410 ≤ from → Row ws from m → k < m → Joins us vs n e (from + 1282 * k) o → o ≡ Err refusal → number ≡ number_of refusal → JoinGathers ws vs n₀ e from m count (Refused number count)
-  joining_stops vs o refusal number count b row more j d z = record {
-    at = λ x s one. let h = g.at x s one in gathering_stops (behind x.1) ws us from n₀ n m k b row h more vs o (j.at x (step x s h) one) refusal number count d z;
+  pub joining_stops : (vs : Words) (o : Verdict) (refusal : Refusal) (sub : Results) → 6410 ≤ from → Row ws from m → k < m → Joins us vs n e (from + 1282 * k) o → o ≡ Err refusal → m ≡ sub.n → JoinGathers ws vs n₀ e from sub (Err (record { refusal = refusal; count = sub.count }))
+  joining_stops vs o refusal sub b row more j d z = record {
+    at = λ x s one. let h = g.at x s one in gathering_stops (behind x.1) ws us from n₀ n m k b row h more vs o (j.at x (step x s h) one) refusal sub d z;
   }
 
 pub joining_none : (ws : Words) (e from n m : ℕ) → n ≤ 4 → JoinGathering ws ws e from n n m 0
 joining_none ws e from n m h = record { at = λ x s one. gathering_none (behind x.1) ws from n m h }
 
-pub joining_done : (ws us : Words) (e from n₀ n m k count : ℕ) → JoinGathering ws us e from n₀ n m k → m ≤ k → count ≤ 4000000000 → JoinGathers ws us n₀ e from m count (Found count n)
-joining_done ws us e from n₀ n m k count g h low = record { at = λ x s one. gathering_done (behind x.1) ws us from n₀ n m k count (g.at x s one) h low }
+pub joining_done : (ws us : Words) (e from n₀ n k : ℕ) (sub : Results) → JoinGathering ws us e from n₀ n sub.n k → sub.n ≤ k → sub.count ≤ 4000000000 → JoinGathers ws us n₀ e from sub (Ok (record { n = n; count = sub.count }))
+joining_done ws us e from n₀ n k sub g h low = record { at = λ x s one. gathering_done (behind x.1) ws us from n₀ n k sub (g.at x s one) h low }

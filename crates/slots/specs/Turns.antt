@@ -1,16 +1,27 @@
 -- A search's answer in the code's words, and its loops: the whole run is what is left of it from the results that stand at the front.
 -- The step limit is a parameter.
-use Rattle.std.specs.Prelude.{ℕ, ◌≤◌, ◌≡◌, refl, Bool, List, [], ◌∷◌, ltb, length}
-use Rattle.std.proofs.Common.{sym, ◌∙◌, ap, arith}
+use Rattle.std.specs.Prelude.{ℕ, ◌≤◌, ◌≡◌, refl, Bool, List, [], ◌∷◌, ltb, length, Ok, Err}
+use Rattle.std.specs.Prelude.{Result as Outcome}
+use Rattle.std.proofs.Common.{sym, ◌∙◌, ap, subst, arith}
 use Rattle.rules.specs.Lists.{Words}
 use Rattle.rules.specs.Limits.{limit_results}
 use Rattle.rules.specs.Run.{Run, done, stop, asks, ◌>>=◌, Out, got, refused, within}
 use Rattle.rules.specs.RunLaws.{after}
 use Rattle.rules.proofs.RunLaws.{within_bind}
 use Rattle.rules.specs.Search.{Result, add_results, collect}
-use Rattle.slots.specs.declared.Asked.{Asked}
-use Rattle.slots.specs.declared.Asked.TheVariants.{Found, Refused}
+use Rattle.refusals.specs.declared.Stopped.{Stopped}
+use Rattle.refusals.specs.Numbers.{number_of}
+use Rattle.slots.specs.declared.Results.{Results}
 use Rattle.slots.specs.Slots.{slot_length, Slots, slots_none}
+
+-- What a search comes to: results, or the refusal with the count after it.
+abbrev pub Asked : Type 0
+Asked = Outcome Results Stopped
+
+-- The count after it.
+abbrev pub count_of : Asked → ℕ
+count_of (Ok h) = h.count
+count_of (Err s) = s.count
 
 -- No count that a search starts from is higher.
 abbrev pub count_most : ℕ
@@ -27,42 +38,29 @@ pub record Got (o : Out (List Result) × ℕ) (c n : ℕ) (out : Words) : Type 0
 
 -- The answer r, with the words out, is what a run came to.
 pub record Answers (o : Out (List Result) × ℕ) (r : Asked) (out : Words) : Type 0 where
-  pub found : (c n : ℕ) → r ≡ Found c n → Got o c n out
-  pub refuses : (m c : ℕ) → r ≡ Refused m c → o ≡ (refused m, c)
+  pub found : (h : Results) → r ≡ Ok h → Got o h.count h.n out
+  pub refuses : (s : Stopped) → r ≡ Err s → o ≡ (refused (number_of s.refusal), s.count)
 
-pub answers_refused : (o : Out (List Result) × ℕ) (m c : ℕ) (out : Words) → o ≡ (refused m, c) → Answers o (Refused m c) out
-answers_refused o m c out e = record { found = λ d n p. absurd (no d n p); refuses = λ k d p. e ∙ (λ i. (refused (number k d p i), count k d p i)) }
+pub answers_refused : (o : Out (List Result) × ℕ) (s : Stopped) (out : Words) → o ≡ (refused (number_of s.refusal), s.count) → Answers o (Err s) out
+answers_refused o s out e = record { found = λ h p. absurd (no h p); refuses = λ t p. subst (λ (t : Stopped). o ≡ (refused (number_of t.refusal), t.count)) (same t p) e }
   where
-    no : (d n : ℕ) → Refused m c ≡ Found d n → ⊥
-    no d n p = let z : ◌≡◌ {A = ℕ} 0 1 = cc in omega arith
+    no : (h : Results) → ◌≡◌ {A = Asked} (Err s) (Ok h) → ⊥
+    no h p = cc
 
-    number : (k d : ℕ) → Refused m c ≡ Refused k d → m ≡ k
-    number k d p = cc
+    same : (t : Stopped) → ◌≡◌ {A = Asked} (Err s) (Err t) → s ≡ t
+    same t p = cc
 
-    count : (k d : ℕ) → Refused m c ≡ Refused k d → c ≡ d
-    count k d p = cc
-
-pub answers_found : (o : Out (List Result) × ℕ) (c n : ℕ) (rs : List Result) (out : Words) → o ≡ (got rs, c) → c ≤ count_most → length rs ≡ n → n ≤ 4 → Slots out 1282 rs → Answers o (Found c n) out
-answers_found o c n rs out e low size few s = record {
-  found = λ d k p. record {
-    results = rs;
-    size = size ∙ size_of d k p;
-    is = e ∙ (λ i. (got rs, count d k p i));
-    low = omega (arith, count d k p);
-    few = omega (arith, size_of d k p);
-    stand = s;
-  };
-  refuses = λ m d p. absurd (no m d p);
+pub answers_found : (o : Out (List Result) × ℕ) (h : Results) (rs : List Result) (out : Words) → o ≡ (got rs, h.count) → h.count ≤ count_most → length rs ≡ h.n → h.n ≤ 4 → Slots out 1282 rs → Answers o (Ok h) out
+answers_found o h rs out e low size few s = record {
+  found = λ k p. subst (λ (k : Results). Got o k.count k.n out) (same k p) (record { results = rs; size = size; is = e; low = low; few = few; stand = s });
+  refuses = λ t p. absurd (no t p);
 }
   where
-    no : (m d : ℕ) → Found c n ≡ Refused m d → ⊥
-    no m d p = let z : ◌≡◌ {A = ℕ} 0 1 = cc in omega arith
+    no : (t : Stopped) → ◌≡◌ {A = Asked} (Ok h) (Err t) → ⊥
+    no t p = cc
 
-    count : (d k : ℕ) → Found c n ≡ Found d k → c ≡ d
-    count d k p = cc
-
-    size_of : (d k : ℕ) → Found c n ≡ Found d k → n ≡ k
-    size_of d k p = cc
+    same : (k : Results) → ◌≡◌ {A = Asked} (Ok h) (Ok k) → h ≡ k
+    same k p = cc
 
 -- An answer to what another run came to that came to the same.
 pub answers_same : (o p : Out (List Result) × ℕ) (r : Asked) (out : Words) → o ≡ p → Answers p r out → Answers o r out
@@ -100,16 +98,16 @@ pub record Stepped (L : ℕ) (step : List Result → Run (List Result)) (n cur :
 
 -- What a turn leaves: by the answer r the loop goes on, or the function returns r.
 pub record Turned (L : ℕ) (whole : Out (List Result) × ℕ) (rest : List Result → Run (List Result)) (r : Asked) (out : Words) : Type 0 where
-  pub on : (c n : ℕ) → r ≡ Found c n → Going L whole rest out n c
-  pub stops : (m c : ℕ) → r ≡ Refused m c → Answers whole (Refused m c) out
+  pub on : (h : Results) → r ≡ Ok h → Going L whole rest out h.n h.count
+  pub stops : (s : Stopped) → r ≡ Err s → Answers whole (Err s) out
 
 -- A loop begins without results, and ends with those that stand.
 pub going_start : (L : ℕ) (whole : Out (List Result) × ℕ) (rest : List Result → Run (List Result)) (ws : Words) (cur : ℕ) → cur ≤ count_most → whole ≡ within (ltb L) (rest []) cur → Going L whole rest ws 0 cur
 going_start L whole rest ws cur low e = record { results = []; size = refl; few = omega arith; low = low; stand = slots_none ws slot_length; same = e }
 
-pub going_end : (L : ℕ) (whole : Out (List Result) × ℕ) (rest : List Result → Run (List Result)) (ws : Words) (n cur : ℕ) → ((fs : List Result) → rest fs ≡ done fs) → Going L whole rest ws n cur → Answers whole (Found cur n) ws
+pub going_end : (L : ℕ) (whole : Out (List Result) × ℕ) (rest : List Result → Run (List Result)) (ws : Words) (n cur : ℕ) → ((fs : List Result) → rest fs ≡ done fs) → Going L whole rest ws n cur → Answers whole (Ok (record { n = n; count = cur })) ws
 unfolding within
-going_end L whole rest ws n cur h g = answers_found whole cur n g.results ws (g.same ∙ ap (λ r. within (ltb L) r cur) (h g.results)) g.low g.size g.few g.stand
+going_end L whole rest ws n cur h g = answers_found whole (record { n = n; count = cur }) g.results ws (g.same ∙ ap (λ r. within (ltb L) r cur) (h g.results)) g.low g.size g.few g.stand
 
 -- What is left may be said otherwise.
 pub going_same : (L : ℕ) (whole : Out (List Result) × ℕ) (rest more : List Result → Run (List Result)) (ws : Words) (n cur : ℕ) → ((fs : List Result) → rest fs ≡ more fs) → Going L whole rest ws n cur → Going L whole more ws n cur
@@ -119,21 +117,21 @@ going_same L whole rest more ws n cur h g = record { results = g.results; size =
 pub going_through : (L : ℕ) (A : Type 0) (whole : Out (List Result) × ℕ) (m : Run A) (a : A) (rest : A → List Result → Run (List Result)) (ws : Words) (n cur d : ℕ) → d ≤ count_most → within (ltb L) m cur ≡ (got a, d) → Going L whole (λ fs. m >>= λ x. rest x fs) ws n cur → Going L whole (rest a) ws n d
 going_through L A whole m a rest ws n cur d low e g = record { results = g.results; size = g.size; few = g.few; low = low; stand = g.stand; same = g.same ∙ then_got (ltb L) m (λ x. rest x g.results) cur d a e }
 
-pub going_stopped : (L : ℕ) (A : Type 0) (whole : Out (List Result) × ℕ) (m : Run A) (k : ℕ) (rest : A → List Result → Run (List Result)) (ws : Words) (n cur d : ℕ) → within (ltb L) m cur ≡ (refused k, d) → Going L whole (λ fs. m >>= λ x. rest x fs) ws n cur → Answers whole (Refused k d) ws
-going_stopped L A whole m k rest ws n cur d e g = answers_refused whole k d ws (g.same ∙ then_refused (ltb L) m (λ x. rest x g.results) cur k d e)
+pub going_stopped : (L : ℕ) (A : Type 0) (whole : Out (List Result) × ℕ) (m : Run A) (s : Stopped) (rest : A → List Result → Run (List Result)) (ws : Words) (n cur : ℕ) → within (ltb L) m cur ≡ (refused (number_of s.refusal), s.count) → Going L whole (λ fs. m >>= λ x. rest x fs) ws n cur → Answers whole (Err s) ws
+going_stopped L A whole m s rest ws n cur e g = answers_refused whole s ws (g.same ∙ then_refused (ltb L) m (λ x. rest x g.results) cur (number_of s.refusal) s.count e)
 
 -- A step is a turn: one law for every loop.
 pub turn : (L : ℕ) (whole : Out (List Result) × ℕ) (step rest : List Result → Run (List Result)) (ws out : Words) (n cur : ℕ) (r : Asked) → Going L whole (λ fs. step fs >>= rest) ws n cur → Stepped L step n cur ws r out → Turned L whole rest r out
 turn L whole step rest ws out n cur r g s = record {
-  on = λ c k e. let o = w.found c k e in record {
+  on = λ h e. let o = w.found h e in record {
     results = o.results;
     size = o.size;
     few = o.few;
     low = o.low;
     stand = o.stand;
-    same = g.same ∙ then_got (ltb L) (step g.results) rest cur c o.results o.is;
+    same = g.same ∙ then_got (ltb L) (step g.results) rest cur h.count o.results o.is;
   };
-  stops = λ m c e. answers_refused whole m c out (g.same ∙ then_refused (ltb L) (step g.results) rest cur m c (w.refuses m c e));
+  stops = λ s e. answers_refused whole s out (g.same ∙ then_refused (ltb L) (step g.results) rest cur (number_of s.refusal) s.count (w.refuses s e));
 }
   where
     w : Answers (within (ltb L) (step g.results) cur) r out

@@ -12,7 +12,7 @@ ghost use Rattle.slots.specs.Adding.{Aside, Adds, Gives, plain, under, Element, 
 ghost use Rattle.slots.specs.Gathering.{Row, Gathers, JoinGathers};
 ghost use Rattle.slots.specs.Settling.{Sub, Settles, JoinSettles};
 
-use refusals::Refusal;
+use refusals::{Refusal, Stopped};
 
 // The words of a slot, and where its trees stand in it.
 pub const SLOT: usize = 1282;
@@ -24,11 +24,11 @@ const NODES: usize = 256;
 
 const RESULTS: usize = 4;
 
-// What a search answers: so many results, or a refusal; with the count of steps.
-#[derive(Clone, Copy)]
-pub enum Asked {
-    Found { count: u32, n: usize },
-    Refused { number: u32, count: u32 },
+// What a search found: how many results there are, and the count of steps after it.
+#[derive(Clone, Copy, Debug, PartialEq, Eq)]
+pub struct Results {
+    pub n: usize,
+    pub count: u32,
 }
 
 // How many nodes the table at a place has.
@@ -172,61 +172,72 @@ pub fn add_leaf(ws: &mut [u32], n: usize, from: usize, kind: u32, id: u32) -> Re
     Ok(())
 }
 
-// Adds m results of sub-questions behind n, each under the Def of an impl.
-fn gather_wrapped(ws: &mut [u32], n: usize, from: usize, m: usize, count: u32, id: u32) -> Asked
+// Adds the results of sub-questions behind n, each under the Def of an impl.
+fn gather_wrapped(
+    ws: &mut [u32],
+    n: usize,
+    from: usize,
+    sub: Results,
+    id: u32,
+) -> Result<Results, Stopped>
     requires n_bound { n ≤ 4 }
-    requires m_bound { m ≤ 4 }
+    requires sub_n_bound { sub.n ≤ 4 }
     requires le_from { 6410 ≤ from }
     requires from_in_bounds { from + 5128 ≤ length ws.old }
-    requires row { Row ws.old from m }
-    requires count_bound { count ≤ 4000000000 }
+    requires row { Row ws.old from sub.n }
+    requires sub_count_bound { sub.count ≤ 4000000000 }
     requires id_bound { id < 4096 }
-    ensures { Gathers (under id) ws.old ws.new n from m count result }
+    ensures { Gathers (under id) ws.old ws.new n from sub result }
 {
+    let count = sub.count;
     let mut found = n;
-    for k in 0..m {
+    for k in 0..sub.n {
         if let Err(refusal) = add_wrapped(ws, found, from + SLOT * k, id) {
-            let number = refusal.number();
-            return Asked::Refused { number, count };
+            return Err(Stopped { refusal, count });
         }
         found += 1;
     }
-    Asked::Found { count, n: found }
+    Ok(Results { n: found, count })
 }
 
-// Adds m results of the sub-questions that are left behind n, each behind the tree of the element that they were asked of.
+// Adds the results of the sub-questions that are left behind n, each behind the tree of the element that they were asked of.
 // (One function for both ways to add, with a closure, would have to say that the element still stands at each call: no plainer.)
 fn gather_joined(
     ws: &mut [u32],
     n: usize,
     element: usize,
     from: usize,
-    m: usize,
-    count: u32,
-) -> Asked
+    sub: Results,
+) -> Result<Results, Stopped>
     requires n_bound { n ≤ 4 }
-    requires m_bound { m ≤ 4 }
+    requires sub_n_bound { sub.n ≤ 4 }
     requires le_element { 6410 ≤ element }
     requires le_from { 6410 ≤ from }
     requires from_in_bounds { from + 5128 ≤ length ws.old }
     requires element { Element ws.old element }
-    requires row { Row ws.old from m }
-    requires count_bound { count ≤ 4000000000 }
-    ensures { JoinGathers ws.old ws.new n element from m count result }
+    requires row { Row ws.old from sub.n }
+    requires sub_count_bound { sub.count ≤ 4000000000 }
+    ensures { JoinGathers ws.old ws.new n element from sub result }
 {
+    let count = sub.count;
     let mut found = n;
-    for k in 0..m {
+    for k in 0..sub.n {
         if let Err(refusal) = add_joined(ws, found, element, from + SLOT * k) {
-            let number = refusal.number();
-            return Asked::Refused { number, count };
+            return Err(Stopped { refusal, count });
         }
         found += 1;
     }
-    Asked::Found { count, n: found }
+    Ok(Results { n: found, count })
 }
 
 // Adds what sub-questions answered behind n, each result under the Def of an impl; a refusal is handed on.
-pub fn settle_wrapped(ws: &mut [u32], asked: Asked, n: usize, from: usize, id: u32) -> Asked
+pub fn settle_wrapped(
+    ws: &mut [u32],
+    asked: Result<Results, Stopped>,
+    n: usize,
+    from: usize,
+    id: u32,
+) -> Result<Results, Stopped>
     requires n_bound { n ≤ 4 }
     requires le_from { 6410 ≤ from }
     requires from_in_bounds { from + 5128 ≤ length ws.old }
@@ -234,14 +245,18 @@ pub fn settle_wrapped(ws: &mut [u32], asked: Asked, n: usize, from: usize, id: u
     requires id_bound { id < 4096 }
     ensures { Settles (under id) ws.old ws.new n from asked result }
 {
-    match asked {
-        Asked::Refused { number, count } => Asked::Refused { number, count },
-        Asked::Found { count, n: m } => gather_wrapped(ws, n, from, m, count, id),
-    }
+    let sub = asked?;
+    gather_wrapped(ws, n, from, sub, id)
 }
 
 // Adds what the sub-questions that are left answered behind n, each result behind the tree of an element; a refusal is handed on.
-pub fn settle_joined(ws: &mut [u32], asked: Asked, n: usize, element: usize, from: usize) -> Asked
+pub fn settle_joined(
+    ws: &mut [u32],
+    asked: Result<Results, Stopped>,
+    n: usize,
+    element: usize,
+    from: usize,
+) -> Result<Results, Stopped>
     requires n_bound { n ≤ 4 }
     requires le_element { 6410 ≤ element }
     requires le_from { 6410 ≤ from }
@@ -250,8 +265,6 @@ pub fn settle_joined(ws: &mut [u32], asked: Asked, n: usize, element: usize, fro
     requires sub { Sub ws.old from asked }
     ensures { JoinSettles ws.old ws.new n element from asked result }
 {
-    match asked {
-        Asked::Refused { number, count } => Asked::Refused { number, count },
-        Asked::Found { count, n: m } => gather_joined(ws, n, element, from, m, count),
-    }
+    let sub = asked?;
+    gather_joined(ws, n, element, from, sub)
 }

@@ -1,5 +1,6 @@
 -- What the members of the search rely on: a checked call, the sets of its source, lent slices, and a neat table whose nodes the question's types are.
-use Rattle.std.specs.Prelude.{ℕ, ◌+◌, ◌*◌, ◌≤◌, ◌<◌, ◌≡◌, refl, Bool, List, [], map, ◌≢◌, ltb, length, get_or, take, drop}
+use Rattle.std.specs.Prelude.{ℕ, ◌+◌, ◌*◌, ◌≤◌, ◌<◌, ◌≡◌, refl, Bool, List, [], map, ltb, length, take, drop, Option, Some, None, Ok, Err}
+use Rattle.std.specs.Prelude.{Result as Outcome}
 use Rattle.std.proofs.Common.{sym, ◌∙◌, ap, subst, arith}
 use Rattle.rules.specs.Lists.{Words}
 use Rattle.rules.specs.Sheet.{at}
@@ -13,9 +14,10 @@ use Rattle.rules.specs.Neat.{Neat, QueriesIn}
 use Rattle.table.specs.Packing.{types_of, Packed}
 use Rattle.slots.specs.Slots.{Table, table_move}
 use Rattle.slots.specs.Adding.{under}
-use Rattle.slots.specs.Turns.{Answers}
+use Rattle.slots.specs.Turns.{Asked, Answers}
 use Rattle.slots.specs.Parts.{part}
-use Rattle.slots.specs.declared.Asked.{Asked}
+use Rattle.refusals.specs.declared.Refusal.{Refusal}
+use Rattle.refusals.specs.Numbers.{number_of}
 use Rattle.admitted.specs.Found.{Stands}
 use Rattle.queries.specs.declared.Query.{Query}
 use Rattle.queries.specs.declared.Queries.{Queries}
@@ -69,7 +71,7 @@ pub record Tail (ws : Words) (qs : Queries) (from : ℕ) : Type 0 where
   pub neat : Neat (types_of ws)
   pub inside : QueriesIn (length (types_of ws)) (drop from (queries_of qs))
   pub few : qs.n ≤ 4
-  pub counts : (k : ℕ) → get_or qs.counts k 0 ≤ 4
+  pub counts : (k : ℕ) → (query_in qs k).n ≤ 4
 
 -- The first of them.
 pub tail_asking : (ws : Words) (qs : Queries) (from : ℕ) → Tail ws qs from → from < qs.n → Asking ws (query_in qs from)
@@ -95,13 +97,13 @@ pub record Begins (a : rules.Finder) (basic : Bool) (ws : Words) (q : ImplType) 
   pub front : Front ws out
   pub at : (L : ℕ) → Answers (within (ltb L) (before_candidates a basic (types_of ws) q) count) r out
 
--- A candidate is opened: r has its sub-questions, whose table is behind slot 4; or, by their number, it is 14 (5), or does not unify (6).
-pub record Opens (s ws : Words) (q : ImplType) (i : ℕ) (r : Queries) (out : Words) : Type 0 where
+-- A candidate is opened: refused, or it does not unify, or r has its sub-questions, whose table is behind slot 4.
+pub record Opens (s ws : Words) (q : ImplType) (i : ℕ) (r : Outcome (Option Queries) Refusal) (out : Words) : Type 0 where
   pub opened : Opened ws out
-  pub full : r.n ≡ 5 → (ask : Types → ImplType → Run (List Result)) → try_candidate ask s (types_of ws) q i ≡ stop 14
-  pub unfit : r.n ≡ 6 → (ask : Types → ImplType → Run (List Result)) → try_candidate ask s (types_of ws) q i ≡ done []
-  pub asks : r.n ≢ 5 → r.n ≢ 6 → (ask : Types → ImplType → Run (List Result)) → try_candidate ask s (types_of ws) q i ≡ (find_subimpls ask (types_of (part 6410 out)) (queries_of r) >>= λ rs. done (map (under i) rs))
-  pub tail : r.n ≢ 5 → r.n ≢ 6 → Tail (part 6410 out) r 0
+  pub full : (refusal : Refusal) → r ≡ Err refusal → (ask : Types → ImplType → Run (List Result)) → try_candidate ask s (types_of ws) q i ≡ stop (number_of refusal)
+  pub unfit : r ≡ Ok None → (ask : Types → ImplType → Run (List Result)) → try_candidate ask s (types_of ws) q i ≡ done []
+  pub asks : (qs : Queries) → r ≡ Ok (Some qs) → (ask : Types → ImplType → Run (List Result)) → try_candidate ask s (types_of ws) q i ≡ (find_subimpls ask (types_of (part 6410 out)) (queries_of qs) >>= λ rs. done (map (under i) rs))
+  pub tail : (qs : Queries) → r ≡ Ok (Some qs) → Tail (part 6410 out) qs 0
 
 -- Slot 0 is as it was: so is its table.
 pub front_table : (ws us : Words) → length us ≡ length ws → ((i : ℕ) → i < 1282 → at us i ≡ at ws i) → Packed ws → Table us 0 (types_of ws)

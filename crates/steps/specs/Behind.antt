@@ -1,5 +1,6 @@
 -- Behind slot 4: the table of slot 0 is copied there, is worked on as a part of its own, and comes back.
-use Rattle.std.specs.Prelude.{◌+◌, ◌-◌, ◌≤◌, ◌≡◌, refl, length, drop}
+use Rattle.std.specs.Prelude.{◌+◌, ◌-◌, ◌≤◌, ◌≡◌, refl, Bool, length, drop}
+use Rattle.std.specs.Prelude.{Result as Outcome}
 use Rattle.std.proofs.Common.{sym, ◌∙◌, ap, subst, inl, arith}
 use Rattle.std.proofs.Math.Option.{none}
 use borrow.Rule.Slice.PartMut.{put_mid}
@@ -17,7 +18,7 @@ use Rattle.slots.specs.Copies.{Beside}
 use Rattle.slots.specs.Parts.{part, part-table, Lent, lent}
 use Rattle.queries.specs.declared.Query.{Query}
 use Rattle.queries.specs.Queries.{query_of}
-use Rattle.opening.specs.declared.Signed.{Signed}
+use Rattle.refusals.specs.declared.Refusal.{Refusal}
 use Rattle.opening.specs.Sound as opening
 use Rattle.opening.specs.Meeting.{Meets}
 use Rattle.clash.specs.Params.{Calling}
@@ -70,7 +71,7 @@ pub record ParamIn (a : rules.Finder) (p : Query) : Type 0 where
   pub inside : AllIn (length (impl_params a.sheet a.generics).0) (query_of p).1
 
 -- It is met with the question behind slot 4.
-pub record Behind (s ws : Words) (o : ImplType × Types) (q : ImplType) (r : Signed) (out : Words) : Type 0 where
+pub record Behind (s ws : Words) (o : ImplType × Types) (q : ImplType) (r : Outcome Bool Refusal) (out : Words) : Type 0 where
   pub opened : Opened ws out
   pub meets : Meets s o q r (drop 6410 out)
 
@@ -78,7 +79,7 @@ pub record Behind (s ws : Words) (o : ImplType × Types) (q : ImplType) (r : Sig
 abbrev pub brought : rules.Finder → Types → ImplType → ImplType × Types
 brought a ts p = import_impl_type (impl_params a.sheet a.generics).0 none p ts
 
-pub behind-met : (s ws us ys : Words) (f : Finder) (q p : Query) (r : Signed) → Written ws us 6410 (types_of ws, end) → length ys ≡ length (part 6410 us) →
+pub behind-met : (s ws us ys : Words) (f : Finder) (q p : Query) (r : Outcome Bool Refusal) → Written ws us 6410 (types_of ws, end) → length ys ≡ length (part 6410 us) →
     Meets s (import_impl_type (impl_params s f.generics).0 none (query_of p) (types_of (part 6410 us))) (query_of q) r ys →
     Behind s ws (brought (finder_of s f) (types_of ws) (query_of p)) (query_of q) r (put_mid 6410 (length us - 6410) us ys)
 behind-met s ws us ys f q p r w kept m =

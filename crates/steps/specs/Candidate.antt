@@ -1,10 +1,14 @@
 -- What one candidate comes to before its sub-questions are asked, and what the code leaves where it is opened.
-use Rattle.std.specs.Prelude.{ℕ, zero, suc, ◌+◌, ◌-◌, ◌≤◌, ◌<◌, ◌≡◌, Bool, true, ◌≢◌, length, get_or}
+use Rattle.std.specs.Prelude.{ℕ, ◌+◌, ◌-◌, ◌≤◌, ◌<◌, ◌≡◌, Bool, true, false, ◌≢◌, ltb, length, Option, Some, None, Ok, Err}
+use Rattle.std.specs.Prelude.{Result as Outcome}
 use Rattle.std.proofs.Math.Path.{refl}
 use Rattle.std.proofs.Common.{sym, ◌∙◌, ap, subst, arith}
-use mathlib.Core.List.{List, [], ◌∷◌, map}
+use Rattle.std.proofs.lemmas.Bool.{ltb-true, ltb-false}
+use mathlib.Core.List.{List, [], map}
 use Rattle.std.proofs.Math.Option.{some}
 use borrow.Author.Tests.{lt-ltb, le-ltb, eq-eqb}
+use Rattle.std.specs.Array.{AllOfLen}
+use Rattle.std.proofs.lemmas.List.{get_or_past}
 use borrow.Rule.Slice.PartMut.{put_mid}
 use Rattle.rules.specs.Lists.{Words}
 use Rattle.rules.specs.Limits.{limit_nodes}
@@ -23,11 +27,11 @@ use Rattle.slots.specs.Adding.{under}
 use Rattle.slots.specs.Parts.{part, part-table}
 use Rattle.queries.specs.declared.Query.{Query}
 use Rattle.queries.specs.declared.Queries.{Queries}
-use Rattle.queries.specs.Queries.{query_of, queries_of, queries_none}
-use Rattle.queries.specs.Gathering.{WithinFour, queries_four}
+use Rattle.queries.specs.Queries.{query_of, no_query, query_in, queries_of, queries_none}
 use Rattle.queries.specs.Takes.{SignatureTakes}
-use Rattle.opening.specs.declared.Signed.{Signed}
-use Rattle.opening.specs.declared.Signed.TheVariants.{Full, Unfit, Fits}
+use Rattle.refusals.specs.declared.Refusal.{Refusal}
+use Rattle.refusals.specs.declared.Refusal.TheVariants.{TypesFull}
+use Rattle.refusals.specs.Numbers.{number_of}
 use Rattle.opening.specs.Sound as opening
 use Rattle.opening.specs.Meeting.{Meets}
 use Rattle.opening.specs.Needing.{Asks, Needs, Follows, fresh_there}
@@ -61,192 +65,162 @@ module _ (ask : Types → ImplType → Run (List Result)) (s : Words) (ts : Type
     unfolding try_candidate check_nodes
     candidate_asks x k = rw (le-ltb limit_nodes (length (signed s ts i).1) h, x, le-ltb limit_nodes (length (needs s ts q i).1) k, check_nodes)
 
--- Sub-questions qs as r: the same, or five for more than four.
-pub record Fitted (qs r : Queries) : Type 0 where
-  pub most : r.n ≤ 5
-  pub full : 4 < r.n → 4 < qs.n
-  pub few : r.n ≤ 4 → qs.n ≤ 4
-  pub same : r.n ≤ 4 → queries_of r ≡ queries_of qs
-  pub counts : r.n ≤ 4 → WithinFour qs → (k : ℕ) → get_or r.counts k 0 ≤ 4
-
-pub fitted_full : (qs r : Queries) → 4 < qs.n → r.n ≡ 5 → Fitted qs r
-fitted_full qs r h e = record {
-  most = omega arith;
-  full = λ l. h;
-  few = λ l. absurd (omega arith);
-  same = λ l. absurd (omega arith);
-  counts = λ l. absurd (omega arith);
-}
-
-abbrev counted : Queries → Queries
-counted qs = record { n = qs.n; trs = qs.trs; counts = get_or qs.counts 0 0 ∷ get_or qs.counts 1 0 ∷ get_or qs.counts 2 0 ∷ get_or qs.counts 3 0 ∷ []; args = qs.args }
-
-pub fitted_same : (qs : Queries) → qs.n ≤ 4 → Fitted qs (counted qs)
-fitted_same qs h = record {
-  most = omega arith;
-  full = λ l. absurd (omega arith);
-  few = λ l. l;
-  same = λ l. queries_four (counted qs) h ∙ sym (queries_four qs h);
-  counts = λ l w k. each w k;
-}
+-- Four questions of no type words.
+pub none_few : (r : Queries) (P : Query → Type 0) → ((x : Query) → P x → x.n ≡ 0) → AllOfLen P r.items 4 → (k : ℕ) → (query_in r k).n ≤ 4
+none_few r P h a k = go (ltb k 4) refl
   where
-    each : WithinFour qs → (k : ℕ) → get_or (counted qs).counts k 0 ≤ 4
-    each w zero = w.each 0 (omega arith)
-    each w (suc zero) = w.each 1 (omega arith)
-    each w (suc (suc zero)) = w.each 2 (omega arith)
-    each w (suc (suc (suc zero))) = w.each 3 (omega arith)
-    each w (suc (suc (suc (suc k)))) = omega arith
+    go : (b : Bool) → ltb k 4 ≡ b → (query_in r k).n ≤ 4
+    go true e = omega (arith, h (query_in r k) (a.at k no_query (ltb-true k 4 e)))
+    go false e = omega (arith, ap (λ (x : Query). x.n) (get_or_past r.items k no_query (omega (arith, a.long, ltb-false k 4 e))))
 
--- The sub-questions o, so.
-pub record Sought (o : List ImplType × Types) (r : Queries) (out : Words) : Type 0 where
-  pub packed : Packed out
-  pub most : r.n ≤ 5
-  pub full : 4 < r.n → limit_nodes < length o.1
-  pub asks : r.n ≤ 4 → Asks o r out
-  pub counts : r.n ≤ 4 → (k : ℕ) → get_or r.counts k 0 ≤ 4
+needs_case : Outcome Queries Refusal → ℕ
+needs_case (Ok qs) = 1
+needs_case (Err refusal) = 0
 
-pub record Seeks (s : Words) (i b : ℕ) (ds : Words) (r : Queries) (out : Words) : Type 0 where
-  pub at : (ts : Types) (q : ImplType) → length ts ≡ b → types_of ds ≡ (met s ts q i).1 → Sought (needs s ts q i) r out
-
-pub seeks : (s : Words) (i b : ℕ) (ds : Words) (qs r : Queries) (out : Words) → Follows s i b ds qs out → Fitted qs r → Seeks s i b ds r out
-seeks s i b ds qs r out f g = record { at = λ ts q e d. one ts q (f.at ts q e d) }
-  where
-    one : (ts : Types) (q : ImplType) → Needs (needs s ts q i) qs out → Sought (needs s ts q i) r out
-    one ts q n = record {
-      packed = n.packed;
-      most = g.most;
-      full = λ l. n.full (g.full l);
-      asks = λ l. let a = n.asks (g.few l) in record {
-        is = a.is ∙ ap (λ (ps : List ImplType). (ps, types_of out)) (sym (g.same l));
-        room = a.room;
-        within = record { many = l; each = λ k h. g.counts l a.within k };
-      };
-      counts = λ l. g.counts l (n.asks (g.few l)).within;
-    }
-
--- No sub-questions.
-pub record NoneNeeded (r : Queries) : Type 0 where
-  pub zero-many : r.n ≡ 0
-  pub counts : (k : ℕ) → get_or r.counts k 0 ≤ 4
-
-pub none_needed : (ts us : Words) → NoneNeeded (record { n = 0; trs = ts; counts = 0 ∷ 0 ∷ 0 ∷ 0 ∷ []; args = us })
-none_needed ts us = record { zero-many = refl; counts = each }
-  where
-    each : (k : ℕ) → get_or (0 ∷ 0 ∷ 0 ∷ 0 ∷ []) k 0 ≤ 4
-    each zero = omega arith
-    each (suc zero) = omega arith
-    each (suc (suc zero)) = omega arith
-    each (suc (suc (suc zero))) = omega arith
-    each (suc (suc (suc (suc k)))) = omega arith
+needs_queries : Queries → Outcome Queries Refusal → Queries
+needs_queries r (Ok qs) = qs
+needs_queries r (Err refusal) = r
 
 -- The generics of a candidate without impl parameters ask for nothing: the table stays as it is.
-pub seeks_none : (s : Words) (i b g h : ℕ) (ds : Words) (r : Queries) → g ≡ field s header_impls i impl_generics_word → h ≡ field s header_generics g generics_impl_params → h ≡ 0 → Packed ds → NoneNeeded r → Seeks s i b ds r ds
-unfolding import_impl_types transfer_impl_types impl_generics
-seeks_none s i b g h ds r eg eh z p n = record { at = λ ts q e d. one ts q d }
+pub seeks_none : (s : Words) (i b g h : ℕ) (ds : Words) (r : Queries) → g ≡ field s header_impls i impl_generics_word → h ≡ field s header_generics g generics_impl_params → h ≡ 0 → Packed ds → r.n ≡ 0 → ((k : ℕ) → (query_in r k).n ≤ 4) → Follows s i b ds (Ok r) ds
+unfolding import_impl_types transfer_impl_types impl_generics needs_case needs_queries
+seeks_none s i b g h ds r eg eh z p n few = record { at = λ ts q e d. one ts q d }
   where
     none : (impl_params s (impl_generics s i)).1 ≡ []
     none = ap (λ (k : ℕ). (impl_params s k).1) (sym eg) ∙ params_none s g h eh (eq-eqb h 0 z)
 
     empty : queries_of r ≡ []
-    empty = queries_none r 0 (omega (arith, n.zero-many))
+    empty = queries_none r 0 (omega (arith, n))
 
     whole : (ts : Types) (q : ImplType) → types_of ds ≡ (met s ts q i).1 → needs s ts q i ≡ (queries_of r, types_of ds)
     whole ts q d = ap (λ (l : List ImplType). import_impl_types (impl_params s (impl_generics s i)).0 (some (fresh_params ts (fresh_count s i))) l (met s ts q i).1) none ∙ λ t. (sym empty t, sym d t)
 
-    one : (ts : Types) (q : ImplType) → types_of ds ≡ (met s ts q i).1 → Sought (needs s ts q i) r ds
+    asks : (ts : Types) (q : ImplType) → types_of ds ≡ (met s ts q i).1 → Asks (needs s ts q i) r ds
+    asks ts q d = record {
+      is = whole ts q d;
+      room = subst (λ (o : List ImplType × Types). length o.1 ≤ limit_nodes) (sym (whole ts q d)) (types_few ds);
+      within = record { many = omega (arith, n); each = λ k m. few k };
+      counts = few;
+    }
+
+    one : (ts : Types) (q : ImplType) → types_of ds ≡ (met s ts q i).1 → Needs (needs s ts q i) (Ok r) ds
     one ts q d = record {
       packed = p;
-      most = omega (arith, n.zero-many);
-      full = λ l. absurd (omega (arith, n.zero-many));
-      asks = λ l. record {
-        is = whole ts q d;
-        room = subst (λ (o : List ImplType × Types). length o.1 ≤ limit_nodes) (sym (whole ts q d)) (types_few ds);
-        within = record { many = l; each = λ k m. n.counts k };
-      };
-      counts = λ l k. n.counts k;
+      full = λ refusal x. absurd (omega (arith, ap needs_case x));
+      asks = λ qs x. subst (λ (v : Queries). Asks (needs s ts q i) v ds) (ap (needs_queries r) x) (asks ts q d);
     }
 
 -- A candidate is opened in a part whose table ts was.
-pub record PartOpens (s : Words) (ts : Types) (q : ImplType) (i : ℕ) (r : Queries) (out : Words) : Type 0 where
+pub record PartOpens (s : Words) (ts : Types) (q : ImplType) (i : ℕ) (r : Outcome (Option Queries) Refusal) (out : Words) : Type 0 where
   pub packed : Packed out
-  pub full : r.n ≡ 5 → (ask : Types → ImplType → Run (List Result)) → try_candidate ask s ts q i ≡ stop 14
-  pub unfit : r.n ≡ 6 → (ask : Types → ImplType → Run (List Result)) → try_candidate ask s ts q i ≡ done []
-  pub asks : r.n ≢ 5 → r.n ≢ 6 → (ask : Types → ImplType → Run (List Result)) → try_candidate ask s ts q i ≡ (find_subimpls ask (types_of out) (queries_of r) >>= λ rs. done (map (under i) rs))
-  pub tail : r.n ≢ 5 → r.n ≢ 6 → Tail out r 0
+  pub full : (refusal : Refusal) → r ≡ Err refusal → (ask : Types → ImplType → Run (List Result)) → try_candidate ask s ts q i ≡ stop (number_of refusal)
+  pub unfit : r ≡ Ok None → (ask : Types → ImplType → Run (List Result)) → try_candidate ask s ts q i ≡ done []
+  pub asks : (qs : Queries) → r ≡ Ok (Some qs) → (ask : Types → ImplType → Run (List Result)) → try_candidate ask s ts q i ≡ (find_subimpls ask (types_of out) (queries_of qs) >>= λ rs. done (map (under i) rs))
+  pub tail : (qs : Queries) → r ≡ Ok (Some qs) → Tail out qs 0
 
-module _ (s ws us : Words) (q : Query) (i : ℕ) (m : Signed) (w : Meets s (signed s (types_of ws) i) (query_of q) m us) where
-  pub part_full : (r : Queries) → m ≡ Full → r.n ≡ 5 → PartOpens s (types_of ws) (query_of q) i r us
-  part_full r x e = record {
-    packed = w.packed;
-    full = λ l ask. candidate_full ask s (types_of ws) (query_of q) i (w.full x);
-    unfit = λ l. absurd (omega arith);
-    asks = λ l. absurd (l e);
-    tail = λ l. absurd (l e);
+-- A number for each, the refusal, and the sub-questions.
+opened_case : Outcome (Option Queries) Refusal → ℕ
+opened_case (Err refusal) = 0
+opened_case (Ok None) = 1
+opened_case (Ok (Some qs)) = 2
+
+opened_refusal : Outcome (Option Queries) Refusal → Refusal
+opened_refusal (Err refusal) = refusal
+opened_refusal (Ok qs) = TypesFull
+
+opened_queries : Queries → Outcome (Option Queries) Refusal → Queries
+opened_queries r (Ok (Some qs)) = qs
+opened_queries r (Ok None) = r
+opened_queries r (Err refusal) = r
+
+module _ (s ws us : Words) (q : Query) (i : ℕ) (m : Outcome Bool Refusal) (w : Meets s (signed s (types_of ws) i) (query_of q) m us) where
+  refused : (refusal : Refusal) (out : Words) → refusal ≡ TypesFull → Packed out → ((ask : Types → ImplType → Run (List Result)) → try_candidate ask s (types_of ws) (query_of q) i ≡ stop 14) → PartOpens s (types_of ws) (query_of q) i (Err refusal) out
+  unfolding opened_case opened_refusal
+  refused refusal out e p h = record {
+    packed = p;
+    full = λ z x ask. h ask ∙ ap (λ y. stop (number_of y)) (sym e ∙ ap opened_refusal x);
+    unfit = λ x. absurd (omega (arith, ap opened_case x));
+    asks = λ qs x. absurd (omega (arith, ap opened_case x));
+    tail = λ qs x. absurd (omega (arith, ap opened_case x));
   }
 
-  pub part_unfit : (r : Queries) → m ≡ Unfit → r.n ≡ 6 → PartOpens s (types_of ws) (query_of q) i r us
-  part_unfit r x e = record {
+  pub part_full : (refusal : Refusal) → m ≡ Err refusal → PartOpens s (types_of ws) (query_of q) i (Err refusal) us
+  part_full refusal e = refused refusal us (w.full refusal e).0 w.packed (λ ask. candidate_full ask s (types_of ws) (query_of q) i (w.full refusal e).1)
+
+  pub part_unfit : (b : Bool) → m ≡ Ok b → b ≡ false → PartOpens s (types_of ws) (query_of q) i (Ok None) us
+  unfolding opened_case
+  part_unfit b e n = record {
     packed = w.packed;
-    full = λ l. absurd (omega arith);
-    unfit = λ l ask. candidate_failed ask s (types_of ws) (query_of q) i (w.unfit x).room (w.unfit x).failed;
-    asks = λ l k. absurd (k e);
-    tail = λ l k. absurd (k e);
+    full = λ z x. absurd (omega (arith, ap opened_case x));
+    unfit = λ x ask. candidate_failed ask s (types_of ws) (query_of q) i (w.unfit (e ∙ ap Ok n)).room (w.unfit (e ∙ ap Ok n)).failed;
+    asks = λ qs x. absurd (omega (arith, ap opened_case x));
+    tail = λ qs x. absurd (omega (arith, ap opened_case x));
   }
 
-  module _ (sound : opening.Sound s) (a : Asking ws q) (h : i < many s header_impls) (b : ℕ) (e : b ≡ length (types_of ws)) (x : m ≡ Fits) where
+  module _ (sound : opening.Sound s) (a : Asking ws q) (h : i < many s header_impls) (b : ℕ) (e : b ≡ length (types_of ws)) (fits : Bool) (is : m ≡ Ok fits) (told : fits ≡ true) where
+    x : m ≡ Ok true
+    x = is ∙ ap Ok told
+
     pub part_room : b + fresh_count s i ≤ length (types_of us)
     part_room = fresh_there s sound (types_of ws) (query_of q) a.neat a.inside i h b us e (w.fits x).types
 
-    module _ (r : Queries) (out : Words) (k : Seeks s i b us r out) where
-      sought : Sought (needs s (types_of ws) (query_of q) i) r out
+    module _ (r : Outcome Queries Refusal) (out : Words) (k : Follows s i b us r out) where
+      sought : Needs (needs s (types_of ws) (query_of q) i) r out
       sought = k.at (types_of ws) (query_of q) (sym e) (w.fits x).types
 
-      pub part_fits : PartOpens s (types_of ws) (query_of q) i r out
-      part_fits = record {
+      pub part_crowded : (refusal : Refusal) → r ≡ Err refusal → PartOpens s (types_of ws) (query_of q) i (Err refusal) out
+      part_crowded refusal y = refused refusal out (sought.full refusal y).0 sought.packed (λ ask. candidate_crowded ask s (types_of ws) (query_of q) i (w.fits x).room (w.fits x).met (sought.full refusal y).1)
+
+      pub part_fits : (qs : Queries) → r ≡ Ok qs → PartOpens s (types_of ws) (query_of q) i (Ok (Some qs)) out
+      unfolding opened_case opened_queries
+      part_fits qs y = record {
         packed = sought.packed;
-        full = λ l ask. candidate_crowded ask s (types_of ws) (query_of q) i (w.fits x).room (w.fits x).met (sought.full (omega arith));
-        unfit = λ l. absurd (omega (arith, sought.most));
-        asks = λ l j ask.
-            let g = sought.asks (few l j) in
-            candidate_asks ask s (types_of ws) (query_of q) i (w.fits x).room (w.fits x).met g.room
-            ∙ ap (λ (o : List ImplType × Types). find_subimpls ask o.1 o.0 >>= λ rs. done (map (under i) rs)) g.is;
-        tail = λ l j.
-            let g = sought.asks (few l j) in
-            record {
-              packed = sought.packed;
-              neat = needs_neat s sound (types_of ws) (query_of q) a.neat a.inside i h r out g;
-              inside = needs_inside s sound (types_of ws) (query_of q) a.neat a.inside i h r out g;
-              few = few l j;
-              counts = sought.counts (few l j);
-            };
+        full = λ z v. absurd (omega (arith, ap opened_case v));
+        unfit = λ v. absurd (omega (arith, ap opened_case v));
+        asks = λ v z ask. asked ask ∙ ap (λ (l : Queries). find_subimpls ask (types_of out) (queries_of l) >>= λ rs. done (map (under i) rs)) (ap (opened_queries qs) z);
+        tail = λ v z. subst (λ (l : Queries). Tail out l 0) (ap (opened_queries qs) z) ready;
       }
         where
-          few : r.n ≢ 5 → r.n ≢ 6 → r.n ≤ 4
-          few l j = omega (arith, sought.most, l, j)
+          g : Asks (needs s (types_of ws) (query_of q) i) qs out
+          g = sought.asks qs y
+
+          asked : (ask : Types → ImplType → Run (List Result)) → try_candidate ask s (types_of ws) (query_of q) i ≡ (find_subimpls ask (types_of out) (queries_of qs) >>= λ rs. done (map (under i) rs))
+          asked ask =
+              candidate_asks ask s (types_of ws) (query_of q) i (w.fits x).room (w.fits x).met g.room
+              ∙ ap (λ (o : List ImplType × Types). find_subimpls ask o.1 o.0 >>= λ rs. done (map (under i) rs)) g.is
+
+          ready : Tail out qs 0
+          ready = record {
+            packed = sought.packed;
+            neat = needs_neat s sound (types_of ws) (query_of q) a.neat a.inside i h qs out g;
+            inside = needs_inside s sound (types_of ws) (query_of q) a.neat a.inside i h qs out g;
+            few = g.within.many;
+            counts = g.counts;
+          }
 
 -- The part is that behind slot 4, where the table was copied.
 module _ (ws us : Words) (q : Query) (w : Written ws us 6410 (types_of ws, end)) where
   pub behind_asking : Asking ws q → Asking (part 6410 us) q
   behind_asking a = asking_table ws (part 6410 us) q a (part-table 6410 us (types_of ws) w.slot.table)
 
-  pub opens : (s : Words) (i : ℕ) (r : Queries) (ys : Words) → length ys ≡ length (part 6410 us) → PartOpens s (types_of (part 6410 us)) (query_of q) i r ys → Opens s ws (query_of q) i r (put_mid 6410 (length us - 6410) us ys)
+  pub opens : (s : Words) (i : ℕ) (r : Outcome (Option Queries) Refusal) (ys : Words) → length ys ≡ length (part 6410 us) → PartOpens s (types_of (part 6410 us)) (query_of q) i r ys → Opens s ws (query_of q) i r (put_mid 6410 (length us - 6410) us ys)
   opens s i r ys kept o =
       let back = put_mid 6410 (length us - 6410) us ys in
       let same = (part-table 6410 us (types_of ws) w.slot.table).is in
       let t = part-table 6410 back (types_of ys) (back-table ws us ys w kept o.packed) in
       record {
         opened = back_opened ws us ys w kept;
-        full = λ l ask. ap (λ (ts : Types). try_candidate ask s ts (query_of q) i) (sym same) ∙ o.full l ask;
-        unfit = λ l ask. ap (λ (ts : Types). try_candidate ask s ts (query_of q) i) (sym same) ∙ o.unfit l ask;
-        asks = λ l k ask.
-            ap (λ (ts : Types). try_candidate ask s ts (query_of q) i) (sym same) ∙ o.asks l k ask
-            ∙ ap (λ (ts : Types). find_subimpls ask ts (queries_of r) >>= λ rs. done (map (under i) rs)) (sym t.is);
-        tail = λ l k. let x = o.tail l k in record {
+        full = λ refusal x ask. ap (λ (ts : Types). try_candidate ask s ts (query_of q) i) (sym same) ∙ o.full refusal x ask;
+        unfit = λ x ask. ap (λ (ts : Types). try_candidate ask s ts (query_of q) i) (sym same) ∙ o.unfit x ask;
+        asks = λ qs x ask.
+            ap (λ (ts : Types). try_candidate ask s ts (query_of q) i) (sym same) ∙ o.asks qs x ask
+            ∙ ap (λ (ts : Types). find_subimpls ask ts (queries_of qs) >>= λ rs. done (map (under i) rs)) (sym t.is);
+        tail = λ qs x. let y = o.tail qs x in record {
           packed = t.packed;
-          neat = subst Neat (sym t.is) x.neat;
-          inside = subst (λ (ts : Types). QueriesIn (length ts) (queries_of r)) (sym t.is) x.inside;
-          few = x.few;
-          counts = x.counts;
+          neat = subst Neat (sym t.is) y.neat;
+          inside = subst (λ (ts : Types). QueriesIn (length ts) (queries_of qs)) (sym t.is) y.inside;
+          few = y.few;
+          counts = y.counts;
         };
       }
 
@@ -255,11 +229,12 @@ pub signature_read : (s sets : Words) (i n : ℕ) → SignatureTakes s i (at set
 signature_read s sets i n h e = subst (SignatureTakes s i) (sym e) h
 
 -- A candidate that clashes with the question is not opened: nothing changes.
-pub opens_clash : (s ws : Words) (q : Query) (i : ℕ) (r : Bool) (o : Queries) → Clashes s (types_of ws) (query_of q) i r → r ≡ true → o.n ≡ 6 → Opens s ws (query_of q) i o ws
-opens_clash s ws q i r o c e n = record {
+pub opens_clash : (s ws : Words) (q : Query) (i : ℕ) (r : Bool) → Clashes s (types_of ws) (query_of q) i r → r ≡ true → Opens s ws (query_of q) i (Ok None) ws
+unfolding opened_case
+opens_clash s ws q i r c e = record {
   opened = record { len = refl; at = λ j h. refl };
-  full = λ l. absurd (omega arith);
-  unfit = λ l ask. candidate_failed ask s (types_of ws) (query_of q) i (c.room e) (c.unfit e);
-  asks = λ l k. absurd (k n);
-  tail = λ l k. absurd (k n);
+  full = λ refusal x. absurd (omega (arith, ap opened_case x));
+  unfit = λ x ask. candidate_failed ask s (types_of ws) (query_of q) i (c.room e) (c.unfit e);
+  asks = λ qs x. absurd (omega (arith, ap opened_case x));
+  tail = λ qs x. absurd (omega (arith, ap opened_case x));
 }

@@ -12,22 +12,23 @@ ghost use Rattle.table.specs.Packing.{types_of, Packed};
 ghost use Rattle.slots.specs.Adding.{Aside};
 ghost use Rattle.slots.specs.Gathering.{Row};
 ghost use Rattle.candidates.specs.Index.{Indexes};
-ghost use Rattle.admitted.specs.Found.{Stands, Finds};
+ghost use Rattle.admitted.specs.Found.{Stands, Finds, Gives};
 ghost use Rattle.queries.specs.Queries.{query_of};
 ghost use Rattle.queries.specs.Takes.{SignatureTakes, ParamTakes, Taken};
 ghost use Rattle.opening.specs.Sound.{Sound as SoundSheet};
+ghost use Rattle.opening.specs.Needing.{Follows};
 ghost use Rattle.steps.specs.Asking.{finder_of, Sound, sets_of, takes_of, Scratch, Asking, Begins, Opens};
 ghost use Rattle.steps.specs.Behind.{brought, Behind, ParamIn};
 ghost use Rattle.steps.specs.Built.{NoneLeft, LeafStep, SmallIds, Autos};
 ghost use Rattle.steps.specs.Params.{ParamStep, ParamsStep};
-ghost use Rattle.steps.specs.Candidate.{Fitted, NoneNeeded, Seeks, PartOpens};
-ghost use Rattle.steps.specs.Next.{NextId};
+ghost use Rattle.steps.specs.Candidate.{PartOpens};
 
 use admitted::Found;
-use opening::Signed;
+use chart::layout;
+use meeting::Notes;
 use queries::{Queries, Query};
-use refusals::Refusal;
-use slots::Asked;
+use refusals::{Refusal, Stopped};
+use slots::Results;
 
 // What a search keeps: its source and generics, and the step limit.
 #[derive(Clone, Copy)]
@@ -47,55 +48,43 @@ const SETS_PARAMS: usize = 35076;
 
 pub const SETS_END: usize = 35080;
 
-// The kind of an impl parameter's tree.
-const PARAM: u32 = 1;
-
-// In the place of how many sub-questions a candidate has: its table would pass its limit, or it does not unify with the question.
-pub const FULL: usize = 5;
-
-pub const UNFIT: usize = 6;
-
-// Past every impl.
-pub const NONE: usize = 384;
-
-// The word k places past a place, as an index.
-fn wide_offset(s: &[u32], p: usize, k: usize) -> usize
-    ensures { result ≡ at s.now (p + k) }
-{
-    words::wide(words::offset(s, p, k))
-}
-
 // No sub-questions are left: the table itself, without trees.
-pub fn none_left(ws: &mut [u32], count: u32) -> Asked
+pub fn none_left(ws: &mut [u32], count: u32) -> Result<Results, Stopped>
     requires packed { Packed ws.old }
     requires in_bounds { 6410 ≤ length ws.old }
     requires count_bound { count ≤ 4000000000 }
     ensures { NoneLeft ws.old count result ws.new }
 {
     slots::copy_table_slot(ws, 0, slots::SLOT);
-    Asked::Found { count, n: 1 }
+    Ok(Results { n: 1, count })
 }
 
-// Adds the types that stand in a slot with a leaf behind n.
-fn leaf_step(ws: &mut [u32], n: usize, from: usize, kind: u32, id: u32, count: u32) -> Asked
-    requires n_bound { n ≤ 4 }
+// Adds the types that stand in a slot with a leaf behind those found.
+fn leaf_step(
+    ws: &mut [u32],
+    found: Results,
+    from: usize,
+    kind: u32,
+    id: u32,
+) -> Result<Results, Stopped>
+    requires found_n_bound { found.n ≤ 4 }
     requires packed { Packed (drop from ws.old) }
-    requires aside { Aside from n }
+    requires aside { Aside from found.n }
     requires in_bounds { 6410 ≤ length ws.old }
     requires kind_bound { kind < 8 }
     requires id_bound { id < 4096 }
-    requires count_bound { count ≤ 4000000000 }
-    ensures { LeafStep ws.old n from kind id count result ws.new }
+    requires found_count_bound { found.count ≤ 4000000000 }
+    ensures { LeafStep ws.old found from kind id result ws.new }
 {
-    if let Err(refusal) = slots::add_leaf(ws, n, from, kind, id) {
-        let number = refusal.number();
-        return Asked::Refused { number, count };
+    let Results { n, count } = found;
+    match slots::add_leaf(ws, n, from, kind, id) {
+        Ok(()) => Ok(Results { n: n + 1, count }),
+        Err(refusal) => Err(Stopped { refusal, count }),
     }
-    Asked::Found { count, n: n + 1 }
 }
 
 // Built-in fork and drop: adds what `find_auto_impls` finds.
-fn add_autos(sheet: &[u32], ws: &mut [u32], q: Query, count: u32) -> Asked
+fn add_autos(sheet: &[u32], ws: &mut [u32], q: Query, count: u32) -> Result<Results, Stopped>
     requires packed { Packed ws.old }
     requires in_bounds { 6410 ≤ length ws.old }
     requires n_bound { q.n ≤ 4 }
@@ -103,12 +92,10 @@ fn add_autos(sheet: &[u32], ws: &mut [u32], q: Query, count: u32) -> Asked
     requires count_bound { count ≤ 4000000000 }
     ensures { Autos sheet.now ws.old (query_of q) count result ws.new }
 {
-    let args = [q.args[0], q.args[1], q.args[2], q.args[3]];
-    let n = q.n;
-    let found = auto::find_auto_impls(sheet, ws, q.tr, &args[..n]);
-    match found {
-        None => Asked::Found { count, n: 0 },
-        Some(leaf) => leaf_step(ws, 0, 0, leaf.kind, leaf.id, count),
+    let none = Results { n: 0, count };
+    match auto::find_auto_impls(sheet, ws, q.tr, &q.args[..q.n]) {
+        None => Ok(none),
+        Some(leaf) => leaf_step(ws, none, 0, leaf.kind, leaf.id),
     }
 }
 
@@ -121,7 +108,7 @@ fn meet_behind(
     f: Finder,
     q: Query,
     p: Query,
-) -> Signed
+) -> Result<bool, Refusal>
     requires sound { Sound (finder_of sheet.now f) }
     requires scratch { Scratch sheet.now places.old map.old }
     requires asking { Asking ws.old q }
@@ -133,7 +120,7 @@ fn meet_behind(
     opening::meet_param(sheet, f.generics, &mut ws[SUB..], places, map, q, p)
 }
 
-// Impl parameter k of the generics, of the question's trait, is met with the question: added behind n where they unify.
+// Impl parameter k of the generics, of the question's trait, is met with the question: added behind those found where they unify.
 fn param_opened(
     sheet: &[u32],
     ws: &mut [u32],
@@ -143,9 +130,8 @@ fn param_opened(
     q: Query,
     p: Query,
     k: usize,
-    n: usize,
-    count: u32,
-) -> Asked
+    found: Results,
+) -> Result<Results, Stopped>
     requires sound { Sound (finder_of sheet.now f) }
     requires scratch { Scratch sheet.now places.old map.old }
     requires asking { Asking ws.old q }
@@ -153,19 +139,19 @@ fn param_opened(
     requires param_in { ParamIn (finder_of sheet.now f) p }
     requires p_value { approx_eq (query_of q) (query_of p) ≡ true }
     requires k_bound { k < 4 }
-    requires n_bound { n ≤ 4 }
-    requires count_bound { count ≤ 4000000000 }
-    ensures { ParamStep (finder_of sheet.now f) ws.old (query_of q) (query_of p) k n count result ws.new }
+    requires found_n_bound { found.n ≤ 4 }
+    requires found_count_bound { found.count ≤ 4000000000 }
+    ensures { ParamStep (finder_of sheet.now f) ws.old (query_of q) (query_of p) k found result ws.new }
 {
-    let met = meet_behind(sheet, ws, places, map, f, q, p);
-    match met {
-        Signed::Full => Asked::Refused { number: 14, count },
-        Signed::Unfit => Asked::Found { count, n },
-        Signed::Fits => leaf_step(ws, n, SUB, PARAM, k as u32, count),
+    let count = found.count;
+    match meet_behind(sheet, ws, places, map, f, q, p) {
+        Err(refusal) => Err(Stopped { refusal, count }),
+        Ok(false) => Ok(found),
+        Ok(true) => leaf_step(ws, found, SUB, layout::TREE_PARAM as u32, k as u32),
     }
 }
 
-// Impl parameter k of the generics, of the question's trait: added behind n where it unifies with the question. One that clashes with the question is passed over before that.
+// Impl parameter k of the generics, of the question's trait: added behind those found where it unifies with the question. One that clashes with the question is passed over before that.
 fn param_met(
     sheet: &[u32],
     sets: &[u32],
@@ -176,9 +162,8 @@ fn param_met(
     q: Query,
     p: Query,
     k: usize,
-    n: usize,
-    count: u32,
-) -> Asked
+    found: Results,
+) -> Result<Results, Stopped>
     requires sound { Sound (finder_of sheet.now f) }
     requires scratch { Scratch sheet.now places.old map.old }
     requires asking { Asking ws.old q }
@@ -186,16 +171,16 @@ fn param_met(
     requires param_in { ParamIn (finder_of sheet.now f) p }
     requires p_value { approx_eq (query_of q) (query_of p) ≡ true }
     requires k_bound { k < 4 }
-    requires n_bound { n ≤ 4 }
-    requires count_bound { count ≤ 4000000000 }
+    requires found_n_bound { found.n ≤ 4 }
+    requires found_count_bound { found.count ≤ 4000000000 }
     requires param_takes { ParamTakes sheet.now f.generics (query_of p) (at sets.now (35076 + k)) }
-    ensures { ParamStep (finder_of sheet.now f) ws.old (query_of q) (query_of p) k n count result ws.new }
+    ensures { ParamStep (finder_of sheet.now f) ws.old (query_of q) (query_of p) k found result ws.new }
 {
-    let takes = wide_offset(sets, SETS_PARAMS, k);
+    let takes = chart::field_at(sets, SETS_PARAMS, k);
     if clash::param_clashes(sheet, ws, places, f.generics, p, q, takes) {
-        return Asked::Found { count, n };
+        return Ok(found);
     }
-    param_opened(sheet, ws, places, map, f, q, p, k, n, count)
+    param_opened(sheet, ws, places, map, f, q, p, k, found)
 }
 
 // Impl parameter k of the generics, whatever its trait.
@@ -209,28 +194,26 @@ fn add_param(
     q: Query,
     p: Query,
     k: usize,
-    n: usize,
-    count: u32,
-) -> Asked
+    found: Results,
+) -> Result<Results, Stopped>
     requires sound { Sound (finder_of sheet.now f) }
     requires scratch { Scratch sheet.now places.old map.old }
     requires asking { Asking ws.old q }
     requires in_bounds { 7692 ≤ length ws.old }
     requires param_in { ParamIn (finder_of sheet.now f) p }
     requires k_bound { k < 4 }
-    requires n_bound { n ≤ 4 }
-    requires count_bound { count ≤ 4000000000 }
+    requires found_n_bound { found.n ≤ 4 }
+    requires found_count_bound { found.count ≤ 4000000000 }
     requires param_takes { ParamTakes sheet.now f.generics (query_of p) (at sets.now (35076 + k)) }
-    ensures { ParamStep (finder_of sheet.now f) ws.old (query_of q) (query_of p) k n count result ws.new }
+    ensures { ParamStep (finder_of sheet.now f) ws.old (query_of q) (query_of p) k found result ws.new }
 {
-    let same = unify::approx_eq(q.tr, p.tr);
-    if same {
-        return param_met(sheet, sets, ws, places, map, f, q, p, k, n, count);
+    if unify::approx_eq(q.tr, p.tr) {
+        return param_met(sheet, sets, ws, places, map, f, q, p, k, found);
     }
-    Asked::Found { count, n }
+    Ok(found)
 }
 
-// The generics' impl parameters: those that unify with the question are added behind n.
+// The generics' impl parameters: those that unify with the question are added behind those found.
 fn add_params(
     sheet: &[u32],
     sets: &[u32],
@@ -239,41 +222,25 @@ fn add_params(
     map: &mut [u32],
     f: Finder,
     q: Query,
-    n: usize,
-    count: u32,
-) -> Asked
+    found: Results,
+) -> Result<Results, Stopped>
     requires sound { Sound (finder_of sheet.now f) }
     requires scratch { Scratch sheet.now places.old map.old }
     requires asking { Asking ws.old q }
     requires in_bounds { 7692 ≤ length ws.old }
-    requires row { Row ws.old 1282 n }
-    requires n_bound { n ≤ 4 }
-    requires count_bound { count ≤ 4000000000 }
+    requires row { Row ws.old 1282 found.n }
+    requires found_n_bound { found.n ≤ 4 }
+    requires found_count_bound { found.count ≤ 4000000000 }
     requires taken { Taken sheet.now f.generics (takes_of sets.now) }
-    ensures { ParamsStep (finder_of sheet.now f) ws.old (query_of q) n count result ws.new }
+    ensures { ParamsStep (finder_of sheet.now f) ws.old (query_of q) found result ws.new }
 {
     let ps = queries::read_params(sheet, f.generics);
-    let mut stand = n;
-    let mut cur = count;
-    let mut k = 0;
-    while k < ps.n {
-        let p = queries::query_at(ps, k);
-        let one = add_param(sheet, sets, ws, places, map, f, q, p, k, stand, cur);
-        match one {
-            Asked::Refused { number, count } => {
-                return Asked::Refused { number, count };
-            }
-            Asked::Found { count, n } => {
-                stand = n;
-                cur = count;
-            }
-        }
-        k += 1;
+    let mut found = found;
+    for k in 0..ps.n {
+        let p = ps.items[k];
+        found = add_param(sheet, sets, ws, places, map, f, q, p, k, found)?;
     }
-    Asked::Found {
-        count: cur,
-        n: stand,
-    }
+    Ok(found)
 }
 
 // Built-in fork and drop, then the generics' impl parameters.
@@ -287,7 +254,7 @@ pub fn before_candidates(
     basic: u32,
     q: Query,
     count: u32,
-) -> Asked
+) -> Result<Results, Stopped>
     requires sound { Sound (finder_of sheet.now f) }
     requires scratch { Scratch sheet.now places.old map.old }
     requires asking { Asking ws.old q }
@@ -298,21 +265,17 @@ pub fn before_candidates(
     ensures { Begins (finder_of sheet.now f) (eqb basic 1) ws.old (query_of q) count result ws.new }
 {
     if basic == 1 {
-        return Asked::Found { count, n: 0 };
+        return Ok(Results { n: 0, count });
     }
-    let first = add_autos(sheet, ws, q, count);
-    match first {
-        Asked::Refused { number, count } => Asked::Refused { number, count },
-        Asked::Found { count, n } => add_params(sheet, sets, ws, places, map, f, q, n, count),
-    }
+    let found = add_autos(sheet, ws, q, count)?;
+    add_params(sheet, sets, ws, places, map, f, q, found)
 }
 
 // Whether the generics have no impl parameters.
 pub fn no_params(sheet: &[u32], f: Finder) -> bool
     ensures { result ≡ true → (impl_params sheet.now f.generics).1 ≡ [] }
 {
-    let head = chart::impl_params_head(sheet, f.generics);
-    head == 0
+    chart::impl_params_head(sheet, f.generics) == 0
 }
 
 // How a question begins where the generics have no impl parameters: built-in fork and drop alone.
@@ -323,7 +286,7 @@ pub fn built_ins(
     basic: u32,
     q: Query,
     count: u32,
-) -> Asked
+) -> Result<Results, Stopped>
     requires sound { Sound (finder_of sheet.now f) }
     requires asking { Asking ws.old q }
     requires in_bounds { 6410 ≤ length ws.old }
@@ -332,49 +295,9 @@ pub fn built_ins(
     ensures { Begins (finder_of sheet.now f) (eqb basic 1) ws.old (query_of q) count result ws.new }
 {
     if basic == 1 {
-        return Asked::Found { count, n: 0 };
+        return Ok(Results { n: 0, count });
     }
     add_autos(sheet, ws, q, count)
-}
-
-// No sub-questions, with a number in the place of how many there are.
-fn no_questions(n: usize) -> Queries
-    ensures { result.n ≡ n }
-{
-    Queries {
-        n,
-        trs: [0, 0, 0, 0],
-        counts: [0, 0, 0, 0],
-        args: [0, 0, 0, 0, 0, 0, 0, 0, 0, 0, 0, 0, 0, 0, 0, 0],
-    }
-}
-
-// No sub-questions.
-fn none_needed() -> Queries
-    ensures { NoneNeeded result }
-{
-    Queries {
-        n: 0,
-        trs: [0, 0, 0, 0],
-        counts: [0, 0, 0, 0],
-        args: [0, 0, 0, 0, 0, 0, 0, 0, 0, 0, 0, 0, 0, 0, 0, 0],
-    }
-}
-
-// Sub-questions as they are asked: more than four are FULL.
-fn fitted(qs: Queries) -> Queries
-    ensures { Fitted qs result }
-{
-    if 4 < qs.n {
-        return no_questions(FULL);
-    }
-    let counts = [qs.counts[0], qs.counts[1], qs.counts[2], qs.counts[3]];
-    Queries {
-        n: qs.n,
-        trs: qs.trs,
-        counts,
-        args: qs.args,
-    }
 }
 
 // The sub-questions of candidate i, whose signature has been met with the question of a table of `base` nodes.
@@ -385,24 +308,22 @@ fn seek(
     map: &mut [u32],
     base: u32,
     i: usize,
-) -> Queries
+) -> Result<Queries, Refusal>
     requires sound_sheet { SoundSheet sheet.now }
     requires scratch { Scratch sheet.now places.old map.old }
     requires i_bound { i < many sheet.now header_impls }
     requires packed { Packed dst.old }
     requires i_in_bounds { base + fresh_count sheet.now i ≤ length (types_of dst.old) }
-    ensures { Seeks sheet.now i base dst.old result dst.new }
+    ensures { Follows sheet.now i base dst.old result dst.new }
 {
     let g = chart::impl_generics(sheet, i);
-    let head = chart::impl_params_head(sheet, g);
-    if head == 0 {
-        return none_needed();
+    if chart::impl_params_head(sheet, g) == 0 {
+        return Ok(Queries::default());
     }
-    let qs = opening::need(sheet, dst, places, map, base, i);
-    fitted(qs)
+    opening::need(sheet, dst, places, map, base, i)
 }
 
-// Opens candidate i in a part that has the question's table.
+// Opens candidate i in a part that has the question's table: its sub-questions, or none where it does not unify with the question. Refused where there is no room.
 fn open_part(
     sheet: &[u32],
     dst: &mut [u32],
@@ -410,7 +331,7 @@ fn open_part(
     map: &mut [u32],
     q: Query,
     i: usize,
-) -> Queries
+) -> Result<Option<Queries>, Refusal>
     requires sound_sheet { SoundSheet sheet.now }
     requires scratch { Scratch sheet.now places.old map.old }
     requires asking { Asking dst.old q }
@@ -418,12 +339,11 @@ fn open_part(
     ensures { PartOpens sheet.now (types_of dst.old) (query_of q) i result dst.new }
 {
     let base = table::count(dst);
-    let met = opening::sign(sheet, dst, places, map, q, i);
-    match met {
-        Signed::Full => no_questions(FULL),
-        Signed::Unfit => no_questions(UNFIT),
-        Signed::Fits => seek(sheet, dst, places, map, base, i),
+    if !opening::sign(sheet, dst, places, map, q, i)? {
+        return Ok(None);
     }
+    let qs = seek(sheet, dst, places, map, base, i)?;
+    Ok(Some(qs))
 }
 
 // Opens a candidate behind slot 4, in a copy of the table.
@@ -435,7 +355,7 @@ fn open_copy(
     f: Finder,
     q: Query,
     i: usize,
-) -> Queries
+) -> Result<Option<Queries>, Refusal>
     requires sound { Sound (finder_of sheet.now f) }
     requires scratch { Scratch sheet.now places.old map.old }
     requires asking { Asking ws.old q }
@@ -454,11 +374,11 @@ pub fn open_candidate(
     ws: &mut [u32],
     places: &mut [u32],
     map: &mut [u32],
-    notes: &mut [u32; 512],
+    notes: &mut Notes,
     f: Finder,
     q: Query,
     i: usize,
-) -> Queries
+) -> Result<Option<Queries>, Refusal>
     requires sound { Sound (finder_of sheet.now f) }
     requires scratch { Scratch sheet.now places.old map.old }
     requires asking { Asking ws.old q }
@@ -467,15 +387,15 @@ pub fn open_candidate(
     requires signature_takes { SignatureTakes sheet.now i (at sets.now (34948 + i)) }
     ensures { Opens sheet.now ws.old (query_of q) i result ws.new }
 {
-    let takes = wide_offset(sets, SETS, i);
+    let takes = chart::field_at(sets, SETS, i);
     if clash::clashes(sheet, ws, places, notes, q, i, takes) {
-        return no_questions(UNFIT);
+        return Ok(None);
     }
-    let qs = open_copy(sheet, ws, places, map, f, q, i);
-    if qs.n == UNFIT {
-        clash::missed(notes);
+    let opened = open_copy(sheet, ws, places, map, f, q, i);
+    if let Ok(None) = opened {
+        notes.miss();
     }
-    qs
+    opened
 }
 
 // `find_impl_candidates` for a question.
@@ -492,18 +412,23 @@ pub fn find_candidates(
     requires n_bound { q.n ≤ 4 }
     ensures { Finds sheet.now f.source (types_of ws.now) (query_of q) basic result }
 {
-    let args = [q.args[0], q.args[1], q.args[2], q.args[3]];
-    let n = q.n;
-    admitted::find_impl_candidates(sheet, &sets[..SETS], f.source, ws, q.tr, &args[..n], basic)
+    admitted::find_impl_candidates(
+        sheet,
+        &sets[..SETS],
+        f.source,
+        ws,
+        q.tr,
+        &q.args[..q.n],
+        basic,
+    )
 }
 
-// The next candidate from an id on, or NONE.
-pub fn next_id(s: &[u32], sets: &[u32], f: Found, from: usize) -> usize
+// The next candidate from an id on.
+pub fn next_id(s: &[u32], sets: &[u32], f: Found, from: usize) -> Option<usize>
     requires indexes { Indexes s.now (sets_of sets.now) }
     requires in_bounds { 34948 ≤ length sets.now }
-    requires header_impls_bound { many s.now header_impls ≤ 384 }
     requires n_bound { f.nodes.n ≤ 6 }
-    ensures { NextId s.now (sets_of sets.now) f from result }
+    ensures { Gives s.now (sets_of sets.now) f from result }
 {
-    admitted::next(s, &sets[..SETS], f, from).unwrap_or(NONE)
+    admitted::next(s, &sets[..SETS], f, from)
 }

@@ -102,18 +102,18 @@ types_at_here ws n (suc (suc (suc (suc (suc (suc (suc (suc k)))))))) h = absurd 
 pub child_type_at : (ws : Words) (n m j w d r : ℕ) → j < 8 → m ≡ n → w ≡ at ws (4 * m + (2 + j / 3)) → d ≡ digit (j % 3) w → r ≡ word_in ws d → r ≡ at (types_at ws n) j
 child_type_at ws n m j w d r h em ew ed er = er ∙ ap (word_in ws) (ed ∙ ap (digit (j % 3)) (ew ∙ ap (λ k. at ws (4 * k + (2 + j / 3))) em)) ∙ types_at_here ws n j h
 
--- How many children node n has, by its head h, where that is told: it is its own root then.
+-- Node n, its own root, has r children, by its head h.
 pub record OwnArity (h n r : ℕ) : Type 0 where
-  pub own : r ≢ 9 → h / 1024 % 256 ≡ n
-  pub is : r ≢ 9 → r ≡ h / 32 % 16
-  pub few : r ≢ 9 → r ≤ 8
+  pub own : h / 1024 % 256 ≡ n
+  pub is : r ≡ h / 32 % 16
+  pub few : r ≤ 8
 
--- The types of roots that the children of node n, its own root, are, where they are told.
+-- The types of roots that the children of node n, its own root, are.
 pub record ChildTypes (ws : Words) (n : ℕ) (r : Row) : Type 0 where
-  pub root : r.n ≢ 9 → rep (types_of ws) n ≡ n
-  pub few : r.n ≢ 9 → r.n ≤ 8
-  pub long : r.n ≢ 9 → r.n ≤ length r.types
-  pub are : r.n ≢ 9 → take r.n r.types ≡ map (λ (c : Ty). word_of_type (type_in ws c)) (children_at (types_of ws) n)
+  pub root : rep (types_of ws) n ≡ n
+  pub few : r.n ≤ 8
+  pub long : r.n ≤ length r.types
+  pub are : take r.n r.types ≡ map (λ (c : Ty). word_of_type (type_in ws c)) (children_at (types_of ws) n)
 
 take-map : {A : Type 0} {B : Type 0} (f : A → B) (k : ℕ) (xs : List A) → take k (map f xs) ≡ map f (take k xs)
 take-map f zero xs = refl
@@ -132,26 +132,23 @@ module _ (ws : Words) (n m w h v a b c : ℕ) (known : kind_at (types_of ws) n �
   pub types_own : OwnArity h n v → a ≡ at ws (w + 2) → b ≡ at ws (w + 3) → c ≡ at ws (w + 4) → (r : Row) → r ≡ types_row ws v a b c → ChildTypes ws n r
   unfolding children_at children type_of_word eight
   types_own o ea eb ec r er = record {
-    root = λ z. own_root ∙ o.own (told z);
-    few = λ z. subst (λ k. k ≤ 8) (sym count) (o.few (told z));
-    long = λ z. omega (arith, count, o.few (told z), ap (λ (x : Row). length x.types) er);
-    are = λ z. ap (λ (x : Row). take x.n x.types) er ∙ take-map (λ (t : Ty). word_of_type (type_in ws t)) v (eight a b c) ∙ ap (map (λ (t : Ty). word_of_type (type_in ws t))) (sym (whole (told z)));
+    root = own_root ∙ o.own;
+    few = subst (λ k. k ≤ 8) (sym count) o.few;
+    long = omega (arith, count, o.few, ap (λ (x : Row). length x.types) er);
+    are = ap (λ (x : Row). take x.n x.types) er ∙ take-map (λ (t : Ty). word_of_type (type_in ws t)) v (eight a b c) ∙ ap (map (λ (t : Ty). word_of_type (type_in ws t))) (sym whole);
   }
     where
       count : r.n ≡ v
       count = ap (λ (x : Row). x.n) er
 
-      told : r.n ≢ 9 → v ≢ 9
-      told z q = z (count ∙ q)
-
-      arity : v ≢ 9 → head_arity (at ws (4 * n + 1)) ≡ v
-      arity z = ap (λ k. head_arity (at ws (k + 1))) place ∙ sym (o.is z ∙ ap head_arity eh)
+      arity : head_arity (at ws (4 * n + 1)) ≡ v
+      arity = ap (λ k. head_arity (at ws (k + 1))) place ∙ sym (o.is ∙ ap head_arity eh)
 
       word : (k x : ℕ) → x ≡ at ws (w + k) → at ws (4 * n + k) ≡ x
       word k x q = ap (λ j. at ws (j + k)) place ∙ sym q
 
-      whole : v ≢ 9 → children_at (types_of ws) n ≡ take v (eight a b c)
-      whole z = ap children (known_here ws n (kind_at (types_of ws) n) refl known) ∙ (λ t. take (arity z t) (eight (word 2 a ea t) (word 3 b eb t) (word 4 c ec t)))
+      whole : children_at (types_of ws) n ≡ take v (eight a b c)
+      whole = ap children (known_here ws n (kind_at (types_of ws) n) refl known) ∙ (λ t. take (arity t) (eight (word 2 a ea t) (word 3 b eb t) (word 4 c ec t)))
 
 -- A known node is there.
 pub known_in : (ws : Words) (n : ℕ) → kind_at (types_of ws) n ≢ 0 → n < length (types_of ws)

@@ -1,8 +1,9 @@
 // A type table (`Types` of the Rust) in a lent slice of words. Only the functions of this file know where its words stand.
 // Types cross functions as type words: 2 * node, plus 1 if inverted.
+// What a table's words are stands in each contract: tried, a struct that holds the `&mut` and says it is proved, but its callers learn nothing of the words behind it.
 #![tactic(auto)]
 
-ghost use Rattle.std.specs.Prelude.{◌≡◌, false, ◌+◌, ◌*◌, ◌/◌, ◌%◌, ◌<◌, ◌≤◌, length, get_or, set, [], map, ◌≢◌, eqb, MatchResult};
+ghost use Rattle.std.specs.Prelude.{◌≡◌, false, ◌+◌, ◌*◌, ◌/◌, ◌%◌, ◌<◌, ◌≤◌, length, get_or, set, [], map, ◌≢◌, eqb, IfSome, IfNone, MatchResult};
 ghost use Rattle.rules.specs.Sheet.{at};
 ghost use Rattle.rules.specs.Lists.{bit};
 ghost use Rattle.rules.specs.Types.{unknown, known, new_node, node_at, xor as xor_of, invert_if, invert_state, find as find_in, state_at, size_at, relabel, or_else, hang as hang_in, join as join_in};
@@ -12,14 +13,19 @@ ghost use Rattle.rules.specs.Transfer.{type_of_word};
 ghost use Rattle.rules.specs.Answer.{word_of_type};
 ghost use Rattle.table.specs.Reads.{digit};
 ghost use Rattle.rules.specs.Limits.{limit_nodes};
-ghost use Rattle.table.specs.Packing.{table_length, types_of, node_from, with_head, Packed, Put, Rewritten, Pushes, Becomes, Roots, Head, Above, TypeWords, up_at, kind_at, inverted_at, id_at};
-ghost use Rattle.table.specs.Writes.{triple, last};
+ghost use Rattle.table.specs.Packing.{table_length, types_of, node_from, with_head, Packed, Put, Rewritten, Pushes, Becomes, Roots, up_at, kind_at, inverted_at, id_at};
 ghost use Rattle.table.specs.Joins.{moved, root_node};
 ghost use Rattle.table.specs.Alike.{Matched, Alike};
 ghost use Rattle.table.specs.Pushed.{pushed_number};
 ghost use Rattle.table.specs.ChildTypes.{type_in, types_row, types_at, row_at, OwnArity, ChildTypes};
 
 use refusals::Refusal;
+
+mod fields;
+mod known;
+
+use fields::Head;
+pub use known::KnownType;
 
 // The words of a table of the most nodes, and its most nodes.
 pub const TABLE: usize = 1025;
@@ -54,14 +60,39 @@ pub fn count(ws: &[u32]) -> u32
     words::word(ws, 0).min(NODES)
 }
 
+// The head of node n, if there is such a node.
+fn head_of(ws: &[u32], n: u32) -> Option<Head>
+    ensures there { IfSome result (λ h. n < length (types_of ws.now)) }
+    ensures is { IfSome result (λ h. h.0 ≡ at ws.now (4 * n + 1)) }
+    ensures past { IfNone result (length (types_of ws.now) ≤ n) }
+{
+    if n < count(ws) {
+        Some(Head(field(ws, n, HEAD)))
+    } else {
+        None
+    }
+}
+
+// The head of node n, if it is known.
+fn known_head(ws: &[u32], n: u32) -> Option<Head>
+    ensures known { IfSome result (λ h. kind_at (types_of ws.now) n ≢ 0) }
+    ensures is { IfSome result (λ h. h.0 ≡ at ws.now (4 * n + 1)) }
+    ensures none { IfNone result (kind_at (types_of ws.now) n ≡ 0) }
+{
+    let h = head_of(ws, n)?;
+    if h.kind() == 0 {
+        return None;
+    }
+    Some(h)
+}
+
 // Which type of its root node n is.
 pub fn up_of(ws: &[u32], n: u32) -> u32
     ensures { result ≡ word_of_type (up_at (types_of ws.now) n) }
 {
-    if n < count(ws) {
-        field(ws, n, HEAD) / 512 % 512
-    } else {
-        0
+    match head_of(ws, n) {
+        Some(h) => h.up(),
+        None => 0,
     }
 }
 
@@ -77,10 +108,9 @@ pub fn size_of(ws: &[u32], n: u32) -> u32
     ensures is { result ≡ size_at (types_of ws.now) n }
     ensures small { result < 512 }
 {
-    if n < count(ws) {
-        field(ws, n, HEAD) / 262144 % 512
-    } else {
-        1
+    match head_of(ws, n) {
+        Some(h) => h.size(),
+        None => 1,
     }
 }
 
@@ -88,10 +118,9 @@ pub fn size_of(ws: &[u32], n: u32) -> u32
 pub fn kind_of(ws: &[u32], n: u32) -> u32
     ensures { result ≡ kind_at (types_of ws.now) n }
 {
-    if n < count(ws) {
-        field(ws, n, HEAD) % 16
-    } else {
-        0
+    match head_of(ws, n) {
+        Some(h) => h.kind(),
+        None => 0,
     }
 }
 
@@ -99,33 +128,31 @@ pub fn kind_of(ws: &[u32], n: u32) -> u32
 pub fn inverted_of(ws: &[u32], n: u32) -> bool
     ensures { result ≡ inverted_at (types_of ws.now) n }
 {
-    kind_of(ws, n) != 0 && field(ws, n, HEAD) / 16 % 2 == 1
+    match known_head(ws, n) {
+        Some(h) => h.is_inverted(),
+        None => false,
+    }
 }
 
 // The id of node n; 0 where it is unknown.
 pub fn id_of(ws: &[u32], n: u32) -> u32
     ensures { result ≡ id_at (types_of ws.now) n }
 {
-    if kind_of(ws, n) == 0 {
+    let Some(h) = known_head(ws, n) else {
         return 0;
-    }
+    };
     let z = field(ws, n, LAST_CHILDREN);
-    if field(ws, n, HEAD) / 32 % 16 == 0 {
-        z
-    } else {
-        z / 262144
-    }
+    if h.arity() == 0 { z } else { z / 262144 }
 }
 
 // How many children node n has.
 pub fn child_count(ws: &[u32], n: u32) -> usize
     ensures { result ≡ length (children_at (types_of ws.now) n) }
 {
-    if kind_of(ws, n) == 0 {
-        return 0;
+    match known_head(ws, n) {
+        Some(h) => MOST.min(h.arity() as usize),
+        None => 0,
     }
-    let m = field(ws, n, HEAD) / 32 % 16;
-    MOST.min(m as usize)
 }
 
 // The j-th of three type words in a word.
@@ -150,7 +177,7 @@ pub fn child(ws: &[u32], n: u32, j: usize) -> u32
     }
 }
 
-// The first n of eight types; n is 9 where they are not told.
+// The first n of eight types: all eight are computed at once, without tests, so that they stand in no slice.
 #[derive(Clone, Copy)]
 pub struct Row {
     pub n: usize,
@@ -163,7 +190,7 @@ fn type_read(ws: &[u32], t: u32) -> u32
     requires t_bound { t < 512 }
     ensures { result ≡ word_of_type (type_in ws.now (type_of_word t)) }
 {
-    let u = ws[NODE * (t / 2) as usize + HEAD] / 512 % 512;
+    let u = Head(ws[NODE * (t / 2) as usize + HEAD]).up();
     u / 2 * 2 + (u + t) % 2
 }
 
@@ -185,43 +212,43 @@ fn types_read(ws: &[u32], n: usize, x: u32, y: u32, z: u32) -> Row
     Row { n, types }
 }
 
-// How many children node n with head h has; 9 where it is not its own root.
-fn own_arity(h: u32, n: u32) -> usize
-    ensures { OwnArity h n result }
+// How many children node n with head h has, if it is its own root.
+fn own_arity(h: Head, n: u32) -> Option<usize>
+    ensures { IfSome result (OwnArity h.0 n) }
 {
-    if h / 1024 % 256 != n {
-        return 9;
+    if h.up() / 2 != n {
+        return None;
     }
-    let m = (h / 32 % 16) as usize;
-    if m <= MOST { m } else { 9 }
+    let m = h.arity() as usize;
+    if m <= MOST { Some(m) } else { None }
 }
 
-// The types of roots that the children of known node n are, read without tests; not told where the node is not its own root.
+// The types of roots that the children of known node n are, read without tests, if the node is its own root.
 #[tactic(auto, using(crate::specs::ChildTypes::known_words))]
-pub fn child_types(ws: &[u32], n: u32) -> Row
+pub fn child_types(ws: &[u32], n: u32) -> Option<Row>
     requires packed { Packed ws.now }
     requires n_nonzero { kind_at (types_of ws.now) n ≢ 0 }
-    ensures { ChildTypes ws.now n result }
+    ensures { IfSome result (ChildTypes ws.now n) }
 {
     let w = NODE * n as usize;
-    let m = own_arity(ws[w + HEAD], n);
-    types_read(
+    let m = own_arity(Head(ws[w + HEAD]), n)?;
+    Some(types_read(
         ws,
         m,
         ws[w + CHILDREN],
         ws[w + MORE_CHILDREN],
         ws[w + LAST_CHILDREN],
-    )
+    ))
 }
 
-// How many children known node n has; 9 where it is not its own root.
+// How many children known node n has, if it is its own root.
 #[tactic(auto, using(crate::specs::ChildTypes::known_words))]
-pub fn own_children(ws: &[u32], n: u32) -> usize
+pub fn own_children(ws: &[u32], n: u32) -> Option<usize>
     requires packed { Packed ws.now }
     requires n_nonzero { kind_at (types_of ws.now) n ≢ 0 }
-    ensures { ChildTypes ws.now n (row_at ws.now n result) }
+    ensures { IfSome result (λ m. ChildTypes ws.now n (row_at ws.now n m)) }
 {
-    own_arity(ws[NODE * n as usize + HEAD], n)
+    own_arity(Head(ws[NODE * n as usize + HEAD]), n)
 }
 
 // The type of a root that child j of node n is, read without tests.
@@ -284,72 +311,25 @@ pub fn find(ws: &[u32], t: u32) -> u32
 }
 
 // Writes the four words of node n.
-fn put(ws: &mut [u32], n: u32, h: u32, x: u32, y: u32, z: u32)
+fn put(ws: &mut [u32], n: u32, h: Head, x: u32, y: u32, z: u32)
     requires n_lt_limit_nodes { n < limit_nodes }
     requires table_length_in_bounds { table_length ≤ length ws.old }
-    ensures { Put ws.old ws.new n (node_from h x y z) }
+    ensures { Put ws.old ws.new n (node_from h.0 x y z) }
 {
     let w = n as usize;
-    ws[NODE * w + HEAD] = h;
+    ws[NODE * w + HEAD] = h.0;
     ws[NODE * w + CHILDREN] = x;
     ws[NODE * w + MORE_CHILDREN] = y;
     ws[NODE * w + LAST_CHILDREN] = z;
 }
 
 // Writes the head of node n, and leaves its other words.
-fn put_head(ws: &mut [u32], n: u32, h: u32)
+fn put_head(ws: &mut [u32], n: u32, h: Head)
     requires n_lt_limit_nodes { n < limit_nodes }
     requires table_length_in_bounds { table_length ≤ length ws.old }
-    ensures { Put ws.old ws.new n (with_head h ws.old n) }
+    ensures { Put ws.old ws.new n (with_head h.0 ws.old n) }
 {
-    ws[NODE * n as usize + HEAD] = h;
-}
-
-// A head from its fields: the kind, inverted or not, how many children, which type of its root a node is, the size of its class.
-fn head(kind: u32, inverted: u32, arity: u32, up: u32, size: u32) -> u32
-    requires kind_bound { kind < 16 }
-    requires inverted_bound { inverted ≤ 1 }
-    requires arity_bound { arity < 16 }
-    requires up_bound { up < 512 }
-    requires size_bound { size < 512 }
-    ensures { Head result kind up size arity (eqb inverted 1) }
-{
-    kind + 16 * inverted + (32 * arity + 512 * (up + 512 * size))
-}
-
-// The type word at a place.
-fn type_word(cs: &[u32], i: usize) -> u32
-    requires { TypeWords cs.now }
-    ensures is { result ≡ at cs.now i }
-    ensures small { result < 512 }
-{
-    words::word(cs, i)
-}
-
-// Three type words in a word.
-fn triple_of(cs: &[u32], i: usize) -> u32
-    requires type_words { TypeWords cs.now }
-    requires i_bound { i < 8 }
-    ensures { result ≡ triple cs.now i }
-{
-    let a = type_word(cs, i);
-    let b = type_word(cs, i + 1);
-    let c = type_word(cs, i + 2);
-    a + (512 * b + 262144 * c)
-}
-
-// The last two of eight type words, and an id above them; the id alone where there are no type words.
-fn last_of(cs: &[u32], id: u32) -> u32
-    requires type_words { TypeWords cs.now }
-    requires above { Above id (length cs.now) }
-    ensures { result ≡ last cs.now id }
-{
-    if cs.is_empty() {
-        return id;
-    }
-    let a = type_word(cs, 6);
-    let b = type_word(cs, 7);
-    a + (512 * b + 262144 * id)
+    ws[NODE * n as usize + HEAD] = h.0;
 }
 
 // Writes a new unknown at node n.
@@ -358,27 +338,17 @@ fn write_unknown(ws: &mut [u32], n: u32)
     requires table_length_in_bounds { table_length ≤ length ws.old }
     ensures { Put ws.old ws.new n (new_node n unknown) }
 {
-    let h = head(0, 0, 0, 2 * n, 1);
-    put_head(ws, n, h)
+    put_head(ws, n, Head::new(0, false, 0, 2 * n, 1))
 }
 
 // Writes a new known type at node n.
-fn write_known(ws: &mut [u32], n: u32, inverted: bool, kind: u32, id: u32, cs: &[u32])
+fn write_known(ws: &mut [u32], n: u32, t: &KnownType)
     requires n_lt_limit_nodes { n < limit_nodes }
     requires table_length_in_bounds { table_length ≤ length ws.old }
-    requires kind_nonzero { kind ≢ 0 }
-    requires kind_bound { kind < 16 }
-    requires above { Above id (length cs.now) }
-    requires cs_len_bound { length cs.now ≤ 8 }
-    requires type_words { TypeWords cs.now }
-    ensures { Put ws.old ws.new n (new_node n (known inverted kind id (map type_of_word cs.now))) }
+    ensures { Put ws.old ws.new n (new_node n (known t.now.inverted t.now.kind t.now.id (map type_of_word t.now.children.now))) }
 {
-    let i = u32::from(inverted);
-    let h = head(kind, i, cs.len() as u32, 2 * n, 1);
-    let x = triple_of(cs, 0);
-    let y = triple_of(cs, 3);
-    let z = last_of(cs, id);
-    put(ws, n, h, x, y, z)
+    let h = Head::new(t.kind, t.inverted, t.children.len() as u32, 2 * n, 1);
+    put(ws, n, h, t.triple(0), t.triple(3), t.last())
 }
 
 // The number of the next node, where there is room for it.
@@ -408,42 +378,26 @@ pub fn new_var(ws: &mut [u32]) -> Result<u32, Refusal>
 }
 
 // Pushes a known type and gives its number. At the limit nothing changes.
-pub fn new_known(
-    ws: &mut [u32],
-    inverted: bool,
-    kind: u32,
-    id: u32,
-    cs: &[u32],
-) -> Result<u32, Refusal>
-    requires packed { Packed ws.old }
-    requires kind_nonzero { kind ≢ 0 }
-    requires kind_bound { kind < 16 }
-    requires above { Above id (length cs.now) }
-    requires cs_len_bound { length cs.now ≤ 8 }
-    requires type_words { TypeWords cs.now }
-    ensures pushes { Pushes ws.old ws.new (known inverted kind id (map type_of_word cs.now)) (pushed_number result) }
+pub fn new_known(ws: &mut [u32], t: &KnownType) -> Result<u32, Refusal>
+    requires { Packed ws.old }
+    ensures pushes { Pushes ws.old ws.new (known t.now.inverted t.now.kind t.now.id (map type_of_word t.now.children.now)) (pushed_number result) }
     ensures room { MatchResult result (λ n. n < limit_nodes) (λ refusal. refusal ≡ Refusal.TypesFull) }
 {
     let n = next_number(ws)?;
-    write_known(ws, n, inverted, kind, id, cs);
+    write_known(ws, n, t);
     ws[0] = n + 1;
     Ok(n)
 }
 
 // Makes root n, a class of its own, known.
-pub fn set_known(ws: &mut [u32], n: u32, inverted: bool, kind: u32, id: u32, cs: &[u32])
+pub fn set_known(ws: &mut [u32], n: u32, t: &KnownType)
     requires packed { Packed ws.old }
     requires n_in_bounds { n < length (types_of ws.old) }
     requires n_value { rep (types_of ws.old) n ≡ n }
     requires n_value_2 { size_at (types_of ws.old) n ≡ 1 }
-    requires kind_nonzero { kind ≢ 0 }
-    requires kind_bound { kind < 16 }
-    requires above { Above id (length cs.now) }
-    requires cs_len_bound { length cs.now ≤ 8 }
-    requires type_words { TypeWords cs.now }
-    ensures { Becomes ws.new (set (types_of ws.old) n (new_node n (known inverted kind id (map type_of_word cs.now)))) }
+    ensures { Becomes ws.new (set (types_of ws.old) n (new_node n (known t.now.inverted t.now.kind t.now.id (map type_of_word t.now.children.now)))) }
 {
-    write_known(ws, n, inverted, kind, id, cs)
+    write_known(ws, n, t)
 }
 
 // Copies a table: the words of the nodes that it has.
@@ -473,12 +427,12 @@ pub fn type_of(inverted: bool, n: u32) -> u32
 }
 
 // The head of a node.
-fn head_at(ws: &[u32], n: u32) -> u32
+fn head_at(ws: &[u32], n: u32) -> Head
     requires table_length_in_bounds { table_length ≤ length ws.now }
     requires n_lt_limit_nodes { n < limit_nodes }
-    ensures { result ≡ at ws.now (4 * n + 1) }
+    ensures { result.0 ≡ at ws.now (4 * n + 1) }
 {
-    ws[NODE * n as usize + HEAD]
+    Head(ws[NODE * n as usize + HEAD])
 }
 
 // Which type of its root node n is, where there is such a node.
@@ -487,7 +441,7 @@ fn up_there(ws: &[u32], n: u32) -> u32
     requires n_in_bounds { n < length (types_of ws.now) }
     ensures { result ≡ word_of_type (up_at (types_of ws.now) n) }
 {
-    head_at(ws, n) / 512 % 512
+    head_at(ws, n).up()
 }
 
 // Makes node n type u of its root.
@@ -497,8 +451,8 @@ fn set_up(ws: &mut [u32], n: u32, u: u32)
     requires u_bound { u < 512 }
     ensures { Rewritten ws.old ws.new (set (types_of ws.old) n (moved (type_of_word u) (node_at (types_of ws.old) n))) }
 {
-    let h = field(ws, n, HEAD);
-    put_head(ws, n, h % 512 + 512 * (u + 512 * (h / 262144 % 512)))
+    let h = Head(field(ws, n, HEAD));
+    put_head(ws, n, h.with_up(u))
 }
 
 // Node n, if it is of the class of root lo, goes into the class of which type t is.
@@ -542,21 +496,11 @@ fn relabel_members(ws: &mut [u32], lo: u32, t: u32)
     relabel_node(ws, lo, lo, t)
 }
 
-// The head of a root of a size, for the state that another head has, inverted or not.
-fn root_head(h: u32, n: u32, size: u32, inverted: bool) -> u32
-    requires n_lt_limit_nodes { n < limit_nodes }
-    requires size_bound { size < 512 }
-    ensures { Head result (h % 16) (2 * n) size (h / 32 % 16) (xor_of inverted (eqb (h / 16 % 2) 1)) }
-{
-    let i = u32::from(inverted ^ (h / 16 % 2 == 1));
-    head(h % 16, i, h / 32 % 16, 2 * n, size)
-}
-
 // Copies the words of node m to node n, all but the head.
-fn copy_node(ws: &mut [u32], n: u32, m: u32, h: u32)
+fn copy_node(ws: &mut [u32], n: u32, m: u32, h: Head)
     requires n_lt_limit_nodes { n < limit_nodes }
     requires table_length_in_bounds { table_length ≤ length ws.old }
-    ensures { Put ws.old ws.new n (with_head h ws.old m) }
+    ensures { Put ws.old ws.new n (with_head h.0 ws.old m) }
 {
     let x = field(ws, m, CHILDREN);
     let y = field(ws, m, MORE_CHILDREN);
@@ -572,8 +516,8 @@ fn write_state(ws: &mut [u32], n: u32, m: u32, inverted: bool, size: u32)
     requires size_bound { size < 512 }
     ensures { Rewritten ws.old ws.new (set (types_of ws.old) n (root_node n (invert_state inverted (state_at (types_of ws.old) m)) size)) }
 {
-    let h = root_head(field(ws, m, HEAD), n, size, inverted);
-    copy_node(ws, n, m, h)
+    let h = Head(field(ws, m, HEAD));
+    copy_node(ws, n, m, h.at_root(n, size, inverted))
 }
 
 // Makes root n of a size know what either of n and m is, m inverted or not.

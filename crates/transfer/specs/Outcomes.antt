@@ -1,6 +1,7 @@
 -- Parameters that are given or not, and what the functions that move a type answer, in the words of the rules' notions: 0 for none, else a type word and 1.
 use Rattle.std.specs.Prelude.{ℕ, ◌+◌, Option, Some, None, Result, Ok, Err, true, false, []}
 use Rattle.std.proofs.Common.{Bor}
+use Rattle.std.proofs.Props.{props}
 use Rattle.std.proofs.Math.Option as rules
 use mathlib.Core.List.{List}
 use Rattle.rules.specs.Lists.{Words}
@@ -18,6 +19,11 @@ params_in (Some ps) = params_of true ps.now
 abbrev pub GivenWords : Option (Bor Words) → Type 0
 GivenWords None = Unit {0}
 GivenWords (Some ps) = TypeWords ps.now
+
+-- There is one proof of it.
+pub given_once : (o : Option (Bor Words)) → IsProp (GivenWords o)
+given_once None = hlevel props
+given_once (Some ps) = hlevel props
 
 -- The type that stands for another, if any does.
 abbrev pub stands : Option ℕ → ℕ

@@ -9,16 +9,7 @@ ghost use Rattle.transfer.specs.Cells.{Gathered};
 ghost use Rattle.transfer.specs.Sources.{own_roots};
 
 use crate::sources::Source;
-
-const NODE_KIND: usize = 1;
-
-const NODE_INVERTED: usize = 2;
-
-const NODE_ID: usize = 3;
-
-const NODE_CHILDREN: usize = 4;
-
-const CELL_TYPE: usize = 1;
+use chart::layout::{CELL_TYPE, NODE_CHILDREN, NODE_ID, NODE_INVERTED, NODE_KIND};
 
 // Node n is the record at places[n], its own root.
 #[derive(Clone, Copy)]

@@ -1,6 +1,8 @@
 // `TypeTransfer` of the Rust: types moved from one table to another, with all that they reach.
 // The source is of any form (sources.rt), the table that is filled is packed. The mapping has a word for each node of the source: 0, or 1 and the type word of what it
 // became (words, since the caller lends them). Where parameters are given, a Param is the type in its place.
+// The table and the mapping are two parameters, and no struct of both: a call that takes two fields of a lent struct, each a `&mut`, is not covered by the borrow check, so that a proof does not close.
+// Types are the first m of a buffer, and not the part of it alone: a part that is lent comes back to a proof as two lists, to be joined by each caller.
 #![tactic(auto)]
 
 ghost use Rattle.std.specs.Prelude.{◌≡◌, false, not, map as map_list, suc, ◌+◌, ◌*◌, ◌/◌, ◌<◌, ◌≤◌, length, take, IfErr, MatchResult};
@@ -14,26 +16,34 @@ ghost use Rattle.table.specs.Packing.{types_of, Packed, TypeWords};
 ghost use Rattle.table.specs.Pushed.{pushed_number};
 ghost use Rattle.transfer.specs.Moving.{Mapping, Level, Levels, Rooted, Own, Known, Alike, Param, Gone, GoneRecord, Settles, Enters, Typed, Fills, Transfers, TransfersAll, fresh, filled};
 ghost use Rattle.transfer.specs.Imports.{types_in, Inside, Imports, ImportsImpl, ImportsImpls};
-ghost use Rattle.transfer.specs.Outcomes.{params_in, GivenWords, stands, went};
+ghost use Rattle.transfer.specs.Outcomes.{params_in, GivenWords, given_once, stands, went};
 
 mod chained; // chained.rt: a table as the records of a chain
 mod sources; // sources.rt: what a source is, and packed words as one
 
 pub use chained::Records;
+use chart::layout;
 use refusals::Refusal;
 pub use sources::{PackedTable, Source};
+use table::KnownType;
 
-const PARAM: u32 = 1;
+// What types are moved from: a table, and type words for its Params, where they are given.
+#[derive(Drop)]
+pub struct Origin<'a, S: Source> {
+    pub table: &'a S,
+    pub params: Option<&'a [u32]>,
+    pub ghost given: { GivenWords params } by { given_once params },
+}
 
-// What root type r stands for as a Param.
-fn param_type<S: Source>(src: &S, params: Option<&[u32]>, r: u32) -> Option<u32>
-    requires { GivenWords params }
-    ensures { Param (S.types src.now) (params_in params.entry) r (stands result) }
+// What root type r stands for as a Param. (One kind is asked for, by its number.)
+fn param_type<S: Source>(from: &Origin<S>, r: u32) -> Option<u32>
+    ensures { Param (S.types from.now.table.now) (params_in from.now.params) r (stands result) }
 {
-    let Some(ps) = params else {
+    let Some(ps) = from.params else {
         return None;
     };
-    if src.kind_of(r / 2) != PARAM {
+    let src = from.table;
+    if src.kind_of(r / 2) as usize != layout::KIND_PARAM {
         return None;
     }
     let p = words::word(ps, src.id_of(r / 2) as usize);
@@ -68,15 +78,14 @@ fn gone_type<S: Source>(src: &S, map: &[u32], t: u32) -> Option<u32>
 }
 
 // What stands for root type r already, where it went or its parameter.
-fn settled_type<S: Source>(src: &S, map: &[u32], params: Option<&[u32]>, r: u32) -> Option<u32>
-    requires type_words { GivenWords params }
-    requires mapping { Mapping (length (S.types src.now)) map.now }
-    requires r_in_bounds { r / 2 < length (S.types src.now) }
-    ensures { Settles (S.types src.now) (params_in params.entry) map.now r (stands result) }
+fn settled_type<S: Source>(from: &Origin<S>, map: &[u32], r: u32) -> Option<u32>
+    requires mapping { Mapping (length (S.types from.now.table.now)) map.now }
+    requires r_in_bounds { r / 2 < length (S.types from.now.table.now) }
+    ensures { Settles (S.types from.now.table.now) (params_in from.now.params) map.now r (stands result) }
 {
     match mapped_type(map, r) {
         Some(t) => Some(t),
-        None => param_type(src, params, r),
+        None => param_type(from, r),
     }
 }
 
@@ -109,10 +118,13 @@ fn fill<S: Source>(src: &S, r: u32, dst: &mut [u32], n: u32, cs: &[u32]) -> u32
     requires type_words { TypeWords cs.now }
     ensures { Fills (S.types src.now) dst.old dst.new cs.now r n (result + 1) }
 {
-    let i = src.inverted_of(r / 2);
-    let k = src.kind_of(r / 2);
-    let d = src.id_of(r / 2);
-    table::set_known(dst, n, i, k, d, cs);
+    let known = KnownType {
+        inverted: src.inverted_of(r / 2),
+        kind: src.kind_of(r / 2),
+        id: src.id_of(r / 2),
+        children: cs,
+    };
+    table::set_known(dst, n, &known);
     new_type(n, r)
 }
 
@@ -120,105 +132,97 @@ fn fill<S: Source>(src: &S, r: u32, dst: &mut [u32], n: u32, cs: &[u32]) -> u32
 // refused where that has no room.
 #[cycle(transfer)]
 pub fn transfer_type<S: Source>(
-    src: &S,
+    from: &Origin<S>,
     dst: &mut [u32],
     map: &mut [u32],
-    params: Option<&[u32]>,
     t: u32,
     left: usize,
 ) -> Result<u32, Refusal>
-    requires neat { Neat (S.types src.now) }
-    requires type_words { GivenWords params }
+    requires neat { Neat (S.types from.now.table.now) }
     requires packed { Packed dst.old }
-    requires mapping { Mapping (length (S.types src.now)) map.old }
-    requires level { Level (S.types src.now) (type_of_word t) (suc left) }
-    ensures moves { Transfers (S.types src.now) (transfer_in (suc left) (S.types src.now) (params_in params.entry) (type_of_word t)) dst.old map.old dst.new map.new (went result) }
+    requires mapping { Mapping (length (S.types from.now.table.now)) map.old }
+    requires level { Level (S.types from.now.table.now) (type_of_word t) (suc left) }
+    ensures moves { Transfers (S.types from.now.table.now) (transfer_in (suc left) (S.types from.now.table.now) (params_in from.now.params) (type_of_word t)) dst.old map.old dst.new map.new (went result) }
     ensures full { IfErr result (λ refusal. refusal ≡ Refusal.TypesFull) }
 {
-    let r = src.find(t);
-    match settled_type(src, map, params, r) {
+    let r = from.table.find(t);
+    match settled_type(from, map, r) {
         Some(u) => Ok(u),
-        None => transfer_root(src, dst, map, params, r, left),
+        None => transfer_root(from, dst, map, r, left),
     }
 }
 
 // Moves root type r, for which nothing stands yet: a new node, and then its children.
 #[cycle(transfer)]
 fn transfer_root<S: Source>(
-    src: &S,
+    from: &Origin<S>,
     dst: &mut [u32],
     map: &mut [u32],
-    params: Option<&[u32]>,
     r: u32,
     left: usize,
 ) -> Result<u32, Refusal>
-    requires neat { Neat (S.types src.now) }
-    requires type_words { GivenWords params }
+    requires neat { Neat (S.types from.now.table.now) }
     requires packed { Packed dst.old }
-    requires mapping { Mapping (length (S.types src.now)) map.old }
-    requires rooted { Rooted (S.types src.now) (r / 2) (suc left) }
-    ensures moves { Transfers (S.types src.now) (fresh left (S.types src.now) (params_in params.entry) (type_of_word r)) dst.old map.old dst.new map.new (went result) }
+    requires mapping { Mapping (length (S.types from.now.table.now)) map.old }
+    requires rooted { Rooted (S.types from.now.table.now) (r / 2) (suc left) }
+    ensures moves { Transfers (S.types from.now.table.now) (fresh left (S.types from.now.table.now) (params_in from.now.params) (type_of_word r)) dst.old map.old dst.new map.new (went result) }
     ensures full { IfErr result (λ refusal. refusal ≡ Refusal.TypesFull) }
 {
     let n = push_node(dst, map, r)?;
-    if src.kind_of(r / 2) == 0 {
+    if from.table.kind_of(r / 2) == 0 {
         return Ok(new_type(n, r));
     }
-    transfer_known(src, dst, map, params, r, n, left)
+    transfer_known(from, dst, map, r, n, left)
 }
 
 // Moves the children of root type r, and fills its node n in.
 #[cycle(transfer)]
 fn transfer_known<S: Source>(
-    src: &S,
+    from: &Origin<S>,
     dst: &mut [u32],
     map: &mut [u32],
-    params: Option<&[u32]>,
     r: u32,
     n: u32,
     left: usize,
 ) -> Result<u32, Refusal>
-    requires neat { Neat (S.types src.now) }
-    requires type_words { GivenWords params }
+    requires neat { Neat (S.types from.now.table.now) }
     requires packed { Packed dst.old }
-    requires mapping { Mapping (length (S.types src.now)) map.old }
-    requires rooted { Rooted (S.types src.now) (r / 2) (suc left) }
-    requires known { Known (S.types src.now) (r / 2) }
+    requires mapping { Mapping (length (S.types from.now.table.now)) map.old }
+    requires rooted { Rooted (S.types from.now.table.now) (r / 2) (suc left) }
+    requires known { Known (S.types from.now.table.now) (r / 2) }
     requires own { Own (types_of dst.old) n }
-    ensures moves { Transfers (S.types src.now) (filled left (S.types src.now) (params_in params.entry) (type_of_word r) n) dst.old map.old dst.new map.new (went result) }
+    ensures moves { Transfers (S.types from.now.table.now) (filled left (S.types from.now.table.now) (params_in from.now.params) (type_of_word r) n) dst.old map.old dst.new map.new (went result) }
     ensures full { IfErr result (λ refusal. refusal ≡ Refusal.TypesFull) }
 {
     let mut cs = [0u32; 8];
-    let m = src.read_children(r / 2, &mut cs);
-    transfer_each(src, dst, map, params, &mut cs, m, left)?;
-    Ok(fill(src, r, dst, n, &cs[..m]))
+    let m = from.table.read_children(r / 2, &mut cs);
+    transfer_each(from, dst, map, &mut cs, m, left)?;
+    Ok(fill(from.table, r, dst, n, &cs[..m]))
 }
 
 // Moves the first m types of ts, in place, from each of which every way down has fewer than `left` steps; refused where there is no room.
 #[cycle(transfer)]
 fn transfer_each<S: Source>(
-    src: &S,
+    from: &Origin<S>,
     dst: &mut [u32],
     map: &mut [u32],
-    params: Option<&[u32]>,
     ts: &mut [u32],
     m: usize,
     left: usize,
 ) -> Result<(), Refusal>
-    requires neat { Neat (S.types src.now) }
-    requires type_words { GivenWords params }
+    requires neat { Neat (S.types from.now.table.now) }
     requires packed { Packed dst.old }
-    requires mapping { Mapping (length (S.types src.now)) map.old }
+    requires mapping { Mapping (length (S.types from.now.table.now)) map.old }
     requires m_in_bounds { m ≤ length ts.old }
-    requires levels { Levels (S.types src.now) (take m ts.old) left }
-    ensures moves { TransfersAll (S.types src.now) (transfer_each (transfer_in left (S.types src.now) (params_in params.entry)) (map_list type_of_word (take m ts.old))) dst.old map.old dst.new map.new ts.old ts.new m (is_ok result) }
+    requires levels { Levels (S.types from.now.table.now) (take m ts.old) left }
+    ensures moves { TransfersAll (S.types from.now.table.now) (transfer_each (transfer_in left (S.types from.now.table.now) (params_in from.now.params)) (map_list type_of_word (take m ts.old))) dst.old map.old dst.new map.new ts.old ts.new m (is_ok result) }
     ensures full { IfErr result (λ refusal. refusal ≡ Refusal.TypesFull) }
 {
     for i in 0..m {
         let t = ts[i];
-        ts[i] = match gone_type(src, map, t) {
+        ts[i] = match gone_type(from.table, map, t) {
             Some(u) => u,
-            None => transfer_type(src, dst, map, params, t, left - 1)?,
+            None => transfer_type(from, dst, map, t, left - 1)?,
         };
     }
     Ok(())
@@ -226,24 +230,22 @@ fn transfer_each<S: Source>(
 
 // `transfer` of the first m types of ts, in place: the mapping goes on. Refused where there is no room.
 pub fn transfer_types<S: Source>(
-    src: &S,
+    from: &Origin<S>,
     dst: &mut [u32],
     map: &mut [u32],
-    params: Option<&[u32]>,
     ts: &mut [u32],
     m: usize,
 ) -> Result<(), Refusal>
-    requires neat { Neat (S.types src.now) }
-    requires type_words { GivenWords params }
+    requires neat { Neat (S.types from.now.table.now) }
     requires packed { Packed dst.old }
-    requires mapping { Mapping (length (S.types src.now)) map.old }
+    requires mapping { Mapping (length (S.types from.now.table.now)) map.old }
     requires m_in_bounds { m ≤ length ts.old }
-    requires inside { Inside (S.types src.now) (take m ts.old) }
-    ensures moves { TransfersAll (S.types src.now) (transfer_types (S.types src.now) (params_in params.entry) (types_in m ts.old)) dst.old map.old dst.new map.new ts.old ts.new m (is_ok result) }
+    requires inside { Inside (S.types from.now.table.now) (take m ts.old) }
+    ensures moves { TransfersAll (S.types from.now.table.now) (transfer_types (S.types from.now.table.now) (params_in from.now.params) (types_in m ts.old)) dst.old map.old dst.new map.new ts.old ts.new m (is_ok result) }
     ensures full { IfErr result (λ refusal. refusal ≡ Refusal.TypesFull) }
 {
-    let n = src.count();
-    transfer_each(src, dst, map, params, ts, m, n + 1)
+    let n = from.table.count();
+    transfer_each(from, dst, map, ts, m, n + 1)
 }
 
 // `import` of the first m types of ts, in place. Refused where there is no room.
@@ -265,7 +267,8 @@ pub fn import_types<S: Source>(
     ensures full { IfErr result (λ refusal. refusal ≡ Refusal.TypesFull) }
 {
     words::clear(map, src.count());
-    transfer_types(src, dst, map, params, ts, m)
+    let from = Origin { table: src, params };
+    transfer_types(&from, dst, map, ts, m)
 }
 
 // `export` of the first m types of ts, in place, into a table of its own. Refused where there is no room.
@@ -290,42 +293,38 @@ pub fn export_types<S: Source>(
 
 // `import` of an `ImplType` of any trait, whose arguments are the first m types of ts, in place. Refused where there is no room.
 pub fn import_impl_type<S: Source>(
-    src: &S,
+    from: &Origin<S>,
     dst: &mut [u32],
     map: &mut [u32],
-    params: Option<&[u32]>,
     ts: &mut [u32],
     m: usize,
 ) -> Result<(), Refusal>
-    requires neat { Neat (S.types src.now) }
-    requires type_words { GivenWords params }
+    requires neat { Neat (S.types from.now.table.now) }
     requires packed { Packed dst.old }
-    requires places_in_bounds { length (S.types src.now) ≤ length map.old }
+    requires places_in_bounds { length (S.types from.now.table.now) ≤ length map.old }
     requires m_in_bounds { m ≤ length ts.old }
-    requires inside { Inside (S.types src.now) (take m ts.old) }
-    ensures imports { ImportsImpl (S.types src.now) (params_in params.entry) dst.old dst.new ts.old ts.new m (is_ok result) }
+    requires inside { Inside (S.types from.now.table.now) (take m ts.old) }
+    ensures imports { ImportsImpl (S.types from.now.table.now) (params_in from.now.params) dst.old dst.new ts.old ts.new m (is_ok result) }
     ensures full { IfErr result (λ refusal. refusal ≡ Refusal.TypesFull) }
 {
-    import_types(src, dst, map, params, ts, m)
+    import_types(from.table, dst, map, from.params, ts, m)
 }
 
 // `import` of some `ImplType`s, whose arguments are in one row the first m types of ts, in place. Refused where there is no room.
 pub fn import_impl_types<S: Source>(
-    src: &S,
+    from: &Origin<S>,
     dst: &mut [u32],
     map: &mut [u32],
-    params: Option<&[u32]>,
     ts: &mut [u32],
     m: usize,
 ) -> Result<(), Refusal>
-    requires neat { Neat (S.types src.now) }
-    requires type_words { GivenWords params }
+    requires neat { Neat (S.types from.now.table.now) }
     requires packed { Packed dst.old }
-    requires places_in_bounds { length (S.types src.now) ≤ length map.old }
+    requires places_in_bounds { length (S.types from.now.table.now) ≤ length map.old }
     requires m_in_bounds { m ≤ length ts.old }
-    requires inside { Inside (S.types src.now) (take m ts.old) }
-    ensures imports { ImportsImpls (S.types src.now) (params_in params.entry) dst.old dst.new ts.old ts.new m (is_ok result) }
+    requires inside { Inside (S.types from.now.table.now) (take m ts.old) }
+    ensures imports { ImportsImpls (S.types from.now.table.now) (params_in from.now.params) dst.old dst.new ts.old ts.new m (is_ok result) }
     ensures full { IfErr result (λ refusal. refusal ≡ Refusal.TypesFull) }
 {
-    import_types(src, dst, map, params, ts, m)
+    import_types(from.table, dst, map, from.params, ts, m)
 }

@@ -1,5 +1,7 @@
 // Trees of impls (`TirImpl` of the Rust) in a lent slice of words, for the results of a search: a count of nodes, and a word for each, in pre-order.
 // Only the functions of this file know where the words stand.
+// A buffer is named by its place, since all that a search keeps lies in one lent workspace: two buffers of it are in use at once, and could not be lent as two
+// slices without being split off at each call. For the same reason `copy` and `append` each have a twin for buffers of one slice, which is lent but once.
 #![tactic(auto)]
 
 ghost use Rattle.std.specs.Prelude.{◌≡◌, ◌+◌, ◌*◌, ◌<◌, ◌≤◌, length};

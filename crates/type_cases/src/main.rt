@@ -2,19 +2,60 @@
 // the Rust gave, and how many steps there are of each kind.
 #![tactic(auto)]
 
-ghost use Rattle.std.specs.Prelude.{◌≤◌, length};
+ghost use Rattle.std.specs.Prelude.{◌≡◌, ◌+◌, ◌≤◌, min, length};
 ghost use Rattle.type_cases.specs.Sound.{Sound};
 
-use cases::Tally;
+use cases::{MOST, Tally};
 use std::alloc::Global;
-use std::io::{BufReader, Read};
+use std::io::Read;
 use std::rt::Files;
-use std::{env, fs, io};
+use std::{env, io};
 
 pub mod steps; // steps.rt: a stored step
 
 // How many kinds of steps there are.
 const STEPS: usize = 10;
+
+// The most words that are read of a sheet, and of a step.
+const SHEET: usize = 1024;
+
+const STEP: usize = 8192;
+
+// What came of a file: how many cases it has, what its steps came to, and the number of the step before, which a step without words goes under.
+#[derive(Debug, Drop)]
+struct Seen {
+    cases: u32,
+    steps: Tally<STEPS>,
+    number: u32,
+}
+
+// One more, as far as counts go.
+fn one_more(n: u32) -> u32
+    ensures { result ≡ min (n + 1) MOST }
+{
+    n.saturating_add(1).min(MOST)
+}
+
+impl Seen {
+    fn new() -> Self {
+        Seen {
+            cases: 0,
+            steps: Tally::new(),
+            number: 0,
+        }
+    }
+
+    // Counts a step; one of number 10 counts as a case too, and one of number 11 as another wrong one.
+    fn count(&mut self, o: &[u32], right: bool) {
+        self.number = o.first().copied().unwrap_or(self.number);
+        match self.number {
+            10 => self.cases = one_more(self.cases),
+            11 => self.steps.wrong = one_more(self.steps.wrong),
+            _ => {}
+        }
+        self.steps.count(self.number, right);
+    }
+}
 
 // Makes a step, on the table that it names.
 fn step(s: &[u32], o: &[u32], a: &mut [u32], b: &mut [u32], marks: &mut [u32]) -> bool
@@ -24,8 +65,8 @@ fn step(s: &[u32], o: &[u32], a: &mut [u32], b: &mut [u32], marks: &mut [u32]) -
     ensures first { Sound a.new }
     ensures second { Sound b.new }
 {
-    match o.get(1) {
-        Some(0) => steps::step(s, o, a, b, marks),
+    match words::word(o, 1) {
+        0 => steps::step(s, o, a, b, marks),
         _ => steps::step(s, o, b, a, marks),
     }
 }
@@ -37,7 +78,7 @@ fn replay_steps<R: Read>(
     source: &mut R,
     s: &[u32],
     n: u32,
-    tally: &mut Tally<STEPS>,
+    seen: &mut Seen,
 ) -> io::Result<()> {
     let mut a = [0u32; 1025];
     let mut b = [0u32; 1025];
@@ -45,37 +86,35 @@ fn replay_steps<R: Read>(
     table::clear_table(&mut a);
     table::clear_table(&mut b);
     for _ in 0..n {
-        let o = cases::read_words(alloc, source)?;
+        let o = cases::read_words(alloc, source, STEP)?;
         let o = o.as_slice();
         let right = step(s, o, &mut a, &mut b, &mut marks);
-        tally.count(o.first().copied().unwrap_or(0), right);
+        seen.count(o, right);
     }
     Ok(())
 }
 
-// Replays all cases of a file, and says how many there are.
-fn replay_all<R: Read>(alloc: Global, source: &mut R, tally: &mut Tally<STEPS>) -> io::Result<u32> {
-    let n = cases::read_word(source)?;
-    for _ in 0..n {
+// Replays all cases of a file.
+fn replay_all<R: Read>(alloc: Global, source: &mut R, seen: &mut Seen) -> io::Result<()> {
+    for _ in 0..cases::read_word(source)? {
         let _length = cases::read_word(source)?;
-        let sheet = cases::read_words(alloc, source)?;
+        let sheet = cases::read_words(alloc, source, SHEET)?;
         let steps = cases::read_word(source)?;
-        replay_steps(alloc, source, sheet.as_slice(), steps, tally)?;
+        replay_steps(alloc, source, sheet.as_slice(), steps, seen)?;
+        seen.cases = one_more(seen.cases);
     }
-    Ok(n)
+    Ok(())
 }
 
 // Replays a file, and prints what came of it.
 fn run(rt: &(impl Files + Print + Eprint + AllocGlobal), path: &str) -> io::Result<()> {
-    let file = match fs::open(rt, path) {
-        Ok(file) => file,
-        Err(why) => return programs::fail(rt, path, &why),
+    let Some(mut source) = programs::open(rt, path)? else {
+        return Ok(());
     };
-    let mut source = BufReader::new(rt.alloc(), file)?;
-    let mut tally = Tally::new();
-    let cases = replay_all(rt.alloc(), &mut source, &mut tally)?;
-    println!(rt; "{path} cases {cases}")?;
-    print!(rt; "{tally}")
+    let mut seen = Seen::new();
+    replay_all(rt.alloc(), &mut source, &mut seen)?;
+    println!(rt; "{path} cases {}", seen.cases)?;
+    print!(rt; "{}", seen.steps)
 }
 
 fn main(rt: HostRuntime) -> io::Result<()> {

@@ -1,5 +1,5 @@
-// A stored step: what is done to a type table, and whether it gives what is stored. Its words are read as they are, and tested before they are used: a step that is laid out
-// otherwise, or whose types are no nodes, is not made, and is wrong. oracle/stored/README.md says how it is laid out.
+// A stored step: what is done to a type table, and whether it gives what is stored. Its words are read as they are (those that are missing are 0, those that are too many are passed
+// over), and tested before they are used: a step whose types are no nodes is not made, and is wrong. oracle/stored/README.md says how it is laid out.
 ghost use Rattle.std.specs.Prelude.{◌≡◌, true, ◌≢◌, ◌<◌, ◌≤◌, length, take};
 ghost use Rattle.table.specs.Packing.{types_of};
 ghost use Rattle.type_cases.specs.Steps.{IdFits};
@@ -7,11 +7,15 @@ ghost use Rattle.type_cases.specs.Sound.{Sound, Tested, BothTested, Fitting, Loa
 ghost use Rattle.type_cases.specs.Given.{FittingIn};
 
 use refusals::Refusal;
+use table::KnownType;
 use transfer::PackedTable;
 use unify::UnifyResult;
 
 // The most types in a row.
 const ROW: usize = 8;
+
+// What stands for a row that is not there.
+static NOTHING: [u32; ROW] = [0; ROW];
 
 // The number of a node for which there is no room.
 const FULL: u32 = 256;
@@ -24,7 +28,10 @@ const CLOSURE: u32 = 8;
 
 const IDS: u32 = 4096;
 
-/// What a step does, and what the Rust gives for it.
+// No sheet has so many definitions; a module behind them counts as none.
+const DEFINITIONS: usize = 4096;
+
+// What a step does, and what the Rust gives for it.
 #[derive(Clone, Copy, Debug)]
 enum Operation<'a> {
     Unknown {
@@ -40,7 +47,7 @@ enum Operation<'a> {
     Unify {
         a: u32,
         b: u32,
-        verdict: UnifyResult,
+        verdict: Stored,
     },
     Occurs {
         v: u32,
@@ -60,12 +67,13 @@ enum Operation<'a> {
         xs: &'a [u32],
         b: u32,
         ys: &'a [u32],
-        verdict: UnifyResult,
+        verdict: Stored,
     },
     Import {
+        row: &'a [u32],
         params: Option<&'a [u32]>,
         types: &'a [u32],
-        moved: Option<&'a [u32]>,
+        moved: Option<Result<&'a [u32], Refusal>>,
     },
     Export {
         types: &'a [u32],
@@ -77,11 +85,16 @@ enum Operation<'a> {
     },
 }
 
-fn verdict(n: u32) -> Option<UnifyResult> {
+// A stored verdict, with one for types that are no nodes; none where the number is that of neither.
+type Stored = Option<Option<UnifyResult>>;
+
+// `TryFrom` is of no use here: it and the verdict are of other crates.
+fn verdict(n: u32) -> Stored {
     match n {
-        0 => Some(UnifyResult::Success),
-        1 => Some(UnifyResult::Failure),
-        2 => Some(UnifyResult::Indeterminate),
+        0 => Some(Some(UnifyResult::Success)),
+        1 => Some(Some(UnifyResult::Failure)),
+        2 => Some(Some(UnifyResult::Indeterminate)),
+        3 => Some(None),
         _ => None,
     }
 }
@@ -95,92 +108,109 @@ fn module(n: u32) -> Result<Option<usize>, Refusal> {
     }
 }
 
-// The first m words, and those behind them.
-fn row(words: &[u32], m: u32) -> Option<(&[u32], &[u32])> {
-    words.split_at_checked(m as usize)
+// How many types are in a row, by the word at a place.
+fn row_length(o: &[u32], at: usize) -> usize
+    ensures { result ≤ ROW }
+{
+    words::next(o, at).min(ROW)
+}
+
+// A row of m types from a place on; zeros where the step ends before it does.
+fn row(o: &[u32], at: usize, m: usize) -> &[u32]
+    requires { m ≤ ROW }
+    ensures { length result.now ≡ m }
+{
+    let row = words::record(o, at, m);
+    if row.len() == m { row } else { &NOTHING[..m] }
+}
+
+// What is behind a place.
+fn behind(o: &[u32], at: usize) -> &[u32] {
+    o.get(at..).unwrap_or(&[])
 }
 
 impl<'a> Operation<'a> {
-    fn parse_known(kind: u32, inverted: u32, id: u32, m: u32, rest: &'a [u32]) -> Option<Self> {
-        let (children, rest) = row(rest, m)?;
-        let [node] = rest else { return None };
-        Some(Operation::Known {
-            kind,
-            inverted: inverted == 1,
-            id,
-            children,
-            node: *node,
-        })
+    fn known(o: &'a [u32]) -> Self {
+        let m = row_length(o, 5);
+        Operation::Known {
+            kind: words::word(o, 2),
+            inverted: words::word(o, 3) == 1,
+            id: words::word(o, 4),
+            children: words::record(o, 6, m),
+            node: words::word(o, 6 + m),
+        }
     }
 
-    fn parse_impl_types(a: u32, b: u32, n: u32, m: u32, rest: &'a [u32]) -> Option<Self> {
-        let (xs, rest) = row(rest, n)?;
-        let (ys, rest) = row(rest, m)?;
-        let [v] = rest else { return None };
-        Some(Operation::UnifyImplTypes {
-            a,
-            xs,
-            b,
-            ys,
-            verdict: verdict(*v)?,
-        })
+    fn unify_impl_types(o: &'a [u32]) -> Self {
+        let n = row_length(o, 4);
+        let m = row_length(o, 5);
+        Operation::UnifyImplTypes {
+            a: words::word(o, 2),
+            xs: words::record(o, 6, n),
+            b: words::word(o, 3),
+            ys: words::record(o, 6 + n, m),
+            verdict: verdict(words::word(o, 6 + n + m)),
+        }
     }
 
-    fn parse_import(with: u32, n: u32, m: u32, rest: &'a [u32]) -> Option<Self> {
-        let (params, rest) = row(rest, n)?;
-        let (types, rest) = row(rest, m)?;
-        let moved = match rest {
-            [0] => None,
-            [1, moved @ ..] => Some(moved),
-            _ => return None,
-        };
-        Some(Operation::Import {
-            params: if with == 1 { Some(params) } else { None },
-            types,
-            moved,
-        })
+    fn import(o: &'a [u32]) -> Self {
+        let n = row_length(o, 3);
+        let m = row_length(o, 4);
+        let params = words::record(o, 5, n);
+        Operation::Import {
+            row: params,
+            params: if words::word(o, 2) == 1 {
+                Some(params)
+            } else {
+                None
+            },
+            types: row(o, 5 + n, m),
+            moved: match words::word(o, 5 + n + m) {
+                0 => Some(Err(Refusal::TypesFull)),
+                1 => Some(Ok(behind(o, 6 + n + m))),
+                _ => None,
+            },
+        }
+    }
+
+    fn export(o: &'a [u32]) -> Self {
+        let m = row_length(o, 2);
+        Operation::Export {
+            types: row(o, 3, m),
+            moved: behind(o, 3 + m),
+        }
     }
 
     // A step by its number, its table, and the words behind these.
     fn parse(o: &'a [u32]) -> Option<Self> {
-        match o {
-            [0, _, node] => Some(Operation::Unknown { node: *node }),
-            [1, _, kind, inverted, id, m, rest @ ..] => {
-                Operation::parse_known(*kind, *inverted, *id, *m, rest)
-            }
-            [2, _, a, b, v] => {
-                let verdict = verdict(*v)?;
-                Some(Operation::Unify {
-                    a: *a,
-                    b: *b,
-                    verdict,
-                })
-            }
-            [3, _, v, t, found] => {
-                let found = *found == 1;
-                Some(Operation::Occurs {
-                    v: *v,
-                    t: *t,
-                    found,
-                })
-            }
-            [4, _, t, found] => {
-                let found = *found == 1;
-                Some(Operation::SelfInverse { t: *t, found })
-            }
-            [5, _, t, d] => {
-                let module = module(*d);
-                Some(Operation::GetMod { t: *t, module })
-            }
-            [6, _, a, b, n, m, rest @ ..] => Operation::parse_impl_types(*a, *b, *n, *m, rest),
-            [7, _, with, n, m, rest @ ..] => Operation::parse_import(*with, *n, *m, rest),
-            [8, _, m, rest @ ..] => {
-                let (types, moved) = row(rest, *m)?;
-                Some(Operation::Export { types, moved })
-            }
-            [9, _, count, nodes @ ..] => {
-                let count = *count;
-                Some(Operation::Nodes { count, nodes })
+        let (a, b, c) = (words::word(o, 2), words::word(o, 3), words::word(o, 4));
+        match words::word(o, 0) {
+            0 => Some(Operation::Unknown { node: a }),
+            1 => Some(Operation::known(o)),
+            2 => Some(Operation::Unify {
+                a,
+                b,
+                verdict: verdict(c),
+            }),
+            3 => Some(Operation::Occurs {
+                v: a,
+                t: b,
+                found: c == 1,
+            }),
+            4 => Some(Operation::SelfInverse {
+                t: a,
+                found: b == 1,
+            }),
+            5 => Some(Operation::GetMod {
+                t: a,
+                module: module(b),
+            }),
+            6 => Some(Operation::unify_impl_types(o)),
+            7 => Some(Operation::import(o)),
+            8 => Some(Operation::export(o)),
+            9 => {
+                let nodes = o.get(3..)?;
+                Some(Operation::Nodes { count: a, nodes })
             }
             _ => None,
         }
@@ -234,7 +264,13 @@ fn known(ws: &mut [u32], kind: u32, inverted: bool, id: u32, children: &[u32], n
     if !below(children, c) {
         return false;
     }
-    table::new_known(ws, inverted, kind, id, children).unwrap_or(FULL) == node
+    let known = KnownType {
+        inverted,
+        kind,
+        id,
+        children,
+    };
+    table::new_known(ws, &known).unwrap_or(FULL) == node
 }
 
 // Joins two types, where they are nodes.
@@ -305,6 +341,14 @@ fn self_inverse(s: &[u32], ws: &[u32], marks: &mut [u32], t: u32) -> Option<bool
     Some(walks::self_inverse(s, ws, marks, t))
 }
 
+// Whether the types of a move come to be as they are stored; what is missing is 0.
+fn moved_as(stored: &[u32], types: &[u32]) -> bool {
+    types
+        .iter()
+        .enumerate()
+        .all(|(i, &t)| words::word(stored, i) == t)
+}
+
 // Whether parameters are nodes of a table, and there is a node for a Param that has none.
 fn params_fit(params: Option<&[u32]>, ws: &[u32]) -> bool
     ensures { FittingIn params.entry ws.now result }
@@ -357,7 +401,7 @@ fn import(
     map: &mut [u32],
     params: Option<&[u32]>,
     types: &[u32],
-    moved: Option<&[u32]>,
+    moved: Option<Result<&[u32], Refusal>>,
 ) -> bool
     requires sound { Sound own.now }
     requires sound_2 { Sound other.old }
@@ -369,9 +413,10 @@ fn import(
     if ROW < m || !params_fit(params, other) || !load(types, own, &mut ts) {
         return false;
     }
-    match move_types(own, other, map, params, &mut ts, m) {
-        Ok(()) => moved == Some(&ts[..m]),
-        Err(_) => moved.is_none(),
+    match (move_types(own, other, map, params, &mut ts, m), moved) {
+        (Ok(()), Some(Ok(moved))) => moved_as(moved, &ts[..m]),
+        (Err(_), Some(Err(_))) => true,
+        _ => false,
     }
 }
 
@@ -388,7 +433,7 @@ fn export(own: &[u32], other: &mut [u32], map: &mut [u32], types: &[u32], moved:
         return false;
     }
     let done = transfer::export_types(&PackedTable(own), other, map, &mut ts, m);
-    done.is_ok() && &ts[..m] == moved
+    done.is_ok() && moved_as(moved, &ts[..m])
 }
 
 // What is behind the words of root n, where they are size, kind, inversion, id and children.
@@ -396,7 +441,7 @@ fn behind_root<'a>(stored: &'a [u32], ws: &[u32], n: u32) -> Option<&'a [u32]> {
     let [size, kind, inverted, id, m, rest @ ..] = stored else {
         return None;
     };
-    let (children, rest) = row(rest, *m)?;
+    let (children, rest) = rest.split_at_checked(*m as usize)?;
     let same = *size == table::size_of(ws, n)
         && *kind == table::kind_of(ws, n)
         && (*inverted == 1) == table::inverted_of(ws, n)
@@ -453,22 +498,31 @@ pub fn step(s: &[u32], o: &[u32], own: &mut [u32], other: &mut [u32], marks: &mu
             children,
             node,
         } => known(own, kind, inverted, id, children, node),
-        Operation::Unify { a, b, verdict } => unify_two(s, own, marks, a, b) == Some(verdict),
+        Operation::Unify { a, b, verdict } => {
+            let seen = unify_two(s, own, marks, a, b);
+            seen.is_some() && Some(seen) == verdict
+        }
         Operation::Occurs { v, t, found } => occurs(own, marks, v, t) == Some(found),
         Operation::SelfInverse { t, found } => self_inverse(s, own, marks, t) == Some(found),
-        Operation::GetMod { t, module } => walks::get_mod(s, own, t) == module,
+        Operation::GetMod { t, module } => {
+            walks::get_mod(s, own, t).map(|d| d.filter(|&d| d < DEFINITIONS)) == module
+        }
         Operation::UnifyImplTypes {
             a,
             xs,
             b,
             ys,
             verdict,
-        } => unify_rows(s, own, marks, a, xs, b, ys) == Some(verdict),
+        } => Some(unify_rows(s, own, marks, a, xs, b, ys)) == verdict,
         Operation::Import {
+            row,
             params,
             types,
             moved,
-        } => import(own, other, marks, params, types, moved),
+        } => {
+            // Parameters that are not given have to be nodes all the same.
+            below(row, table::count(other)) && import(own, other, marks, params, types, moved)
+        }
         Operation::Export { types, moved } => export(own, other, marks, types, moved),
         Operation::Nodes { count, nodes } => nodes_as(own, count, nodes),
     }

@@ -1,5 +1,6 @@
 // `unify` of the Rust, over a type table in words. All pairs of children are tried, even after a failure (`whole`), with a memo of those that did not succeed;
 // or, where only success counts, none after the first that does not succeed. Layers as in the rules: roots, then what they are, then two known types, then their children.
+// Table and marks are two parameters, and no struct of both: tried, the proof did not close, since a call that takes two fields of a lent struct, each a `&mut`, is not covered by the borrow check.
 #![tactic(auto)]
 
 ghost use Rattle.std.specs.Prelude.{◌≡◌, true, false, not, ◌&&◌, ◌||◌, List, [], ◌∷◌, map, suc, ◌/◌, ◌<◌, ◌≤◌, eqb, length, get_or};
@@ -18,9 +19,10 @@ ghost use Rattle.unify.specs.Passing.{Passes};
 ghost use Rattle.unify.specs.Trying.{Ready, Fuelled, Noted, Binds, Met, Went, Left};
 
 use chart::{kinds, layout};
+use memo::Pair;
 pub use memo::UnifyResult;
 
-// The kind of node n; 0 where it is unknown.
+// The kind of node n; 0 where it is unknown. It is compared with the names of `layout`: each test asks for one kind, so that a `Kind` would be made for a single comparison.
 fn kind(ws: &[u32], n: u32) -> usize
     ensures { result ≡ kind_at (types_of ws.now) n }
 {
@@ -193,12 +195,13 @@ fn unify_noted(
     requires fuelled { Fuelled (suc left) (types_of ws.old) (type_of_word x ∷ []) }
     ensures { Met true s.now (types_of ws.old) marks.old ws.new marks.new result (roots_of (unify_in left s.now) s.now (types_of ws.old) (type_of_word x) (type_of_word y)) }
 {
-    if let Some(kept) = memo::recall(marks, x, y) {
+    let pair = Pair { x, y };
+    if let Some(kept) = memo::recall(marks, pair) {
         return kept;
     }
     let before = memo::begin(marks);
     let r = unify_roots(s, ws, marks, true, x, y, left);
-    memo::end(marks, before, x, y, r);
+    memo::end(marks, before, pair, r);
     r
 }
 

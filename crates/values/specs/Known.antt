@@ -4,6 +4,7 @@ use Rattle.std.specs.Prelude.{◌≡◌, Bool, true, false, [], ◌∷◌, ◌�
 use Rattle.std.proofs.Math.Path.{refl, ap}
 use Rattle.std.proofs.Common.{sym, ◌∙◌}
 use native.Mathlib.Omega.{arith}
+use native.Mathlib.Nat.{ℕ_set}
 use borrow.Author.Tests.{eq-eqb, ne_eqb, lt-leb, le-leb}
 use Rattle.std.proofs.Math.Dec.{ltb, leb}
 use Rattle.rules.specs.Lists.{Words, holds}
@@ -30,6 +31,10 @@ last false = refl
 pub record Known (s ws : Words) : Type 0 where
   pub count : (h : ℕ) → h < header_length → at ws h ≡ many s h
   pub trait : (i : ℕ) → i < many s header_traits → at ws (limit_sheet + i) ≡ at (records s header_traits) i
+
+-- At most one proof of it.
+pub known_prop : (s ws : Words) → IsProp (Known s ws)
+known_prop s ws a b = λ i. record { count = λ h m. ℕ_set _ _ (a.count h m) (b.count h m) i; trait = λ j m. ℕ_set _ _ (a.trait j m) (b.trait j m) i }
 
 -- It stays known in a workspace that agrees on its first two planes.
 pub known_same : (s ws us : Words) (to : ℕ) → length s ≤ limit_sheet → 2 * limit_sheet ≤ to → ((j : ℕ) → j < to → at us j ≡ at ws j) → Known s ws → Known s us

@@ -2,6 +2,7 @@
 use Rattle.std.specs.Prelude.{ℕ, ◌+◌, ◌*◌, ◌≤◌, ◌<◌, ◌≡◌, not, length, set}
 use Rattle.std.proofs.Common.{sym, ◌∙◌, subst, arith, get_or-set_same, get_or-set_other}
 use Rattle.std.proofs.Math.Path.{ap}
+use native.Mathlib.Nat.{ℕ_set}
 use Rattle.std.proofs.Math.Decide.{ℕ_discrete}
 use Rattle.rules.specs.Lists.{Words, bit}
 use Rattle.rules.specs.Limits.{limit_sheet}
@@ -12,7 +13,7 @@ use Rattle.rules.specs.Values.{binding_ok, member_ok}
 use Rattle.chart.specs.Index.{Indexed, indexed_record, indexed-many, many-within}
 use Rattle.values.specs.Folds.{Forward, chain_mark, mark-same, most, most-same, chain_length, length_none, Below, Folded, fold_done, head_noted, chain_most, most-none}
 use Rattle.values.specs.NodeLaws.{bad, cell_need, bound, core, args_core, node_core, node_need, node_child, param_core, param_child}
-use Rattle.values.specs.Known.{Known, known_same}
+use Rattle.values.specs.Known.{Known, known_prop, known_same}
 use Rattle.values.specs.Value.{node_mark, param_mark, inner_mark}
 
 -- Where the planes stand: behind what is known of the sheet, one behind the other. First, how long a chain is.
@@ -219,6 +220,16 @@ pub record Tables (s w us : Words) : Type 0 where
   pub cells : Cells w us
   pub nodes : Nodes s w us
 
+-- At most one proof of it.
+cells_prop : (w us : Words) → IsProp (Cells w us)
+cells_prop w us a b = λ i. record { lengths = λ h m. ℕ_set _ _ (a.lengths h m) (b.lengths h m) i; bounds = λ h m. ℕ_set _ _ (a.bounds h m) (b.bounds h m) i }
+
+nodes_prop : (s w us : Words) → IsProp (Nodes s w us)
+nodes_prop s w us a b = λ i. record { cores = λ h m. ℕ_set _ _ (a.cores h m) (b.cores h m) i; needs = λ h m. ℕ_set _ _ (a.needs h m) (b.needs h m) i; kids = λ h m. ℕ_set _ _ (a.kids h m) (b.kids h m) i }
+
+pub tables_prop : (s w us : Words) → IsProp (Tables s w us)
+tables_prop s w us a b = λ i. record { known = known_prop s us a.known b.known i; cells = cells_prop w us a.cells b.cells i; nodes = nodes_prop s w us a.nodes b.nodes i }
+
 -- What bindings, members and impl parameters ask for.
 pub record Links (s us : Words) : Type 0 where
   pub bindings : (h : ℕ) → Forward s h → chain_mark us plane_bindings h ≡ most (bad (binding_ok s)) (chain s h)
@@ -284,6 +295,18 @@ space_cells s w ws us p c = record { known = known_same s ws us plane_lengths p.
 pub record Charted (s us : Words) : Type 0 where
   pub tables : Tables s s us
   pub links : Links s us
+
+-- At most one proof of it.
+links_prop : (s us : Words) → IsProp (Links s us)
+links_prop s us a b = λ i. record {
+  bindings = λ h m. ℕ_set _ _ (a.bindings h m) (b.bindings h m) i;
+  members = λ h m. ℕ_set _ _ (a.members h m) (b.members h m) i;
+  params = λ h m. ℕ_set _ _ (a.params h m) (b.params h m) i;
+  args = λ h m. ℕ_set _ _ (a.args h m) (b.args h m) i;
+}
+
+pub charted_prop : (s us : Words) → IsProp (Charted s us)
+charted_prop s us a b = λ i. record { tables = tables_prop s s us a.tables b.tables i; links = links_prop s us a.links b.links i }
 
 -- The planes of its tables and of its other chains.
 pub charted : (s ws us : Words) → length s ≤ limit_sheet → Tables s s ws → LinksMade s ws us → Charted s us

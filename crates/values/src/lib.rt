@@ -16,13 +16,15 @@ pub mod planes; // planes.rt: what is noted of each place, and the passes over a
 pub mod prepare; // prepare.rt: the planes that 8 and 12 read
 pub mod records; // records.rt: the values of each record, read off the planes
 
+use records::{Linked, Tabled};
+
 // 8: the values of a sheet whose chains keep the rule.
 pub fn sheet_values(s: &[u32], ws: &mut [u32]) -> bool
     requires { T (sheet_keeps s.now) × (length s.now ≤ limit_sheet) × (planes_room ≤ length ws.old) }
     ensures { result ≡ sheet_values s.now }
 {
     prepare::prepare_sheet(s, ws);
-    records::sheet_ok(s, ws)
+    Linked { s, ws }.sheet_ok()
 }
 
 // 12: the values of an impl question whose chains keep the rule, asked under generics g.
@@ -31,14 +33,14 @@ pub fn impl_question_values(s: &[u32], g: usize, q: &[u32], ws: &mut [u32]) -> b
     ensures { result ≡ impl_question_values s.now g q.now }
 {
     prepare::prepare_question(s, q, ws);
-    records::impl_question_ok(s, g, q, ws)
+    Tabled { s, w: q, ws }.impl_question_ok(g)
 }
 
-// 12: the values of a flex question.
+// 12: the values of a flex question. It has in common with the impl question that its planes are made first, which is one call.
 pub fn flex_question_values(s: &[u32], g: usize, q: &[u32], ws: &mut [u32]) -> bool
     requires { T (flex_question_keeps q.now) × (length s.now ≤ limit_sheet) × (length q.now ≤ limit_sheet) × (planes_room ≤ length ws.old) }
     ensures { result ≡ flex_question_values s.now g q.now }
 {
     prepare::prepare_question(s, q, ws);
-    records::flex_question_ok(s, g, q, ws)
+    Tabled { s, w: q, ws }.flex_question_ok(g)
 }

@@ -7,7 +7,8 @@ ghost use Rattle.values.specs.Known.{Known};
 ghost use Rattle.values.specs.Value.{node_mark, param_mark, inner_mark};
 ghost use Rattle.values.specs.Tables.{plane_lengths, plane_bounds, plane_cores, plane_needs, plane_kids, plane_bindings, plane_members, plane_params, plane_args, Space, Most};
 
-use crate::{fits, folds, limits};
+use crate::fits::{self, Noted};
+use crate::{folds, limits};
 use chart::layout;
 
 // What a cell asks of the table: its node.
@@ -18,20 +19,31 @@ fn cell_need(w: &[u32], p: usize) -> u32
     t / 2 + 1
 }
 
-// Whether a node is out of range by itself, where the plane from b has the lengths of chains.
-fn node_mark(s: &[u32], w: &[u32], ws: &[u32], b: usize, p: usize) -> u32
-    requires { Known s.now ws.now }
-    ensures { result ≡ node_mark s.now w.now ws.now b p }
-{
-    let k = chart::field_at(w, p, layout::NODE_KIND);
-    let inv = chart::field_at(w, p, layout::NODE_INVERTED);
-    let id = chart::field_at(w, p, layout::NODE_ID);
-    let c = chart::field_at(w, p, layout::NODE_CHILDREN);
-    let n = folds::chain_count(ws, b, c);
-    fits::bad(fits::core(s, ws, k, inv, id, n))
+impl<'a> Noted<'a> {
+    // Whether a node of a slice w is out of range by itself, where the plane from b has the lengths of chains.
+    fn node_mark(self, w: &[u32], b: usize, p: usize) -> u32
+        ensures { result ≡ node_mark self.entry.s.now w.now self.entry.ws.now b p }
+    {
+        let k = chart::field_at(w, p, layout::NODE_KIND);
+        let inv = chart::field_at(w, p, layout::NODE_INVERTED);
+        let id = chart::field_at(w, p, layout::NODE_ID);
+        let c = chart::field_at(w, p, layout::NODE_CHILDREN);
+        let n = folds::chain_count(self.ws, b, c);
+        fits::bad(self.core(k, inv, id, n))
+    }
+
+    // Whether an impl parameter has a trait? and as many arguments as its arity.
+    fn param_mark(self, b: usize, p: usize) -> u32
+        ensures { result ≡ param_mark self.entry.s.now self.entry.ws.now b p }
+    {
+        let t = chart::field_at(self.s, p, layout::IMPL_PARAM_TRAIT);
+        let c = chart::field_at(self.s, p, layout::IMPL_PARAM_ARGS);
+        let n = folds::chain_count(self.ws, b, c);
+        fits::bad(self.args_core(t, n))
+    }
 }
 
-// What a node asks of the count of type parameters.
+// What a node asks of the count of type parameters. One kind alone is told from the others, so its number is compared and no `Kind` made.
 fn node_need(w: &[u32], p: usize) -> u32
     ensures { result ≡ node_need w.now p }
 {
@@ -43,33 +55,6 @@ fn node_need(w: &[u32], p: usize) -> u32
     id.checked_add(1).unwrap_or(0)
 }
 
-// Whether an impl parameter has a trait? and as many arguments as its arity.
-fn param_mark(s: &[u32], ws: &[u32], b: usize, p: usize) -> u32
-    requires { Known s.now ws.now }
-    ensures { result ≡ param_mark s.now ws.now b p }
-{
-    let t = chart::field_at(s, p, layout::IMPL_PARAM_TRAIT);
-    let c = chart::field_at(s, p, layout::IMPL_PARAM_ARGS);
-    let n = folds::chain_count(ws, b, c);
-    fits::bad(fits::args_core(s, ws, t, n))
-}
-
-// Whether a binding is out of range.
-fn binding_mark(s: &[u32], ws: &[u32], p: usize) -> u32
-    requires { Known s.now ws.now }
-    ensures { result ≡ bad (binding_ok s.now) p }
-{
-    fits::bad(fits::binding_ok(s, ws, p))
-}
-
-// Whether a member is out of range.
-fn member_mark(s: &[u32], ws: &[u32], p: usize) -> u32
-    requires { Known s.now ws.now }
-    ensures { result ≡ bad (member_ok s.now) p }
-{
-    fits::bad(fits::member_ok(s, ws, p))
-}
-
 // What the plane from b has of the chain that a record heads in word k.
 fn inner_mark(w: &[u32], ws: &[u32], b: usize, k: usize, p: usize) -> u32
     ensures { result ≡ inner_mark w.now ws.now b k p }
@@ -78,7 +63,9 @@ fn inner_mark(w: &[u32], ws: &[u32], b: usize, k: usize, p: usize) -> u32
     folds::chain_mark(ws, b, h)
 }
 
-// The passes: each notes in its plane the most that is said of a record of the chain from each place.
+// The passes: each notes in its plane the most that is said of a record of the chain from each place. Each is one call of `folds::note`, whose
+// closure says what; they stay functions, since each has its own contract. Slices and workspace stay parameters of what writes: a struct of them, lent by
+// `&mut`, would have to promise in each contract that the slices stay.
 
 // What a cell asks of its table.
 pub fn note_cells(s: &[u32], w: &[u32], ws: &mut [u32])
@@ -98,9 +85,14 @@ pub fn note_nodes(s: &[u32], w: &[u32], ws: &mut [u32])
     requires { Space s.now w.now ws.old }
     ensures { Most s.now w.now ws.old ws.new (node_mark s.now w.now ws.old plane_lengths) plane_cores }
 {
-    folds::note(w, ws, limits::CORES, |ws, i, next| {
-        node_mark(s, w, ws, limits::LENGTHS, i).max(next)
-    });
+    folds::note(
+        w,
+        ws,
+        limits::CORES,
+        |ws: &[u32], i, next|
+            requires { Known s.now ws.now }
+        { Noted { s, ws }.node_mark(w, limits::LENGTHS, i).max(next) },
+    );
 }
 
 // What a node asks of the type parameters.
@@ -126,9 +118,14 @@ pub fn note_bindings(s: &[u32], ws: &mut [u32])
     requires { Space s.now s.now ws.old }
     ensures { Most s.now s.now ws.old ws.new (bad (binding_ok s.now)) plane_bindings }
 {
-    folds::note(s, ws, limits::BINDINGS, |ws, i, next| {
-        binding_mark(s, ws, i).max(next)
-    });
+    folds::note(
+        s,
+        ws,
+        limits::BINDINGS,
+        |ws: &[u32], i, next|
+            requires { Known s.now ws.now }
+        { fits::bad(Noted { s, ws }.binding_ok(i)).max(next) },
+    );
 }
 
 // Whether a member is out of range.
@@ -136,9 +133,14 @@ pub fn note_members(s: &[u32], ws: &mut [u32])
     requires { Space s.now s.now ws.old }
     ensures { Most s.now s.now ws.old ws.new (bad (member_ok s.now)) plane_members }
 {
-    folds::note(s, ws, limits::MEMBERS, |ws, i, next| {
-        member_mark(s, ws, i).max(next)
-    });
+    folds::note(
+        s,
+        ws,
+        limits::MEMBERS,
+        |ws: &[u32], i, next|
+            requires { Known s.now ws.now }
+        { fits::bad(Noted { s, ws }.member_ok(i)).max(next) },
+    );
 }
 
 // Whether an impl parameter is out of range, but for what its arguments name.
@@ -146,9 +148,14 @@ pub fn note_params(s: &[u32], ws: &mut [u32])
     requires { Space s.now s.now ws.old }
     ensures { Most s.now s.now ws.old ws.new (param_mark s.now ws.old plane_lengths) plane_params }
 {
-    folds::note(s, ws, limits::PARAMS, |ws, i, next| {
-        param_mark(s, ws, limits::LENGTHS, i).max(next)
-    });
+    folds::note(
+        s,
+        ws,
+        limits::PARAMS,
+        |ws: &[u32], i, next|
+            requires { Known s.now ws.now }
+        { Noted { s, ws }.param_mark(limits::LENGTHS, i).max(next) },
+    );
 }
 
 // What an impl parameter's arguments ask of the table.

@@ -1,5 +1,5 @@
 -- `get_mod`: the module of a type, looked for through Ref, as the loop has it.
-use Rattle.std.specs.Prelude.{ℕ, suc, ◌+◌, ◌-◌, ◌/◌, ◌≡◌, Bool, true, false, [], ◌∷◌, map, ◌≢◌, length, Option, Some, None, Result, Ok, Err}
+use Rattle.std.specs.Prelude.{ℕ, suc, ◌+◌, ◌-◌, ◌/◌, ◌≤◌, ◌≡◌, Bool, true, false, [], ◌∷◌, map, ◌≢◌, length, Option, Some, None, Result, Ok, Err}
 use Rattle.std.proofs.Math.Path.{refl, sym, ap, ap₂}
 use Rattle.std.proofs.Common.{◌∙◌, arith}
 use Rattle.std.proofs.Math.Dec.{eqb}
@@ -127,3 +127,7 @@ module _ (s : Words) (k id : ℕ) where
   pub in_none : k ≢ 3 → k ≢ 4 → k ≢ 5 → k ≢ 6 → module_of (Ok None) ≡ own_module s k id
   unfolding module_of own_module owner_chain
   in_none a b c d = sym (rw (ne_eqb k 3 a, ne_eqb k 4 b, ne_eqb k 5 c, ne_eqb k 6 d, owner_chain))
+
+-- A word that numbers no kind.
+pub seek_strange : (s : Words) (ts : Types) (left t n k : ℕ) (x : Run Words) → left ≢ 0 → Seeking s ts left t x → n ≡ rep ts (t / 2) → k ≡ kind_at ts n → 14 ≤ k → module_of (Ok None) ≡ x
+seek_strange s ts left t n k x nz p en ek h = seek_own s ts left t n k x nz p en ek None (id_at ts n) (λ e. omega (arith, h, e)) (λ e. omega (arith, h, e)) refl (in_none s k (id_at ts n) (λ e. omega (arith, h, e)) (λ e. omega (arith, h, e)) (λ e. omega (arith, h, e)) (λ e. omega (arith, h, e)))

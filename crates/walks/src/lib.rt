@@ -6,12 +6,14 @@ ghost use Rattle.rules.specs.Types.{occurs as occurs_of, self_inverse};
 ghost use Rattle.rules.specs.Transfer.{type_of_word};
 ghost use Rattle.rules.specs.Solutions.{rep};
 ghost use Rattle.table.specs.Packing.{types_of, id_at, kind_at, Good};
+ghost use Rattle.chart.specs.Numbers.{number_of};
 ghost use Rattle.rules.specs.Search.{get_mod};
 ghost use Rattle.walks.specs.Modules.{module_of, own_module};
 ghost use Rattle.walks.specs.Marking.{is_marked, with_mark};
 ghost use Rattle.walks.specs.Occurs.{Clean, Walked, Among};
 ghost use Rattle.walks.specs.SelfInverse.{own_inverse, Own, Inverted, AllInverted};
 
+use chart::kinds::Kind;
 use chart::{kinds, layout};
 use refusals::Refusal;
 
@@ -144,14 +146,14 @@ pub fn self_inverse(s: &[u32], ws: &[u32], marks: &mut [u32], t: u32) -> bool
 }
 
 // The definition in whose module a type of a kind, neither Error nor Ref, and an id stands; none where it has no module.
-fn own_module_of(s: &[u32], k: usize, id: usize) -> Option<usize>
-    ensures { module_of (Ok result) ≡ own_module s.now k id }
+fn own_module_of(s: &[u32], k: Kind, id: usize) -> Option<usize>
+    ensures { module_of (Ok result) ≡ own_module s.now (number_of k) id }
 {
     match k {
-        layout::KIND_OPAQUE => Some(chart::opaque_def(s, id)),
-        layout::KIND_STRUCT => Some(chart::struct_def(s, id)),
-        layout::KIND_ENUM => Some(chart::enum_def(s, id)),
-        layout::KIND_UNION => Some(chart::union_def(s, id)),
+        Kind::Opaque => Some(chart::opaque_def(s, id)),
+        Kind::Struct => Some(chart::struct_def(s, id)),
+        Kind::Enum => Some(chart::enum_def(s, id)),
+        Kind::Union => Some(chart::union_def(s, id)),
         _ => None,
     }
 }
@@ -163,10 +165,13 @@ pub fn get_mod(s: &[u32], ws: &[u32], t: u32) -> Result<Option<usize>, Refusal>
     let mut at = t;
     for _i in 0..table::count(ws) as usize + 1 {
         let n = table::root_of(ws, at / 2);
-        match table::kind_of(ws, n) as usize {
-            layout::KIND_ERROR => return Err(Refusal::ErrorType),
-            layout::KIND_REF => at = table::child(ws, n, 0),
-            k => return Ok(own_module_of(s, k, table::id_of(ws, n) as usize)),
+        let Some(kind) = Kind::from_word(table::kind_of(ws, n) as usize) else {
+            return Ok(None);
+        };
+        match kind {
+            Kind::Error => return Err(Refusal::ErrorType),
+            Kind::Ref => at = table::child(ws, n, 0),
+            _ => return Ok(own_module_of(s, kind, table::id_of(ws, n) as usize)),
         }
     }
     Ok(None)

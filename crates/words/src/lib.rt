@@ -40,7 +40,7 @@ pub fn next(s: &[u32], i: usize) -> usize
     wide(word(s, i))
 }
 
-// A word as an index.
+// A word as an index. It says no more than `as usize`, and stays as a name that other crates use.
 pub fn wide(w: u32) -> usize
     ensures { result ≡ w }
 {
@@ -62,7 +62,7 @@ pub fn record(s: &[u32], at: usize, len: usize) -> &[u32]
     }
 }
 
-// The type node at a place, from the sheet or from the question, whichever holds it.
+// The type node at a place, from the sheet or from the question, whichever holds it: document 01 gives both slices, and says by a flag which is meant.
 pub fn node_record<'a>(sheet: &'a [u32], question: &'a [u32], asked: bool, at: usize) -> &'a [u32]
     ensures { result.now ≡ record_words (holder asked sheet.now question.now) at node_length }
 {

@@ -1,4 +1,4 @@
--- The question loaded anew, and closed with the result that was kept aside.
+-- The question loaded anew, and closed with the first result, which stands in the front of the slice.
 use Rattle.std.proofs.Common.{rules}
 use Rattle.closing.specs.Ends.{one_front}
 use Rattle.asking.specs.Impls.{front_taken, ended, loaded_asks, loaded_packed}
@@ -14,4 +14,4 @@ pub end_impl-requires-clause-if_one : goal.end_impl-requires-clause-if_one
 end_impl-requires-clause-if_one c = search (rules, one_front, front_taken)
 
 pub returns : goal.returns
-returns c = search (rules, ended, front_taken)
+returns c = ended _ _ _ _ _ _ _ _ _ _ _ (search rules) (search rules) (search (rules, front_taken)) c.end_impl.ensures

@@ -1,6 +1,6 @@
 -- `impl_flag`: one bit of the word of flags.
 use Rattle.chart.specs.Fields.{flag_found}
-use borrow.Author.Rules.{rules}
+use Rattle.std.proofs.Common.{rules}
 use Rattle.chart.proofs.impl_flag.Goals as goal
 
 pub returns : goal.returns

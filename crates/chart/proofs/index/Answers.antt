@@ -1,6 +1,6 @@
 -- `index`: the chain that the header word heads.
 use Rattle.chart.specs.Index.{index_room_of, index_of}
-use borrow.Author.Rules.{rules}
+use Rattle.std.proofs.Common.{rules}
 use Rattle.chart.proofs.index.Goals as goal
 
 pub index_chain-requires : goal.index_chain-requires

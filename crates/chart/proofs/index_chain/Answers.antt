@@ -1,5 +1,5 @@
 -- `index_chain`: a place is a word, and one more is written.
-use borrow.Author.Rules.{rules}
+use Rattle.std.proofs.Common.{rules}
 use Rattle.chart.specs.Index.{index_fits, index_on}
 use Rattle.chart.proofs.index_chain.Goals as goal
 

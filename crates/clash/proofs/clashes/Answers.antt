@@ -6,11 +6,11 @@ use Rattle.clash.proofs.clashes.Goals as goal
 pub index_chain-m-requires : goal.index_chain-m-requires
 index_chain-m-requires c = search (rules, index_room)
 
-pub slice_bounds-clash_at-end : goal.slice_bounds-clash_at-end
-slice_bounds-clash_at-end c = search (rules, index_few)
+pub slice_bounds-sides-end : goal.slice_bounds-sides-end
+slice_bounds-sides-end c = search (rules, index_few)
 
-pub slice_bounds-clash_at-end-2 : goal.slice_bounds-clash_at-end-2
-slice_bounds-clash_at-end-2 c = search (rules, index_length)
+pub slice_bounds-sides-end-2 : goal.slice_bounds-sides-end-2
+slice_bounds-sides-end-2 c = search (rules, index_length)
 
 pub clash_at-requires-clause-p_len_bound : goal.clash_at-requires-clause-p_len_bound
 clash_at-requires-clause-p_len_bound c = search (rules, args_few)

@@ -17,4 +17,4 @@ pub returns-then-is_bi_flexible : goal.returns-then-is_bi_flexible
 returns-then-is_bi_flexible c = flex_both_lem _ _ _ _ _ _ _ _ _ _ _ c.has_several.ensures c.if-has_several.false _ _ c.self_inverse-own.ensures c.is_bi_flexible.ensures _ c.if-is_bi_flexible.true
 
 pub returns : goal.returns
-returns c = flex_side _ _ _ _ _ _ _ _ _ _ _ c.has_several.ensures c.if-has_several.false _ _ c.self_inverse-own.ensures c.is_bi_flexible.ensures _ _ _ _ _ _ c.if-is_bi_flexible.false (search rules) (search rules) c.is_inverted-inverted.ensures c.close_found.ensures
+returns c = flex_side _ _ _ _ _ _ _ _ _ _ _ c.has_several.ensures c.if-has_several.false _ _ c.self_inverse-own.ensures c.is_bi_flexible.ensures _ _ _ _ _ _ c.if-is_bi_flexible.false (search rules) (search rules) c.is_inverted.ensures c.close_found.ensures

@@ -3,4 +3,4 @@ use Rattle.loose.specs.Loose.{ArgsGone}
 use Rattle.loose.proofs.args_alike.Given as goal
 
 abbrev pub invariant-loop-k : goal.invariant-loop-k
-invariant-loop-k l = ArgsGone l.ws l.initial.labels l.p l.q l.k l.labels
+invariant-loop-k l = ArgsGone l.ws l.initial.labels.of l.p l.q l.k l.labels.of

@@ -12,5 +12,5 @@ import_types-requires-clause-places_in_bounds c = search (rules, source_room)
 pub import_types-requires-clause-inside : goal.import_types-requires-clause-inside
 import_types-requires-clause-inside c = search (rules, source_inside)
 
-pub returns : goal.returns
-returns c = search (rules, source_imports)
+pub returns-clause-imports : goal.returns-clause-imports
+returns-clause-imports c = search (rules, source_imports)

@@ -1,4 +1,4 @@
--- `joins`: the question's arguments are the first of four.
+-- `joins`: the question's arguments are the first of its words.
 use Rattle.std.proofs.Common.{rules}
 use Rattle.opening.specs.Meeting.{query_nodes, joins_question}
 use Rattle.opening.proofs.joins.Goals as goal

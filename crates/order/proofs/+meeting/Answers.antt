@@ -1,12 +1,12 @@
 -- The cycle of `go`: the rule is followed layer by layer, and the fuel falls.
-use Rattle.std.proofs.Common.{arith, rules}
+use Rattle.std.proofs.Common.{rules}
 use Rattle.std.proofs.lemmas.Result.{err_from_is_err_and}
 use Rattle.order.specs.Words.{kids_below, steps-none}
 use Rattle.order.specs.Halts.{halt_not-on}
-use Rattle.order.specs.Going.{go_same, go_own, go_not_own, go_meets, go_stop, all_stop, meet_stop, pair_near, meet_left, meet_right, known_clash, known_kids, known_joined, kind_there}
-use Rattle.order.specs.Kids.{beside_start, beside_short, beside_over, beside_end, beside_last, beside_on, cell_met, arity_few, kids_across, rows_start, rows_even, rows_uneven, rows_end_lem, rows_last, rows_on, rows-kids}
+use Rattle.order.specs.Going.{go_same, go_own, go_not_own, go_meets, pair_near, meet_left, meet_right, known_kids, known_joined, kind_there}
+use Rattle.order.specs.Kids.{beside_start, beside_short, beside_over, beside_end, beside_last, beside_on, kids_across, rows_uneven, rows_end_lem, rows_last, rows_on, rows-kids}
 use Rattle.order.proofs.+meeting.Goals as goal
-use Rattle.order.proofs.+meeting.Goals.{pair-then-x-b-via-then-x-b, pair-then-x-b-via-else-x-b+then-x-step}
+use Rattle.order.proofs.+meeting.Goals.{meet-then-k-eq0-via-then-k-eq0, meet-then-k-eq0-via-else-k-eq0+then-l-eq0, pair-then-x-b-via-then-x-b, pair-then-x-b-via-else-x-b+then-x-step}
 
 pub across-returns : goal.across-returns
 across-returns t c = search (rules, kids_across)
@@ -33,13 +33,14 @@ pub go-returns : goal.go-returns
 go-returns t c = search (rules, go_not_own)
 
 pub meet-returns-then-k-eq0 : goal.meet-returns-then-k-eq0
-meet-returns-then-k-eq0 t c = search (rules, meet_left)
+meet-returns-then-k-eq0 t c =
+    elim c.then-k-eq0.branch [
+      | meet-then-k-eq0-via-then-k-eq0 w ↦ meet_left _ _ _ _ _ _ _ _ _ _ c.state-p.ensures c.state-q.ensures c.kind-k.ensures c.kind-l.ensures _ _ w.if-k-eq0.true c.join.ensures
+      | meet-then-k-eq0-via-else-k-eq0+then-l-eq0 w ↦ meet_right _ _ _ _ _ _ _ _ _ _ c.state-p.ensures c.state-q.ensures c.kind-k.ensures c.kind-l.ensures _ _ w.if-l-eq0.true c.join.ensures
+    ]
 
-pub meet-returns-then-l-eq0 : goal.meet-returns-then-l-eq0
-meet-returns-then-l-eq0 t c = search (rules, meet_right)
-
-pub meet_known-returns : goal.meet_known-returns
-meet_known-returns t c = search (rules, known_joined, kind_there)
+pub meet-returns : goal.meet-returns
+meet-returns t c = search (rules, known_joined, kind_there)
 
 pub pair-returns-then-x-b : goal.pair-returns-then-x-b
 pair-returns-then-x-b t c =
@@ -63,8 +64,8 @@ go-returns-then-x-y-2 t c = search (rules, go_same, go_own)
 pub beside-returns-in_err-cell : goal.beside-returns-in_err-cell
 beside-returns-in_err-cell t c = let p = err_from_is_err_and c.from_residual.result c.from_residual.ensures.1 in rw (p.1, p.2) (search (rules, beside_last, c.in_err-cell.ensures, halt_not-on))
 
-pub meet_known-returns-in_err-below : goal.meet_known-returns-in_err-below
-meet_known-returns-in_err-below t c = let p = err_from_is_err_and c.from_residual.result c.from_residual.ensures.1 in rw (p.1, p.2) (search (rules, known_kids, kind_there, c.in_err-below.ensures, halt_not-on))
+pub meet-returns-in_err-below : goal.meet-returns-in_err-below
+meet-returns-in_err-below t c = let p = err_from_is_err_and c.from_residual.result c.from_residual.ensures.1 in rw (p.1, p.2) (search (rules, known_kids, kind_there, c.in_err-below.ensures, halt_not-on))
 
 pub pairs-returns-in_err-pair : goal.pairs-returns-in_err-pair
 pairs-returns-in_err-pair t c = let p = err_from_is_err_and c.from_residual.result c.from_residual.ensures.1 in rw (p.1, p.2) (search (rules, rows_last, c.in_err-pair.ensures, halt_not-on))

@@ -1,5 +1,5 @@
 -- The cycle of `go`: the rule is followed layer by layer, and the fuel falls.
-use Rattle.std.proofs.Common.{◌+◌, ◌*◌, ◌-◌}
+use Rattle.std.proofs.Common.{◌+◌, ◌*◌}
 use Rattle.table.specs.ChildTypes.{row_at}
 use Rattle.order.specs.Kids.{Beside, Rows}
 use Rattle.order.proofs.+meeting.Given as goal
@@ -22,9 +22,6 @@ decreases-go l = 10 * l.left + 2
 abbrev pub decreases-meet : goal.decreases-meet
 decreases-meet l = 10 * l.left + 1
 
-abbrev pub decreases-meet_known : goal.decreases-meet_known
-decreases-meet_known l = 10 * l.left
-
 abbrev pub decreases-pair : goal.decreases-pair
 decreases-pair l = 10 * l.left + 4
 
@@ -35,7 +32,7 @@ abbrev pub decreases-rows : goal.decreases-rows
 decreases-rows l = 10 * l.left + 8
 
 abbrev pub invariant-beside-loop-j : goal.invariant-beside-loop-j
-invariant-beside-loop-j l = Beside l.sheet l.places l.ws l.initial.m l.head (row_at l.ws l.z l.n) l.b l.m l.c l.j
+invariant-beside-loop-j l = Beside l.sides.sheet.now l.sides.places.now l.sides.table.now l.initial.m l.head (row_at l.sides.table.now l.z l.n) l.b l.m l.c l.j
 
 abbrev pub invariant-pairs-loop-j : goal.invariant-pairs-loop-j
-invariant-pairs-loop-j l = Rows l.sheet l.places l.ws l.initial.m l.xs l.ys l.b l.m l.j
+invariant-pairs-loop-j l = Rows l.sides.sheet.now l.sides.places.now l.sides.table.now l.initial.m l.xs l.ys l.b l.m l.j

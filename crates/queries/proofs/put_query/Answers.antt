@@ -1,6 +1,6 @@
 -- `put_query`: four words written, of which the question's are counted.
 use Rattle.std.proofs.Common.{rules}
-use Rattle.queries.specs.Rows.{room_second, room_third, room_fourth, put_query}
+use Rattle.queries.specs.Rows.{put_query}
 use Rattle.queries.proofs.put_query.Goals as goal
 
 pub returns : goal.returns

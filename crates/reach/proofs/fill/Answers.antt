@@ -1,6 +1,6 @@
 -- `fill`: signatures, and then impl parameters.
 use Rattle.std.proofs.Common.{rules}
-use Rattle.reach.specs.Whole.{whole_checked, whole_short, whole_room, whole_taken, generics_indexed}
+use Rattle.reach.specs.Whole.{whole_room, generics_indexed}
 use Rattle.reach.proofs.fill.Goals as goal
 
 pub index-requires : goal.index-requires

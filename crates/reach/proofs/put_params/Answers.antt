@@ -1,6 +1,6 @@
 -- `put_params`: the table and the impl parameters of the generics.
 use Rattle.std.proofs.Common.{rules}
-use Rattle.reach.specs.Params.{called_short, params_few, params_short, params-put}
+use Rattle.reach.specs.Params.{params_few, params_short, params-put}
 use Rattle.reach.proofs.put_params.Goals as goal
 
 pub put_chain-requires-clause-head_in_bounds : goal.put_chain-requires-clause-head_in_bounds

@@ -1,11 +1,8 @@
 -- `add_autos`: by what is found.
 use Rattle.std.proofs.Common.{rules}
-use Rattle.steps.specs.Built.{four-length, auto_fits_kind, auto_fits_id, auto_none, auto_one}
+use Rattle.steps.specs.Built.{auto_fits_kind, auto_fits_id, auto_none, auto_one}
 use Rattle.slots.specs.Adding.{aside_first}
 use Rattle.steps.proofs.add_autos.Goals as goal
-
-pub slice_bounds-find_auto_impls-end : goal.slice_bounds-find_auto_impls-end
-slice_bounds-find_auto_impls-end c = search (rules, four-length)
 
 pub leaf_step-requires-clause-aside : goal.leaf_step-requires-clause-aside
 leaf_step-requires-clause-aside c = search (rules, aside_first)

@@ -1,20 +1,16 @@
 -- `find_candidates`: the question's words.
 use Rattle.std.proofs.Common.{rules}
-use Rattle.steps.specs.Built.{four-length}
-use Rattle.steps.specs.Next.{sets_length, sets_stand, four_few, finds_query}
+use Rattle.steps.specs.Next.{sets_length, sets_stand, args_few, finds_query}
 use Rattle.steps.proofs.find_candidates.Goals as goal
 
 pub slice_bounds-find_impl_candidates-end : goal.slice_bounds-find_impl_candidates-end
 slice_bounds-find_impl_candidates-end c = search (rules, sets_length)
 
-pub slice_bounds-find_impl_candidates-end-2 : goal.slice_bounds-find_impl_candidates-end-2
-slice_bounds-find_impl_candidates-end-2 c = search (rules, four-length)
-
 pub find_impl_candidates-requires-clause-stands : goal.find_impl_candidates-requires-clause-stands
 find_impl_candidates-requires-clause-stands c = search (rules, sets_stand, c.requires.stands)
 
 pub find_impl_candidates-requires-clause-args_len_bound : goal.find_impl_candidates-requires-clause-args_len_bound
-find_impl_candidates-requires-clause-args_len_bound c = search (rules, four_few)
+find_impl_candidates-requires-clause-args_len_bound c = search (rules, args_few)
 
 pub returns : goal.returns
 returns c = search (rules, finds_query)

@@ -14,5 +14,5 @@ clashes-requires-clause-sound c = search (rules, sound_sheet)
 pub returns-then-clashes : goal.returns-then-clashes
 returns-then-clashes c = search (rules, opens_clash)
 
-pub open_copy-qs-requires-clause-scratch : goal.open_copy-qs-requires-clause-scratch
-open_copy-qs-requires-clause-scratch c = search (rules, scratch_kept)
+pub open_copy-opened-requires-clause-scratch : goal.open_copy-opened-requires-clause-scratch
+open_copy-opened-requires-clause-scratch c = search (rules, scratch_kept)

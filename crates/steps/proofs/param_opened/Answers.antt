@@ -10,11 +10,11 @@ leaf_step-requires-clause-packed c = search (rules, met_packed)
 pub leaf_step-requires-clause-aside : goal.leaf_step-requires-clause-aside
 leaf_step-requires-clause-aside c = search (rules, aside_behind)
 
-pub returns-in-Full : goal.returns-in-Full
-returns-in-Full c = search (rules, met_full)
+pub returns-in-Err : goal.returns-in-Err
+returns-in-Err c = search (rules, met_full)
 
-pub returns-in-Unfit : goal.returns-in-Unfit
-returns-in-Unfit c = search (rules, met_unfit)
+pub returns-in-Ok-false : goal.returns-in-Ok-false
+returns-in-Ok-false c = met_unfit _ _ c.args.f _ _ _ _ _ _ c.requires.p_value c.in-Ok-false.ensures (search rules) c.requires.found_n_bound c.requires.found_count_bound
 
-pub returns-in-Fits : goal.returns-in-Fits
-returns-in-Fits c = search (rules, met_fits, c.requires.p_value, c.requires.n_bound, c.meet_behind-met.ensures, c.leaf_step.ensures)
+pub returns-in-Ok-true : goal.returns-in-Ok-true
+returns-in-Ok-true c = met_fits _ _ c.args.f _ _ _ _ _ _ c.requires.p_value c.in-Ok-true.ensures (search rules) c.requires.found_n_bound _ _ c.leaf_step.ensures

@@ -1,10 +1,10 @@
 -- `child_count`: an unknown node has no children.
+use Rattle.std.proofs.Common.{◌∙◌, ap, min, refl, sym}
 use Rattle.table.specs.Reads.{children-none, arity_min}
-use borrow.Author.Rules.{rules}
 use Rattle.table.proofs.child_count.Goals as goal
 
-pub returns-then-kind_of-eq0 : goal.returns-then-kind_of-eq0
-returns-then-kind_of-eq0 c = search (rules, children-none)
+pub returns-in-Some : goal.returns-in-Some
+returns-in-Some c = c.min.ensures ∙ ap (min 8) c.arity.ensures ∙ arity_min _ _ _ _ refl c.in-Some.ensures.known c.in-Some.ensures.is
 
-pub returns : goal.returns
-returns c = search (rules, arity_min)
+pub returns-in-None : goal.returns-in-None
+returns-in-None c = children-none _ _ _ (sym c.in-None.ensures.none) refl

@@ -1,10 +1,10 @@
 -- `inverted_of`: an unknown node is not inverted.
+use Rattle.std.proofs.Common.{◌∙◌, refl, sym}
 use Rattle.table.specs.Reads.{inverted_none, inverted_here}
-use borrow.Author.Rules.{rules}
 use Rattle.table.proofs.inverted_of.Goals as goal
 
-pub returns-then-kind_of-ne0 : goal.returns-then-kind_of-ne0
-returns-then-kind_of-ne0 c = search (rules, inverted_here)
+pub returns-in-Some : goal.returns-in-Some
+returns-in-Some c = c.is_inverted.ensures ∙ inverted_here _ _ _ refl c.in-Some.ensures.known _ c.in-Some.ensures.is
 
-pub returns-else-kind_of-ne0 : goal.returns-else-kind_of-ne0
-returns-else-kind_of-ne0 c = search (rules, inverted_none)
+pub returns-in-None : goal.returns-in-None
+returns-in-None c = inverted_none _ _ _ (sym c.in-None.ensures.none) refl

@@ -1,10 +1,10 @@
 -- `kind_of`: past the end a node is unknown.
+use Rattle.std.proofs.Common.{◌∙◌, refl}
 use Rattle.table.specs.Reads.{kind_here, kind_past}
-use borrow.Author.Rules.{rules}
 use Rattle.table.proofs.kind_of.Goals as goal
 
-pub returns-then-n-count : goal.returns-then-n-count
-returns-then-n-count c = search (rules, kind_here)
+pub returns-in-Some : goal.returns-in-Some
+returns-in-Some c = c.kind.ensures ∙ kind_here _ _ _ _ refl c.in-Some.ensures.there c.in-Some.ensures.is
 
-pub returns-else-n-count : goal.returns-else-n-count
-returns-else-n-count c = search (rules, kind_past)
+pub returns-in-None : goal.returns-in-None
+returns-in-None c = kind_past _ _ _ refl c.in-None.ensures.past

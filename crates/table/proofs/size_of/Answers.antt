@@ -1,10 +1,10 @@
 -- `size_of`: past the end a node is a new unknown.
+use Rattle.std.proofs.Common.{◌∙◌, refl}
 use Rattle.table.specs.Reads.{size_in, size_past}
-use borrow.Author.Rules.{rules}
 use Rattle.table.proofs.size_of.Goals as goal
 
-pub returns-then-n-count-clause-is : goal.returns-then-n-count-clause-is
-returns-then-n-count-clause-is c = search (rules, size_in)
+pub returns-in-Some-clause-is : goal.returns-in-Some-clause-is
+returns-in-Some-clause-is c = c.size.ensures.is ∙ size_in _ _ _ _ refl c.in-Some.ensures.there c.in-Some.ensures.is
 
-pub returns-else-n-count-clause-is : goal.returns-else-n-count-clause-is
-returns-else-n-count-clause-is c = search (rules, size_past)
+pub returns-in-None-clause-is : goal.returns-in-None-clause-is
+returns-in-None-clause-is c = size_past _ _ _ refl c.in-None.ensures.past

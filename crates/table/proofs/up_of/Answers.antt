@@ -1,10 +1,10 @@
 -- `up_of`: past the end a node is a new unknown.
+use Rattle.std.proofs.Common.{◌∙◌, refl}
 use Rattle.table.specs.Reads.{up_in, up_past}
-use borrow.Author.Rules.{rules}
 use Rattle.table.proofs.up_of.Goals as goal
 
-pub returns-then-n-count : goal.returns-then-n-count
-returns-then-n-count c = search (rules, up_in)
+pub returns-in-Some : goal.returns-in-Some
+returns-in-Some c = c.up.ensures.is ∙ up_in _ _ _ _ refl c.in-Some.ensures.there c.in-Some.ensures.is
 
-pub returns-else-n-count : goal.returns-else-n-count
-returns-else-n-count c = search (rules, up_past)
+pub returns-in-None : goal.returns-in-None
+returns-in-None c = up_past _ _ _ refl c.in-None.ensures.past

@@ -4,8 +4,8 @@ use Rattle.table.specs.Joins.{wrote_state}
 use borrow.Author.Rules.{rules}
 use Rattle.table.proofs.write_state.Goals as goal
 
-pub root_head-h-requires-clause-n_lt_limit_nodes : goal.root_head-h-requires-clause-n_lt_limit_nodes
-root_head-h-requires-clause-n_lt_limit_nodes c = search (rules, node_low)
+pub at_root-requires-clause-n_lt_limit_nodes : goal.at_root-requires-clause-n_lt_limit_nodes
+at_root-requires-clause-n_lt_limit_nodes c = search (rules, node_low)
 
 pub returns : goal.returns
 returns c = search (rules, wrote_state)

@@ -19,4 +19,4 @@ abbrev pub decreases-transfer_type : goal.decreases-transfer_type
 decreases-transfer_type g l = 4 * l.left + 3
 
 abbrev pub invariant-transfer_each-loop-i : goal.invariant-transfer_each-loop-i
-invariant-transfer_each-loop-i g l = Going (g.S.Source.types l.src) (transfer_in l.left (g.S.Source.types l.src) (params_in l.params)) l.fn.dst l.fn.map l.dst l.map l.fn.ts l.ts l.m l.i
+invariant-transfer_each-loop-i g l = Going (g.S.Source.types l.from.table.now) (transfer_in l.left (g.S.Source.types l.from.table.now) (params_in l.from.params)) l.fn.dst l.fn.map l.dst l.map l.fn.ts l.ts l.m l.i

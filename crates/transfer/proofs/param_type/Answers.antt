@@ -7,8 +7,8 @@ use Rattle.transfer.proofs.param_type.Goals as goal
 pub returns-in_default : goal.returns-in_default
 returns-in_default g c = search (rules, param_absent)
 
-pub returns-then-kind_of-ne-PARAM : goal.returns-then-kind_of-ne-PARAM
-returns-then-kind_of-ne-PARAM g c = search (rules, param_else)
+pub returns-then-kind_of-ne-KIND_PARAM : goal.returns-then-kind_of-ne-KIND_PARAM
+returns-then-kind_of-ne-KIND_PARAM g c = search (rules, param_else)
 
 pub returns : goal.returns
-returns g c = param_given _ _ _ _ c.in-Some.is (subst GivenWords c.in-Some.is c.requires) _ _ _ _ _ _ _ _ c.word-p.ensures c.invert_if-u.ensures c.invert_if.ensures c.kind_of.ensures c.if-kind_of-ne-PARAM.false c.id_of.ensures refl c.inverted_of.ensures c.is_inverted.ensures
+returns g c = param_given _ _ _ _ c.in-Some.is (subst GivenWords c.in-Some.is c.args.from.now.given) _ _ _ _ _ _ _ _ c.word-p.ensures c.invert_if-u.ensures c.invert_if.ensures c.kind_of.ensures c.if-kind_of-ne-KIND_PARAM.false c.id_of.ensures refl c.inverted_of.ensures c.is_inverted.ensures

@@ -98,20 +98,14 @@ unify_last-unify_in-requires t c =
 pub unify_last-returns : goal.unify_last-returns
 unify_last-returns t c = search (rules, last-met)
 
-pub unify_noted-recall-requires-clause-x_bound : goal.unify_noted-recall-requires-clause-x_bound
-unify_noted-recall-requires-clause-x_bound t c = search (rules, root_small)
+pub unify_noted-invariant_of-pair-clause-left : goal.unify_noted-invariant_of-pair-clause-left
+unify_noted-invariant_of-pair-clause-left t c = search (rules, root_small)
 
-pub unify_noted-recall-requires-clause-y_bound : goal.unify_noted-recall-requires-clause-y_bound
-unify_noted-recall-requires-clause-y_bound t c = search (rules, root_small_2)
+pub unify_noted-invariant_of-pair-clause-right : goal.unify_noted-invariant_of-pair-clause-right
+unify_noted-invariant_of-pair-clause-right t c = search (rules, root_small_2)
 
 pub unify_noted-returns-in-Some : goal.unify_noted-returns-in-Some
 unify_noted-returns-in-Some t c = search (rules, kept_again)
-
-pub unify_noted-end-requires-clause-x_bound : goal.unify_noted-end-requires-clause-x_bound
-unify_noted-end-requires-clause-x_bound t c = search (rules, root_small)
-
-pub unify_noted-end-requires-clause-y_bound : goal.unify_noted-end-requires-clause-y_bound
-unify_noted-end-requires-clause-y_bound t c = search (rules, root_small_2)
 
 pub unify_noted-returns : goal.unify_noted-returns
 unify_noted-returns t c =

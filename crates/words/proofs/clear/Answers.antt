@@ -1,5 +1,5 @@
 -- `clear`: so many words are cleared.
-use borrow.Author.Rules.{rules}
+use Rattle.std.proofs.Common.{rules}
 use Rattle.words.specs.Buffers.{cleared_part}
 use Rattle.words.proofs.clear.Goals as goal
 

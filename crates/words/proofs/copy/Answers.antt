@@ -1,5 +1,5 @@
 -- `copy`: so many words are copied.
-use borrow.Author.Rules.{rules}
+use Rattle.std.proofs.Common.{rules}
 use Rattle.words.specs.Buffers.{copied_part}
 use Rattle.words.proofs.copy.Goals as goal
 

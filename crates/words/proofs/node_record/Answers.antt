@@ -1,6 +1,6 @@
 -- `node_record`: the test says which of the two slices is meant.
 use Rattle.words.specs.Buffers.{from_question, from_sheet}
-use borrow.Author.Rules.{rules}
+use Rattle.std.proofs.Common.{rules}
 use Rattle.words.proofs.node_record.Goals as goal
 
 pub returns-then-asked : goal.returns-then-asked

@@ -1,6 +1,6 @@
 -- `offset`: a word past the end is 0.
 use Rattle.rules.specs.WordLaws.{offset_past, offset_long}
-use borrow.Author.Rules.{rules}
+use Rattle.std.proofs.Common.{rules}
 use Rattle.words.proofs.offset.Goals as goal
 
 pub returns-else-p-s : goal.returns-else-p-s

@@ -1,5 +1,5 @@
 -- `record`: the tests say whether the record passes the end.
-use borrow.Author.Rules.{rules}
+use Rattle.std.proofs.Common.{rules}
 use Rattle.rules.specs.WordLaws.{record_in, record_long, record_past}
 use Rattle.words.proofs.record.Goals as goal
 

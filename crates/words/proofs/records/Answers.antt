@@ -1,5 +1,5 @@
 -- `records`: all of the chain is left.
-use borrow.Author.Rules.{rules}
+use Rattle.std.proofs.Common.{rules}
 use Rattle.words.specs.Chain.{chain_begins}
 use Rattle.words.proofs.records.Goals as goal
 

@@ -1,7 +1,7 @@
 -- `kind_row`: the const rows are those of the rule's table, which antt computes; past their end there is 0.
 use Rattle.rules.specs.Sheet.{kinds}
 use Rattle.chart.specs.Kinds.{cut, row_in, row_past, row_long}
-use borrow.Author.Rules.{rules}
+use Rattle.std.proofs.Common.{rules}
 use Rattle.chart.proofs.kinds.kind_row.Goals as goal
 
 pub returns-then-over-k : goal.returns-then-over-k

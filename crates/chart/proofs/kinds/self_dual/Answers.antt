@@ -1,5 +1,5 @@
 -- `self_dual`, kind by kind.
-use borrow.Author.Rules.{rules}
+use Rattle.std.proofs.Common.{rules}
 use Rattle.chart.specs.Kinds.{of_struct, of_union, of_none, of_kind}
 use Rattle.chart.proofs.kinds.self_dual.Goals as goal
 

@@ -1,5 +1,5 @@
 -- `ancestors`: from the source upwards.
-use borrow.Author.Rules.{rules}
+use Rattle.std.proofs.Common.{rules}
 use Rattle.chart.specs.Scope.{upward_from}
 use Rattle.chart.proofs.scope.ancestors.Goals as goal
 

@@ -1,5 +1,5 @@
 -- `get_member`: a child names its definition, an import what it is resolved to.
-use borrow.Author.Rules.{rules}
+use Rattle.std.proofs.Common.{rules}
 use Rattle.chart.specs.Scope.{child_member, import_member}
 use Rattle.chart.proofs.scope.get_member.Goals as goal
 

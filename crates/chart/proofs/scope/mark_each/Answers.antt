@@ -1,5 +1,5 @@
 -- `mark_each`: one more ancestor, with a word or without.
-use borrow.Author.Rules.{rules}
+use Rattle.std.proofs.Common.{rules}
 use Rattle.chart.specs.Ancestors.{marked_none, marked_more, marked_past}
 use Rattle.chart.proofs.scope.mark_each.Goals as goal
 

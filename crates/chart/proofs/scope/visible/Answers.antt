@@ -1,5 +1,5 @@
 -- `visible`: a vis is public, or names an ancestor.
-use borrow.Author.Rules.{rules}
+use Rattle.std.proofs.Common.{rules}
 use Rattle.chart.specs.Scope.{visible_all, visible_in}
 use Rattle.chart.proofs.scope.visible.Goals as goal
 

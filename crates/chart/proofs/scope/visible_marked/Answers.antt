@@ -1,5 +1,5 @@
 -- `visible_marked`: a vis is public, or what is noted of its definition.
-use borrow.Author.Rules.{rules}
+use Rattle.std.proofs.Common.{rules}
 use Rattle.chart.specs.Ancestors.{vis_public, vis_marked}
 use Rattle.chart.proofs.scope.visible_marked.Goals as goal
 

@@ -3,8 +3,8 @@ use Rattle.std.proofs.Common.{rules}
 use Rattle.type_cases.specs.Steps.{tested-words, known_pushed}
 use Rattle.type_cases.proofs.steps.known.Goals as goal
 
-pub new_known-requires-clause-type_words : goal.new_known-requires-clause-type_words
-new_known-requires-clause-type_words c = search (rules, tested-words)
+pub invariant_of-known-clause-type_words : goal.invariant_of-known-clause-type_words
+invariant_of-known-clause-type_words c = search (rules, tested-words)
 
 pub returns : goal.returns
 returns c = search (rules, known_pushed)

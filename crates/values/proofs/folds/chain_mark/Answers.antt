@@ -1,5 +1,5 @@
 -- `chain_mark`: no chain, one past the plane, or what is noted.
-use borrow.Author.Rules.{rules}
+use Rattle.std.proofs.Common.{rules}
 use Rattle.values.specs.Folds.{mark-none, mark_past, mark-some}
 use Rattle.values.proofs.folds.chain_mark.Goals.{then-h-eq0-via-then-h-eq0, then-h-eq0-via-else-h-eq0+then-h-ge-PLANE}
 use Rattle.values.proofs.folds.chain_mark.Goals as goal

@@ -1,5 +1,5 @@
 -- `longer`: up to the size of a slice.
-use borrow.Author.Rules.{rules}
+use Rattle.std.proofs.Common.{rules}
 use Rattle.values.specs.Folds.{longer_up, longer_full}
 use Rattle.values.proofs.folds.longer.Goals as goal
 

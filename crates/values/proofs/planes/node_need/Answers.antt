@@ -1,5 +1,5 @@
 -- `node_need`: of a Param its id.
-use borrow.Author.Rules.{rules}
+use Rattle.std.proofs.Common.{rules}
 use Rattle.values.specs.Value.{need_none, need_some}
 use Rattle.values.proofs.planes.node_need.Goals as goal
 

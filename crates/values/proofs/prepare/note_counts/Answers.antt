@@ -1,5 +1,5 @@
 -- `note_counts`: a count is a word.
-use borrow.Author.Rules.{rules}
+use Rattle.std.proofs.Common.{rules}
 use Rattle.values.specs.Tables.{count_fits}
 use Rattle.values.proofs.prepare.note_counts.Goals as goal
 

@@ -1,5 +1,5 @@
 -- `next`: the first record that is left, and those behind it.
-use borrow.Author.Rules.{rules}
+use Rattle.std.proofs.Common.{rules}
 use Rattle.words.specs.Chain.{chain_spent, chain_ends, chain_goes_on}
 use Rattle.words.proofs.ChainIterator.next.Goals as goal
 

@@ -1,5 +1,5 @@
 -- `next`: a definition, and then its parent.
-use borrow.Author.Rules.{rules}
+use Rattle.std.proofs.Common.{rules}
 use Rattle.chart.specs.Scope.{upward_spent, upward_top, upward_on}
 use Rattle.chart.proofs.scope.AncestryIterator.next.Goals as goal
 

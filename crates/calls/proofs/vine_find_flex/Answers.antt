@@ -1,6 +1,0 @@
-use Rattle.std.proofs.Common.{rules}
-use Rattle.calls.specs.Outcomes.{packed_call}
-use Rattle.calls.proofs.vine_find_flex.Goals as goal
-
-pub returns : goal.returns
-returns c = search (rules, packed_call)

@@ -1,7 +1,0 @@
--- `meet_own`: by its root.
-use Rattle.std.proofs.Common.{rules}
-use Rattle.clash.specs.Meeting.{own_found}
-use Rattle.clash.proofs.meet_own.Goals as goal
-
-pub returns : goal.returns
-returns c = search (rules, own_found)

@@ -1,7 +1,0 @@
--- `meet_roots`: kinds differ.
-use Rattle.std.proofs.Common.{rules}
-use Rattle.clash.specs.Meeting.{roots_kinds}
-use Rattle.clash.proofs.meet_roots.Goals as goal
-
-pub returns-then-k-j : goal.returns-then-k-j
-returns-then-k-j c = search (rules, roots_kinds)

@@ -1,6 +1,0 @@
--- `find`: along links.
-use Rattle.order.specs.Words.{Leads}
-use Rattle.order.proofs.find.Given as goal
-
-abbrev pub invariant-loop : goal.invariant-loop
-invariant-loop l = Leads l.m l.t l.x

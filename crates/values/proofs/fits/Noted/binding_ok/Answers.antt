@@ -1,0 +1,7 @@
+-- `binding_ok`: the counts are those of the sheet.
+use Rattle.std.proofs.Common.{rules}
+use Rattle.values.specs.Known.{binding_known}
+use Rattle.values.proofs.fits.Noted.binding_ok.Goals as goal
+
+pub returns : goal.returns
+returns c = search (rules, binding_known)
