@@ -43,7 +43,7 @@ pub struct Asked<'a> {
 }
 
 fn number(arg: &String) -> Option<u32> {
-    notation::read::number(arg.as_str())
+    notation::read::number(arg.as_bytes())
 }
 
 impl Numbers {

@@ -36,43 +36,6 @@ impl fmt::Display for Refused {
     }
 }
 
-// Passes text on, as far as there is room for its bytes.
-#[derive(Drop)]
-struct Front<'f, W: Write> {
-    out: &'f mut fmt::Formatter<W>,
-    room: usize,
-}
-
-impl<'f, W: Write> Write for Front<'f, W> {
-    fn write_str(&mut self, s: &str) -> fmt::Result {
-        for c in s.chars() {
-            if self.room == 0 {
-                return Err(fmt::Error);
-            }
-            self.out.write_char(c)?;
-            self.room -= 1;
-        }
-        Ok(())
-    }
-}
-
-// A type, which breaks off where it takes a line's room.
-#[derive(Clone, Copy)]
-struct Line<'a>(Type<'a>);
-
-const ROOM: usize = 4096;
-
-impl<'a> fmt::Display for Line<'a> {
-    fn fmt<W: Write>(&self, f: &mut fmt::Formatter<W>) -> fmt::Result {
-        let mut front = Front { out: f, room: ROOM };
-        let written = write!(front, "{}", self.0);
-        if front.room == 0 {
-            return write!(f, " ..");
-        }
-        written
-    }
-}
-
 // A call that was answered: the steps, the trees, the types, and its words where they are asked for.
 #[derive(Clone, Copy, Debug)]
 pub struct Answered<'a> {
@@ -121,11 +84,11 @@ impl<'a> Answered<'a> {
         writeln!(f, "types:")?;
         let table = words::next(answer, 2);
         for (k, &word) in words::record(answer, used - n, n).iter().enumerate() {
-            let line = Line(Type {
+            let line = Type {
                 answer,
                 table,
                 word,
-            });
+            };
             writeln!(f, "  {k}: {line}")?;
         }
         Ok(())

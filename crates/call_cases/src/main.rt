@@ -66,7 +66,7 @@ fn replay_all<R: Read>(
 ) -> io::Result<()> {
     for _ in 0..cases::read_word(source)? {
         let case = Case::read(alloc, source)?;
-        let stored = cases::read_words(alloc, source, compare::ANSWER)?;
+        let stored = cases::read_row(alloc, source, compare::ANSWER)?;
         if let Some(seen) = replay(&case, stored.as_slice(), workspace) {
             tally.count(cases::number(seen.end.refusal), seen.right);
         }

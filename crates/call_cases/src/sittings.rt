@@ -51,7 +51,7 @@ fn print_end(rt: &impl Print, end: End) -> io::Result<()> {
     }
 }
 
-// Replays the calls of a sitting, and prints how each ends.
+// Replays the calls of a sitting, behind their number, and prints how each ends.
 fn replay_calls<R: Read>(
     rt: &(impl Print + AllocGlobal),
     source: &mut R,
@@ -60,9 +60,9 @@ fn replay_calls<R: Read>(
     tally: &mut Tally<NUMBERS>,
 ) -> io::Result<()> {
     let mut spent = sitting.count;
-    for _ in 0..sitting.calls {
+    for _ in 0..cases::read_word(source)? {
         let call = Call::read(rt.alloc(), source)?;
-        let stored = cases::read_words(rt.alloc(), source, compare::ANSWER)?;
+        let stored = cases::read_row(rt.alloc(), source, compare::ANSWER)?;
         let seen = replay_call(sitting, &call, stored.as_slice(), spent, workspace);
         spent = seen.end.count;
         tally.count(cases::number(seen.end.refusal), seen.right);

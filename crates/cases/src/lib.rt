@@ -1,9 +1,9 @@
 // Stored cases: little-endian words read from a source, a case at a time, and how many came to what. oracle/stored/README.md says how they are laid out.
 #![tactic(auto)]
 
-ghost use Rattle.std.specs.Prelude.{◌≡◌, ◌≢◌, ◌↔◌, ◌<◌, ◌≤◌, ◌^◌, IfOk, IfSome, IfNone, vec_len};
+ghost use Rattle.std.specs.Prelude.{◌≡◌, ◌≢◌, ◌↔◌, ◌<◌, ◌≤◌, ◌^◌, IfOk, IfSome, IfNone, take, drop, vec_len};
 ghost use Rattle.refusals.specs.Numbers.{number_of};
-ghost use Rattle.cases.specs.Word.{TakesWord};
+ghost use Rattle.cases.specs.Word.{TakesWord, TakesWords};
 
 use refusals::Refusal;
 use std::alloc::Global;
@@ -36,8 +36,20 @@ pub fn read_word<R: Read>(source: &mut R) -> io::Result<u32>
     Ok(next_word(source)?.unwrap_or(0))
 }
 
+// Reads n words into the front of a buffer, or as many as it has room for.
+#[tactic(auto, using(crate::proofs::Words::takes_set, crate::proofs::Words::behind_set, crate::proofs::Words::behind_on))]
+pub fn read_words<R: Read>(source: &mut R, buf: &mut [u32], n: usize) -> io::Result<()>
+    ensures words { IfOk result (λ _. TakesWords (R.remaining source.old) (R.remaining source.new) (take n buf.new)) }
+    ensures behind { drop n buf.new ≡ drop n buf.old }
+{
+    for i in 0..n.min(buf.len()) {
+        buf[i] = read_word(source)?;
+    }
+    Ok(())
+}
+
 // Words behind their number, of which no more are read than so many; 0 for those that the source ends before.
-pub fn read_words<R: Read>(alloc: Global, source: &mut R, most: usize) -> io::Result<Vec<u32>>
+pub fn read_row<R: Read>(alloc: Global, source: &mut R, most: usize) -> io::Result<Vec<u32>>
     ensures { IfOk result (λ words. (vec_len words < 2 ^ 32) × (vec_len words ≤ most)) }
 {
     let n = read_word(source)?;
@@ -145,17 +157,21 @@ impl Call {
         source: &mut R,
         form: Form,
         lent: Lent,
-    ) -> io::Result<Self> {
+    ) -> io::Result<Self>
+        ensures { IfOk result (λ call. vec_len call.question ≤ SLICE) }
+    {
         Ok(Call {
             form,
             lent,
-            question: read_words(alloc, source, SLICE)?,
+            question: read_row(alloc, source, SLICE)?,
             end: End::read(source)?,
         })
     }
 
     // The next call of a sitting.
-    pub fn read<R: Read>(alloc: Global, source: &mut R) -> io::Result<Self> {
+    pub fn read<R: Read>(alloc: Global, source: &mut R) -> io::Result<Self>
+        ensures { IfOk result (λ call. vec_len call.question ≤ SLICE) }
+    {
         let form = Form::new(read_word(source)?, read_word(source)?);
         let lent = Lent::read(source)?;
         Call::read_behind(alloc, source, form, lent)
@@ -172,14 +188,16 @@ pub struct Case {
 }
 
 impl Case {
-    pub fn read<R: Read>(alloc: Global, source: &mut R) -> io::Result<Self> {
+    pub fn read<R: Read>(alloc: Global, source: &mut R) -> io::Result<Self>
+        ensures { IfOk result (λ case. (vec_len case.sheet ≤ SLICE) × (vec_len case.call.question ≤ SLICE)) }
+    {
         let _length = read_word(source)?;
         let form = read_word(source)?;
         let asker = Asker::read(source)?;
         let form = Form::new(form, read_word(source)?);
         let count = read_word(source)?;
         let lent = Lent::read(source)?;
-        let sheet = read_words(alloc, source, SLICE)?;
+        let sheet = read_row(alloc, source, SLICE)?;
         let call = Call::read_behind(alloc, source, form, lent)?;
         Ok(Case {
             asker,
@@ -190,23 +208,23 @@ impl Case {
     }
 }
 
-// What the calls of a sitting share, which follow it: who asks, the count that the first begins with, and the sheet; and how many there are.
+// What the calls of a sitting share: who asks, the count that the first begins with, and the sheet. How many calls there are follows it, and then the calls.
 #[derive(Debug, Drop)]
 pub struct Sitting {
     pub asker: Asker,
     pub count: u32,
     pub sheet: Vec<u32>,
-    pub calls: u32,
 }
 
 impl Sitting {
-    pub fn read<R: Read>(alloc: Global, source: &mut R) -> io::Result<Self> {
+    pub fn read<R: Read>(alloc: Global, source: &mut R) -> io::Result<Self>
+        ensures { IfOk result (λ sitting. vec_len sitting.sheet ≤ SLICE) }
+    {
         let _length = read_word(source)?;
         Ok(Sitting {
             asker: Asker::read(source)?,
             count: read_word(source)?,
-            sheet: read_words(alloc, source, SLICE)?,
-            calls: read_word(source)?,
+            sheet: read_row(alloc, source, SLICE)?,
         })
     }
 }

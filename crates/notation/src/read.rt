@@ -1,5 +1,5 @@
 // Decimal words from text: digits; spaces, tabs, line ends and '|' between words; '#' to the line's end is a comment.
-ghost use Rattle.std.specs.Prelude.{◌≡◌, ◌+◌, ◌*◌, ◌^◌, ◌<◌, ◌↔◌, IsSome, IfSome, IfOk, IfErr};
+ghost use Rattle.std.specs.Prelude.{◌≡◌, ◌+◌, ◌*◌, ◌^◌, ◌<◌, ◌↔◌, IsSome, IfSome, IfOk, IfErr, length};
 ghost use Rattle.notation.specs.State.{word_of, ended_by};
 
 use std::error::Error;
@@ -100,10 +100,12 @@ impl Reader {
 }
 
 // The number that a text is: it has one word, and nothing else but what may stand round it.
-pub fn number(text: &str) -> Option<u32> {
+pub fn number(bytes: &[u8]) -> Option<u32>
+    ensures { length bytes.now ≡ 0 → result ≡ None }
+{
     let mut reader = Reader::new();
     let mut found = None;
-    for b in text.bytes() {
+    for &b in bytes {
         if let Some(word) = reader.read(b).ok()? {
             if found.is_some() {
                 return None;

@@ -1,6 +1,11 @@
 // A type of an answer's table in one line: `~` an inverse, `?3` the unknown of node 3, `(A, B)` a Tuple, `&A` a Ref, `!` Never,
 // `Struct 0[A, B]`, `Closure 2[A, B]` (the last is what it returns), `Param 0`, `Fn 7`, `Key 5`, `Default`, `Error`.
+// A type of few nodes may be without end on paper, since they are shared: it breaks off with ` ..` where it has taken 4,096 bytes.
+ghost use Rattle.std.specs.Prelude.{◌≡◌, ◌+◌, length, IsOk};
+ghost use Rattle.std.specs.Str.{chars};
+
 use std::fmt;
+use std::fmt::Write;
 
 // The words of a node's record: next, kind, inverted, id, children.
 const NODE: usize = 5;
@@ -61,7 +66,7 @@ impl Kind {
 
 // What stands before the children.
 impl fmt::Display for Kind {
-    fn fmt<W: fmt::Write>(&self, f: &mut fmt::Formatter<W>) -> fmt::Result {
+    fn fmt<W: Write>(&self, f: &mut fmt::Formatter<W>) -> fmt::Result {
         match self {
             Kind::Unknown(n) => write!(f, "?{n}"),
             Kind::Param(id) => write!(f, "Param {id}"),
@@ -92,9 +97,9 @@ pub struct Type<'a> {
 impl<'a> Type<'a> {
     // The types of a chain of cells, to so many levels.
     #[cycle(write)]
-    fn write_chain<W: fmt::Write>(
+    fn write_chain<W: Write>(
         self,
-        f: &mut fmt::Formatter<W>,
+        f: &mut Front<'_, W>,
         head: usize,
         levels: usize,
     ) -> fmt::Result {
@@ -110,7 +115,7 @@ impl<'a> Type<'a> {
 
     // A type with what is nested in it to so many levels; `..` where that is too deep.
     #[cycle(write)]
-    fn write<W: fmt::Write>(self, f: &mut fmt::Formatter<W>, levels: usize) -> fmt::Result {
+    fn write<W: Write>(self, f: &mut Front<'_, W>, levels: usize) -> fmt::Result {
         if levels == 0 {
             return write!(f, "..");
         }
@@ -128,8 +133,70 @@ impl<'a> Type<'a> {
     }
 }
 
+// Passes text on, as far as there is room for its bytes.
+#[derive(Drop)]
+struct Front<'f, W: Write> {
+    out: &'f mut fmt::Formatter<W>,
+    room: usize,
+}
+
+impl<'f, W: Write> Write for Front<'f, W> {
+    fn write_str(&mut self, s: &str) -> fmt::Result
+        ensures { IsOk result → self.new.room + length (chars s.now) ≡ self.old.room }
+    {
+        for c in s.chars() {
+            if self.room == 0 {
+                return Err(fmt::Error);
+            }
+            self.out.write_char(c)?;
+            self.room -= 1;
+        }
+        Ok(())
+    }
+}
+
+// How many bytes a type takes at most.
+const ROOM: usize = 4096;
+
 impl<'a> fmt::Display for Type<'a> {
-    fn fmt<W: fmt::Write>(&self, f: &mut fmt::Formatter<W>) -> fmt::Result {
-        self.write(f, DEPTH)
+    fn fmt<W: Write>(&self, f: &mut fmt::Formatter<W>) -> fmt::Result {
+        let mut front = Front { out: f, room: ROOM };
+        let written = self.write(&mut front, DEPTH);
+        if front.room == 0 {
+            return write!(f, " ..");
+        }
+        written
+    }
+}
+
+#[cfg(test)]
+mod tests {
+    use super::*;
+    use std::test::Fail;
+
+    // Sixty nodes, each but the first a Tuple of the one before twice: whole, the last takes some 2^61 bytes.
+    #[test]
+    fn breaks_off(rt: HostRuntime) -> Result<(), Fail> {
+        let mut answer = Vec::new(rt.alloc());
+        answer.push(0)?;
+        for n in 0u32..60 {
+            let place = 1 + 9 * n;
+            let (kind, children) = if n == 0 { (11, 0) } else { (2, place + 5) };
+            let below = 2 * n.saturating_sub(1);
+            for word in [place + 9, kind, 0, 0, children, place + 7, below, 0, below] {
+                answer.push(word)?;
+            }
+        }
+        for (word, length, end) in [(4, 16, "(!, !))"), (118, 4099, " ..")] {
+            let line = Type {
+                answer: answer.as_slice(),
+                table: 1,
+                word,
+            };
+            let text = line.to_string(rt.alloc())?;
+            assert_eq!(rt; text.len(), length);
+            assert!(rt; text.as_str().ends_with(end));
+        }
+        Ok(())
     }
 }

@@ -7,11 +7,7 @@ use Rattle.rules.specs.Calls.{answer_after, work_after}
 use Rattle.refusals.specs.declared.Stopped.{Stopped}
 use Rattle.refusals.specs.Numbers.{end_number, end_count}
 use Rattle.calls.specs.Outcomes.{Outcome, outcome_of, told, number_of, count_of, Calls}
-
--- What a call comes to as two numbers: 0 where it is answered, and the count after it.
-pub record Tally : Type 0 where
-  pub number : ℕ
-  pub count : ℕ
+use Rattle.sitting.specs.declared.Tally.{Tally}
 
 abbrev pub tally : ℕ → ℕ → Tally
 tally n c = record { number = n; count = c }

@@ -1,4 +1,4 @@
-// A sitting: the steps spent so far; it stands for one `Finder` of the Rust. Two thin methods over the calls of `calls`, and the C interface with the count behind a pointer.
+// A sitting: the steps spent so far; it stands for one `Finder` of the Rust. Two thin methods over the calls of `calls`, the same from a count to a count and as numbers, and the C interface with the count behind a pointer.
 #![tactic(auto)]
 
 ghost use Rattle.std.specs.Prelude.{◌≡◌, length};
@@ -15,6 +15,13 @@ use refusals::{Refusal, Stopped};
 #[derive(Clone, Copy, Debug, PartialEq, Eq)]
 pub struct Sitting {
     pub spent: u32,
+}
+
+// What a call comes to as two numbers: 0 where it is answered, and the count after it.
+#[derive(Clone, Copy, Debug, PartialEq, Eq)]
+pub struct Tally {
+    pub number: u32,
+    pub count: u32,
 }
 
 impl Sitting {
@@ -69,6 +76,82 @@ impl Sitting {
     }
 }
 
+// A verdict as a number, with the count after it.
+fn as_tally(found: Result<(), Refusal>, count: u32) -> Tally
+    ensures { result ≡ tally (verdict_number found) count }
+{
+    Tally {
+        number: checks::number(found),
+        count,
+    }
+}
+
+// The impl call, from a count to a count.
+pub fn count_impl(
+    count: u32,
+    sheet: &[u32],
+    question: &[u32],
+    source: u32,
+    generics: u32,
+    basic: u32,
+    answer: &mut [u32],
+    work: &mut [u32],
+) -> Tally
+    ensures { Sits (try_find_impl limit_steps (finder sheet.now source generics) basic question.now (length answer.old) (length work.old) count) answer.old answer.new work.old work.new result }
+{
+    let mut sitting = Sitting { spent: count };
+    let found = sitting.find_impl(sheet, question, source, generics, basic, answer, work);
+    as_tally(found, sitting.spent)
+}
+
+// The flex call, from a count to a count.
+pub fn count_flex(
+    count: u32,
+    sheet: &[u32],
+    question: &[u32],
+    source: u32,
+    generics: u32,
+    answer: &mut [u32],
+    work: &mut [u32],
+) -> Tally
+    ensures { Sits (find_flex limit_steps (finder sheet.now source generics) question.now (length answer.old) (length work.old) count) answer.old answer.new work.old work.new result }
+{
+    let mut sitting = Sitting { spent: count };
+    let flex = sitting.find_flex(sheet, question, source, generics, answer, work);
+    as_tally(flex, sitting.spent)
+}
+
+// The impl call in a sitting: its number, 0 where it is answered.
+pub fn find_impl(
+    s: &mut Sitting,
+    sheet: &[u32],
+    question: &[u32],
+    source: u32,
+    generics: u32,
+    basic: u32,
+    answer: &mut [u32],
+    work: &mut [u32],
+) -> u32
+    ensures { Sits (try_find_impl limit_steps (finder sheet.now source generics) basic question.now (length answer.old) (length work.old) s.old.spent) answer.old answer.new work.old work.new (tally result s.new.spent) }
+{
+    checks::number(s.find_impl(sheet, question, source, generics, basic, answer, work))
+}
+
+// The flex call in a sitting.
+pub fn find_flex(
+    s: &mut Sitting,
+    sheet: &[u32],
+    question: &[u32],
+    source: u32,
+    generics: u32,
+    answer: &mut [u32],
+    work: &mut [u32],
+) -> u32
+    ensures { Sits (find_flex limit_steps (finder sheet.now source generics) question.now (length answer.old) (length work.old) s.old.spent) answer.old answer.new work.old work.new (tally result s.new.spent) }
+{
+    checks::number(s.find_flex(sheet, question, source, generics, answer, work))
+}
+
 // The C interface (include/vine_finder.h): the sitting is its count, and a call's result its number, 0 where it is answered.
 pub fn vine_sitting_find_impl(
     sheet: &[u32],
@@ -82,10 +165,12 @@ pub fn vine_sitting_find_impl(
 ) -> u32
     ensures { Sits (try_find_impl limit_steps (finder sheet.now source generics) basic question.now (length answer.old) (length work.old) spent.old) answer.old answer.new work.old work.new (tally result spent.new) }
 {
-    let mut sitting = Sitting { spent: *spent };
-    let found = sitting.find_impl(sheet, question, source, generics, basic, answer, work);
-    *spent = sitting.spent;
-    checks::number(found)
+    let count = *spent;
+    let found = count_impl(
+        count, sheet, question, source, generics, basic, answer, work,
+    );
+    *spent = found.count;
+    found.number
 }
 
 // The flex call.
@@ -100,8 +185,8 @@ pub fn vine_sitting_find_flex(
 ) -> u32
     ensures { Sits (find_flex limit_steps (finder sheet.now source generics) question.now (length answer.old) (length work.old) spent.old) answer.old answer.new work.old work.new (tally result spent.new) }
 {
-    let mut sitting = Sitting { spent: *spent };
-    let found = sitting.find_flex(sheet, question, source, generics, answer, work);
-    *spent = sitting.spent;
-    checks::number(found)
+    let count = *spent;
+    let flex = count_flex(count, sheet, question, source, generics, answer, work);
+    *spent = flex.count;
+    flex.number
 }
