@@ -119,6 +119,10 @@ module _ (s : Words) (h n : ℕ) (ws₀ ws left : Words) (t : Turning s h n ws�
           (t.passed c i);
     }
 
+    -- Its node was finished before: on to the next.
+    pub turning_over : (m p : ℕ) → m ≡ cell_node s cell → p ≡ at ws m → p ≡ 0 → Turning s h n ws₀ ws more
+    turning_over m p e f z = turning_on 0 m ws true e (walked_before s h m 0 p ws t.walking f z) refl
+
   -- No cell is left, and the node is finished.
   pub turning_end : (fuel : ℕ) (out : Words) → left ≡ [] → out ≡ set ws n 0 → Walked s h n fuel ws₀ out true
   turning_end fuel out e f =

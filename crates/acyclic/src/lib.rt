@@ -56,7 +56,10 @@ fn walk(s: &[u32], ws: &mut [u32], head: u32, node: usize, fuel: usize) -> bool
         return false;
     }
     for cell in words::records(s, children_head(s, place)) {
-        if !walk(s, ws, head, cell_node(s, cell), fuel - 1) {
+        let below = cell_node(s, cell);
+        // What is finished is passed over here: a call for each cell would take twice the time.
+        let open = words::next(ws, below) != 0;
+        if open && !walk(s, ws, head, below, fuel - 1) {
             return false;
         }
     }

@@ -21,6 +21,11 @@ const SHEET: usize = 1024;
 
 const STEP: usize = 8192;
 
+// The nodes of a table, and its words.
+const NODES: usize = 256;
+
+const TABLE: usize = 1025;
+
 // What came of a file: how many cases it has, what its steps came to, and the number of the step before, which a step without words goes under.
 #[derive(Debug, Drop)]
 struct Seen {
@@ -71,24 +76,25 @@ fn step(s: &[u32], o: &[u32], a: &mut [u32], b: &mut [u32], marks: &mut [u32]) -
     }
 }
 
-// Replays n steps from two empty tables.
+// Replays n steps from two empty tables. The words of a step and the tables are lent: a `Vec` for each step and new tables for each case took half as much time again.
 #[tactic(auto, using(crate::specs::Sound::sound_empty))]
 fn replay_steps<R: Read>(
-    alloc: Global,
     source: &mut R,
     s: &[u32],
     n: u32,
+    words: &mut [u32; STEP],
+    a: &mut [u32; TABLE],
+    b: &mut [u32; TABLE],
+    marks: &mut [u32; NODES],
     seen: &mut Seen,
 ) -> io::Result<()> {
-    let mut a = [0u32; 1025];
-    let mut b = [0u32; 1025];
-    let mut marks = [0u32; 256];
-    table::clear_table(&mut a);
-    table::clear_table(&mut b);
+    table::clear_table(a);
+    table::clear_table(b);
     for _ in 0..n {
-        let o = cases::read_words(alloc, source, STEP)?;
-        let o = o.as_slice();
-        let right = step(s, o, &mut a, &mut b, &mut marks);
+        let length = cases::read_word(source)? as usize;
+        cases::read_words(source, words, length)?;
+        let o = &words[..length.min(STEP)];
+        let right = step(s, o, a, b, marks);
         seen.count(o, right);
     }
     Ok(())
@@ -96,11 +102,24 @@ fn replay_steps<R: Read>(
 
 // Replays all cases of a file.
 fn replay_all<R: Read>(alloc: Global, source: &mut R, seen: &mut Seen) -> io::Result<()> {
+    let mut words = [0u32; STEP];
+    let mut a = [0u32; TABLE];
+    let mut b = [0u32; TABLE];
+    let mut marks = [0u32; NODES];
     for _ in 0..cases::read_word(source)? {
         let _length = cases::read_word(source)?;
-        let sheet = cases::read_words(alloc, source, SHEET)?;
+        let sheet = cases::read_row(alloc, source, SHEET)?;
         let steps = cases::read_word(source)?;
-        replay_steps(alloc, source, sheet.as_slice(), steps, seen)?;
+        replay_steps(
+            source,
+            sheet.as_slice(),
+            steps,
+            &mut words,
+            &mut a,
+            &mut b,
+            &mut marks,
+            seen,
+        )?;
         seen.cases = one_more(seen.cases);
     }
     Ok(())
