@@ -20,7 +20,7 @@ pub struct Search {
     nodes: [u16; NODES],
     stack: [u16; NODES],
     count: usize,
-    height: usize,
+    height: u32,
 }
 
 impl Search {
@@ -36,26 +36,24 @@ impl Search {
         }
     }
 
-    // Whether node x was seen.
-    pub fn seen(&self, x: usize) -> bool
-        requires { x < 384 }
-    {
-        self.states[x] != State::Unseen
+    // Whether node x was seen; none past the last was.
+    pub fn seen(&self, x: usize) -> bool {
+        x < NODES && self.states[x] != State::Unseen
     }
 
     // The number of node x, where it is open.
-    pub fn number(&self, x: usize) -> Option<usize>
-        requires { x < 384 }
-    {
-        match self.states[x] {
-            State::Open(k) => Some(k as usize),
+    pub fn number(&self, x: usize) -> Option<usize> {
+        match self.states.get(x) {
+            Some(State::Open(k)) => Some(*k as usize),
             _ => None,
         }
     }
 
     // How many nodes are not finished.
-    pub fn height(&self) -> usize {
-        self.height
+    pub fn height(&self) -> usize
+        ensures { result < 4294967296 }
+    {
+        self.height as usize
     }
 
     // The node at a height of the stack.
@@ -68,7 +66,7 @@ impl Search {
         requires { x < 384 }
     {
         let k = self.count;
-        let h = self.height;
+        let h = self.height as usize;
         if NODES <= k || NODES <= h {
             return None;
         }
@@ -76,13 +74,13 @@ impl Search {
         self.nodes[k] = x as u16;
         self.stack[h] = x as u16;
         self.count = k + 1;
-        self.height = h + 1;
+        self.height += 1;
         Some(k)
     }
 
     // Takes the stack down to height h.
     pub fn cut(&mut self, h: usize) {
-        self.height = h;
+        self.height = h.min(NODES) as u32;
     }
 
     // Node x is finished.
@@ -101,10 +99,14 @@ impl Search {
         }
     }
 
-    // That node.
+    // That node; 0 past the last.
     pub fn lowest(&self, x: usize) -> usize
-        requires { x < 384 }
+        ensures { result < 4294967296 }
     {
-        self.lowest[x] as usize
+        if x < NODES {
+            self.lowest[x] as usize
+        } else {
+            0
+        }
     }
 }

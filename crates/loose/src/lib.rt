@@ -2,15 +2,17 @@
 // The labels are at first what the links have; the others are set, once, as their parents are tested. They are tested to be closed: known refs of one label have children of one label each; where they are not nothing is said.
 #![tactic(auto)]
 
-ghost use Rattle.std.specs.Prelude.{◌≡◌, ◌+◌, ◌%◌, ◌<◌, ◌≤◌, length};
+ghost use Rattle.std.specs.Prelude.{◌≡◌, ◌+◌, ◌%◌, ◌<◌, ◌≤◌, length, IfSome};
 ghost use Rattle.rules.specs.Sheet.{at};
 ghost use Rattle.table.specs.ChildTypes.{row_at};
+ghost use Rattle.refs.specs.Children.{Below};
 ghost use Rattle.loose.specs.LooseAcross.{CellsAlike};
 ghost use Rattle.loose.specs.Loose.{turned_round, SameKids, Closes, Owns, NodeCloses, NodesClose, RecordCloses, RecordsClose, ArgsSame, Labels as ClosedLabels, Opposite, Witness, Opposed};
 
 use chart::layout;
 use queries::Query;
 use refs::{NODES, PARAM, PARAMS, RECORDS, Sides, find, own_type, place_of, record_count};
+use table::Row;
 
 mod labelling;
 
@@ -105,14 +107,24 @@ impl<'a> Test<'a> {
         self.same_cells(labels, head as usize, z, n)
     }
 
+    // The types below a ref, by its node or its record; none of one that has neither.
+    fn kids(&self, r: u32) -> Option<Row>
+        ensures { IfSome result (Below self.now.sides.sheet.now self.now.sides.places.now self.now.sides.table.now r) }
+    {
+        if r >= NODES && place_of(self.sides.places, r) == 0 {
+            return None;
+        }
+        self.sides.below(r)
+    }
+
     // Whether the children of two refs, whichever they are, are labelled alike.
     fn same_kids(&self, labels: &mut Labels, a: u32, z: u32) -> bool
         ensures { SameKids self.now.sides.sheet.now self.now.sides.places.now self.now.sides.table.now labels.old.of a z labels.new.of result }
     {
-        let Some(xs) = self.sides.below(a) else {
+        let Some(xs) = self.kids(a) else {
             return false;
         };
-        let Some(ys) = self.sides.below(z) else {
+        let Some(ys) = self.kids(z) else {
             return false;
         };
         xs.n == ys.n && labels.are_alike_in(&xs, &ys)

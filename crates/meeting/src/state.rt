@@ -36,7 +36,7 @@ pub struct Meeting {
     mirrored: [Option<u16>; PAIRS],
     // How many links were gone to look for self-dual marks.
     gone: u32,
-    // How many unknowns were linked, modulo 256.
+    // How many unknowns were linked, modulo 128.
     pub(crate) bound: u8,
     // Which children of the pair in hand were met, and which are to be, as bits.
     pub(crate) met: u32,
@@ -146,26 +146,30 @@ impl Meeting {
         self.queue(x, y);
     }
 
-    // Meets an unknown with its own inverse: it is linked to that, and noted.
+    // Meets an unknown with its own inverse: it is linked to that, and noted unless the queue is full.
     pub(crate) fn oppose(&mut self, x: u32, y: u32)
         ensures { Joins self.old x y self.new }
     {
-        self.opposed = Some(x / 2 % 2048);
+        if self.len < PAIRS {
+            self.opposed = Some(x / 2 % 2048);
+        }
         self.link(x, y);
     }
 
-    // Counts an unknown that is linked.
+    // Counts an unknown that is linked, unless the queue is full.
     pub(crate) fn count_bound(&mut self)
         ensures { Keeps self.old self.new }
     {
-        self.bound = self.bound.wrapping_add(1);
+        if self.len < PAIRS {
+            self.bound = self.bound.wrapping_add(1) % 128;
+        }
     }
 
-    // Whether the self-dual mark of id d may be looked for: as long as few links were gone. They are counted.
+    // Whether the self-dual mark of id d may be looked for: as long as few links were gone and the queue has room. They are counted.
     fn may_look(&mut self, d: u32) -> bool
         ensures { Keeps self.old self.new }
     {
-        if d >= FAR || self.gone >= FAR {
+        if d >= FAR || self.len >= PAIRS || self.gone >= FAR {
             return false;
         }
         self.gone += d + 1;

@@ -133,10 +133,13 @@ pub fn own_type(t: u32) -> u32
     2 * RECORDS + t % 2048
 }
 
-// The types in the cells of the chain from a head; none where there are more than eight.
+// The types in the cells of the chain from a head; none where there are more than eight, or in a sheet of fewer than eight words.
 pub fn cells(sheet: &[u32], head: usize) -> Option<Row>
     ensures { IfSome result (Cells sheet.now head) }
 {
+    if sheet.len() < 8 {
+        return None;
+    }
     let mut types = [0u32; 8];
     let mut n = 0;
     for c in words::records(sheet, head) {
