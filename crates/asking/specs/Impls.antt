@@ -23,7 +23,6 @@ use Rattle.rules.specs.SearchKeeps.{AllKept}
 use Rattle.table.specs.Packing.{types_of, Packed, Becomes}
 use Rattle.refusals.specs.declared.Stopped.{Stopped}
 use Rattle.refusals.specs.Numbers.{end_number, end_count}
-use Rattle.slots.specs.declared.Results.{Results}
 use Rattle.slots.specs.Turns.{Asked, count_of, Answers}
 use Rattle.queries.specs.declared.Query.{Query}
 use Rattle.queries.specs.Queries.{query_of}
@@ -34,7 +33,7 @@ use Rattle.loading.specs.Nodes.{Fitting}
 use Rattle.loading.specs.Exports.{Asks, Reads, Exports}
 use Rattle.loading.specs.Checked.{impl_fitting, impl_asks}
 use Rattle.closing.specs.Searched.{impl_kept}
-use Rattle.closing.specs.Ends.{Front, IfOne, EndsResults, EndsImpl, front_self, results_front, ends_call, ends_refused, ends_found, searched_one}
+use Rattle.closing.specs.Ends.{Front, IfFound, EndsImpl, front_self, ends_front, ends_call, searched_one}
 use Rattle.closing.specs.Ended.{Ends}
 
 -- A question that passed its checks: its table fits, and its query's types are nodes of it.
@@ -78,8 +77,8 @@ exported q ts us p r b e x = subst (λ (i : ImplType). Exports (question_types q
 pub front_taken : (ws us : Words) → 2564 ≤ length ws → us ≡ take 2564 ws → Front ws us
 front_taken ws us h e = record { long = omega (arith, ap (λ (l : Words). length l) e, length-take 2564 ws); same = λ i l. ap (λ (w : Words). at w i) e ∙ get_or-take 2564 ws i 0 l }
 
-pub ended : (s q ts : Words) (p asked : Query) (n : ℕ) (vs ws buf out : Words) (r : ℕ) → Becomes ts (question_types q) → Reads (impl_query q) p → Front vs ws → EndsResults s (types_of ts) (query_of p) (query_of asked) n ws buf out r → EndsResults s (question_types q) (impl_query q) (query_of asked) n vs buf out r
-ended s q ts p asked n vs ws buf out r b e f x = results_front s (question_types q) (impl_query q) (query_of asked) n vs ws buf out r f (subst (λ (i : ImplType). EndsResults s (question_types q) i (query_of asked) n ws buf out r) e.is (subst (λ (t : Types). EndsResults s t (query_of p) (query_of asked) n ws buf out r) b.is x))
+pub ended : (s q ts : Words) (p asked : Query) (searched : Asked) (vs ws buf out : Words) (r : ℕ) → Becomes ts (question_types q) → Reads (impl_query q) p → Front vs ws → EndsImpl s (types_of ts) (query_of p) (query_of asked) searched ws buf out r → EndsImpl s (question_types q) (impl_query q) (query_of asked) searched vs buf out r
+ended s q ts p asked searched vs ws buf out r b e f x = ends_front s (question_types q) (impl_query q) (query_of asked) searched vs ws buf out r f (subst (λ (i : ImplType). EndsImpl s (question_types q) i (query_of asked) searched ws buf out r) e.is (subst (λ (t : Types). EndsImpl s t (query_of p) (query_of asked) searched ws buf out r) b.is x))
 
 pub new_table : 1025 ≤ length (replicate {A = ℕ} 1025 0)
 new_table = omega arith
@@ -102,21 +101,13 @@ module _ (s sets q : Words) (f : Finder) (basic count : ℕ) (h : Impls s sets q
   answers : Answers (within (ltb f.limit) (impl_search (finder_of s f) (eqb basic 1) q) count) searched vs
   answers = subst (λ (m : Run (List Result)). Answers (within (ltb f.limit) m count) searched vs) (sym searches) w
 
-  pub ask_if_one : (h : Results) → searched ≡ Ok h → IfOne h.n asked vs
-  ask_if_one = searched_one _ searched vs (types_of us) asked answers
+  pub ask_one : IfFound searched asked vs
+  ask_one = searched_one _ searched vs (types_of us) asked answers
       (λ rs e. subst (λ (ts : Types). AllKept ts rs) (ap (λ (y : ImplType × Types). y.1) x.is) (impl_kept (finder_of s f) basic q h.sheet_short h.passed (ltb f.limit) (eqb basic 1) count rs _ (λ i. (e i, (within (ltb f.limit) (impl_search (finder_of s f) (eqb basic 1) q) count).1)))) x.asks
 
-  ask_ends : (buf out : Words) (r : Tried ℕ Stopped) → 662794 ≤ length vs → EndsImpl s (question_types q) (impl_query q) (query_of asked) searched vs buf out (end_number r) → end_count r ≡ count_of searched → Ends (impl_within (ltb f.limit) (finder_of s f) (eqb basic 1) q count) buf out r
+  pub ask_ends : (buf out : Words) (r : Tried ℕ Stopped) → 662794 ≤ length vs → EndsImpl s (question_types q) (impl_query q) (query_of asked) searched vs buf out (end_number r) → end_count r ≡ count_of searched → Ends (impl_within (ltb f.limit) (finder_of s f) (eqb basic 1) q count) buf out r
   unfolding impl_within
   ask_ends buf out r long e k = record {
     closed = ends_call s q (question_types q) (impl_query q) (query_of asked) searched vs buf out (end_number r) e refl refl (ap (λ (y : ImplType × Types). y.0) (sym x.is)) vs _ (front_self vs (omega arith)) answers;
     count = k ∙ count-after _ searched vs answers;
   }
-
-  -- Results, and what they come to.
-  pub ask_answers : (k : Results) → searched ≡ Ok k → (buf out : Words) (v : ℕ) (r : Tried ℕ Stopped) → 662794 ≤ length vs → EndsResults s (question_types q) (impl_query q) (query_of asked) k.n vs buf out v → end_number r ≡ v → end_count r ≡ k.count → Ends (impl_within (ltb f.limit) (finder_of s f) (eqb basic 1) q count) buf out r
-  ask_answers k e buf out v r long z en ec = ask_ends buf out r long (subst (λ i. EndsImpl s (question_types q) (impl_query q) (query_of asked) searched vs buf out i) (sym en) (ends_found s (question_types q) (impl_query q) (query_of asked) searched vs buf out k v e z)) (ec ∙ ap count_of (sym e))
-
-  -- A refusal.
-  pub ask_refuses : (k : Stopped) → searched ≡ Err k → (buf : Words) → 662794 ≤ length vs → Ends (impl_within (ltb f.limit) (finder_of s f) (eqb basic 1) q count) buf buf (Err k)
-  ask_refuses k e buf long = ask_ends buf buf (Err k) long (ends_refused s (question_types q) (impl_query q) (query_of asked) searched vs buf k e) (ap count_of (sym e))

@@ -7,14 +7,15 @@ ghost use Rattle.rules.specs.Limits.{limit_answer};
 ghost use Rattle.rules.specs.Calls.{question_types, impl_query, impl_within};
 ghost use Rattle.queries.specs.Queries.{query_of};
 ghost use Rattle.loading.specs.Exports.{Exports};
-ghost use Rattle.refusals.specs.Numbers.{verdict_number};
-ghost use Rattle.closing.specs.Ends.{IfOne, EndsResults};
+ghost use Rattle.refusals.specs.Numbers.{end_number, end_count};
+ghost use Rattle.slots.specs.Turns.{count_of};
+ghost use Rattle.closing.specs.Ends.{IfFound, EndsImpl};
 ghost use Rattle.closing.specs.Ended.{Ends};
 ghost use Rattle.steps.specs.Asking.{finder_of};
 ghost use Rattle.asking.specs.Impls.{Questions, Impls};
 
 use queries::Query;
-use refusals::{Refusal, Stopped};
+use refusals::Stopped;
 use slots::Results;
 use steps::Finder;
 
@@ -42,26 +43,29 @@ fn export_asked(question: &[u32], ws: &mut [u32]) -> Query
     loading::export_question(&table, query, ws, &mut map)
 }
 
-// What n results of the search come to. The search is over: its first result is read, and the slice behind it serves the joins' memo.
+// What the search comes to. It is over: its first result is read, and the slice behind it serves the joins' memo.
 fn end_asked(
     sheet: &[u32],
     question: &[u32],
     asked: Query,
-    n: usize,
+    searched: Result<Results, Stopped>,
     ws: &mut [u32],
     answer: &mut [u32],
-) -> Result<(), Refusal>
+) -> Result<u32, Stopped>
     requires questions { Questions question.now }
-    requires if_one { IfOne n asked ws.old }
+    requires if_found { IfFound searched asked ws.old }
     requires in_bounds { 2820 ≤ length ws.old }
     requires limit_answer_in_bounds { limit_answer ≤ length answer.old }
-    ensures { EndsResults sheet.now (question_types question.now) (impl_query question.now) (query_of asked) n ws.old answer.old answer.new (verdict_number result) }
+    ensures ends { EndsImpl sheet.now (question_types question.now) (impl_query question.now) (query_of asked) searched ws.old answer.old answer.new (end_number result) }
+    ensures count { end_count result ≡ count_of searched }
 {
     let (found, memo) = ws.split_at_mut(FRONT);
     let mut table = [0u32; TABLE];
     loading::load_table(question, &mut table);
     let query = loading::read_question(question);
-    closing::end_impl(sheet, query, asked, n, found, &mut table, memo, answer)
+    closing::end_impl(
+        sheet, query, asked, searched, found, &mut table, memo, answer,
+    )
 }
 
 // The impl call, once its checks have passed and the sets of its source stand.
@@ -82,9 +86,6 @@ pub fn ask_impl(
     ensures { Ends (impl_within (ltb f.limit) (finder_of sheet.now f) (eqb basic 1) question.now count) answer.old answer.new result }
 {
     let asked = export_asked(question, ws);
-    let Results { n, count } = finder::question(sheet, sets, ws, f, basic, asked, DEPTH, count)?;
-    match end_asked(sheet, question, asked, n, ws, answer) {
-        Ok(()) => Ok(count),
-        Err(refusal) => Err(Stopped { refusal, count }),
-    }
+    let searched = finder::question(sheet, sets, ws, f, basic, asked, DEPTH, count);
+    end_asked(sheet, question, asked, searched, ws, answer)
 }

@@ -52,6 +52,10 @@ pub record OneStands (asked : Query) (found : Words) : Type 0 where
 pub record IfOne (n : ℕ) (asked : Query) (found : Words) : Type 0 where
   pub one : n ≡ 1 → OneStands asked found
 
+-- Where the search found one.
+pub record IfFound (searched : Asked) (asked : Query) (found : Words) : Type 0 where
+  pub one : (k : Results) → searched ≡ Ok k → IfOne k.n asked found
+
 -- The rule, over the caller's types, the query and what was exported of it.
 unfoldable pub impl_ending : Words → Types → ImplType → ImplType → Out (List Result) → Out Words
 impl_ending s ts q sub (refused n) = refused n
@@ -126,9 +130,12 @@ module _ (s : Words) (ts : Types) (query sub : ImplType) (searched : Asked) (fou
   pub ends_found : (out : Words) (k : Results) (r : ℕ) → searched ≡ Ok k → EndsResults s ts query sub k.n found buf out r → EndsImpl s ts query sub searched found buf out r
   ends_found out k r e h = record { ends = λ vs o f a. let g = a.found k e in subst (λ (x : Out (List Result)). Closed (impl_ending s ts query sub x) buf out r) (sym (ap (λ (x : Out (List Result) × ℕ). x.0) g.is)) (h.ends vs g.results f g.size g.stand) }
 
+pub found_if : (searched : Asked) (asked : Query) (found : Words) (k : Results) → IfFound searched asked found → searched ≡ Ok k → IfOne k.n asked found
+found_if searched asked found k i e = i.one k e
+
 -- What the search answered, and that its results are kept, give what the end of the call asks for.
-pub searched_one : (o : Out (List Result) × ℕ) (searched : Asked) (found : Words) (ts : Types) (asked : Query) → Answers o searched found → ((rs : List Result) → o.0 ≡ got rs → AllKept ts rs) → Asks ts asked → (n : Results) → searched ≡ Ok n → IfOne n.n asked found
-searched_one o searched found ts asked a k h n e = record { one = λ z. let g = a.found n e in go g.results (g.size ∙ z) g.stand (k g.results (ap (λ (x : Out (List Result) × ℕ). x.0) g.is)) }
+pub searched_one : (o : Out (List Result) × ℕ) (searched : Asked) (found : Words) (ts : Types) (asked : Query) → Answers o searched found → ((rs : List Result) → o.0 ≡ got rs → AllKept ts rs) → Asks ts asked → IfFound searched asked found
+searched_one o searched found ts asked a k h = record { one = λ n e. record { one = λ z. let g = a.found n e in go g.results (g.size ∙ z) g.stand (k g.results (ap (λ (x : Out (List Result) × ℕ). x.0) g.is)) } }
   where
     go : (rs : List Result) → length rs ≡ 1 → Slots found 1282 rs → AllKept ts rs → OneStands asked found
     go [] l s j = absurd (omega arith)
@@ -146,8 +153,11 @@ stands_front asked vs found o f =
     let t = front_slot vs found o.filled.result f s in
     record { filled = record { result = o.filled.result; slot = t }; asks = subst (λ (ts : Types). Asks ts asked) (s.table.is ∙ sym t.table.is) o.asks }
 
-pub results_front : (s : Words) (ts : Types) (query sub : ImplType) (n : ℕ) (vs found buf out : Words) (r : ℕ) → Front vs found → EndsResults s ts query sub n found buf out r → EndsResults s ts query sub n vs buf out r
-results_front s ts query sub n vs found buf out r f e = record { ends = λ us rs g z h. e.ends us rs (front_then us vs found g f) z h }
+pub ends_front : (s : Words) (ts : Types) (query sub : ImplType) (searched : Asked) (vs found buf out : Words) (r : ℕ) → Front vs found → EndsImpl s ts query sub searched found buf out r → EndsImpl s ts query sub searched vs buf out r
+ends_front s ts query sub searched vs found buf out r f e = record { ends = λ us o g a. e.ends us o (front_then us vs found g f) a }
 
 pub one_front : (n : ℕ) (asked : Query) (vs found : Words) → IfOne n asked vs → Front vs found → IfOne n asked found
 one_front n asked vs found i f = record { one = λ e. stands_front asked vs found (i.one e) f }
+
+pub found_front : (searched : Asked) (asked : Query) (vs found : Words) → IfFound searched asked vs → Front vs found → IfFound searched asked found
+found_front searched asked vs found i f = record { one = λ k e. one_front k.n asked vs found (i.one k e) f }

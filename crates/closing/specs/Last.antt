@@ -17,7 +17,7 @@ use Rattle.memo.specs.declared.verdict.UnifyResult.{UnifyResult}
 use Rattle.unify.specs.Results.{Unifies, Leaves}
 use Rattle.unify.specs.Lists.{Nodes}
 use Rattle.queries.specs.declared.Query.{Query}
-use Rattle.queries.specs.Queries.{query_of}
+use Rattle.queries.specs.Queries.{four, query_of}
 use Rattle.loading.specs.Exports.{Asks, four-all}
 
 -- All words from a place on.
@@ -37,20 +37,32 @@ plainly ps ws dst us ts vs m r i = i
 pub neat_good : (ws : Words) → Packed ws → Neat (types_of ws) → Good ws
 neat_good ws p n = record { packed = p; formed = n.proper.formed; acyclic = readable_ranked (types_of ws) n.proper.formed n.proper.kept }
 
--- A query's words, of which there are four, are types of the table.
+-- A query's four words are types of the table.
 pub query_good : (ws : Words) (q : Query) → Packed ws → Asks (types_of ws) q → Good ws
 query_good ws q p a = neat_good ws p a.neat
 
-pub query_nodes : (ws : Words) (q : Query) → length q.args ≡ 4 → Asks (types_of ws) q → Nodes (types_of ws) (take q.n q.args)
+pub query_nodes : (ws : Words) (q : Query) → Asks (types_of ws) q → Nodes (types_of ws) (take q.n (four q.args))
 unfolding query_of
-query_nodes ws q e a = record { there = subst (λ (xs : Words). AllIn (length (types_of ws)) (map type_of_word (take q.n xs))) (four-all q.args e) a.inside }
+query_nodes ws q a = record { there = a.inside }
 
-pub query_length : (ws : Words) (q : Query) → length q.args ≡ 4 → Asks (types_of ws) q → q.n ≡ length (take q.n q.args)
-query_length ws q e a = omega (arith, length-take q.n q.args, a.few)
+pub query_length : (ws : Words) (q : Query) → Asks (types_of ws) q → q.n ≡ length (take q.n (four q.args))
+query_length ws q a = omega (arith, length-take q.n (four q.args), a.few)
+
+-- So are those of its array, where that has four.
+pub args_nodes : (ws : Words) (q : Query) → length q.args ≡ 4 → Asks (types_of ws) q → Nodes (types_of ws) (take q.n q.args)
+unfolding query_of
+args_nodes ws q e a = record { there = subst (λ (xs : Words). AllIn (length (types_of ws)) (map type_of_word (take q.n xs))) (four-all q.args e) a.inside }
+
+pub args_length : (ws : Words) (q : Query) → length q.args ≡ 4 → Asks (types_of ws) q → q.n ≡ length (take q.n q.args)
+args_length ws q e a = omega (arith, length-take q.n q.args, a.few)
 
 pub marks_room : (ws ms : Words) → 256 ≤ length ms → length (types_of ws) ≤ length ms
 marks_room ws ms h = omega (arith, types_few ws)
 
-pub query_joined : (s ws us ys : Words) (q : Query) (tr : ℕ) (v : UnifyResult) → length q.args ≡ 4 → Unifies us v (unify_impl_type s (types_of ws) (q.tr, map type_of_word (take q.n q.args)) (tr, map type_of_word ys)) → Leaves us (unify_impl_type s (types_of ws) (query_of q) (tr, map type_of_word ys))
+pub query_joined : (s ws us ys : Words) (q : Query) (tr : ℕ) (v : UnifyResult) → Unifies us v (unify_impl_type s (types_of ws) (q.tr, map type_of_word (take q.n (four q.args))) (tr, map type_of_word ys)) → Leaves us (unify_impl_type s (types_of ws) (query_of q) (tr, map type_of_word ys))
 unfolding query_of
-query_joined s ws us ys q tr v e u = record { good = u.good; is = ap (λ (m : Unified). m.1) (u.is ∙ ap (λ (xs : Words). unify_impl_type s (types_of ws) (q.tr, map type_of_word (take q.n xs)) (tr, map type_of_word ys)) (sym (four-all q.args e))) }
+query_joined s ws us ys q tr v u = record { good = u.good; is = ap (λ (m : Unified). m.1) u.is }
+
+pub args_joined : (s ws us ys : Words) (q : Query) (tr : ℕ) (v : UnifyResult) → length q.args ≡ 4 → Unifies us v (unify_impl_type s (types_of ws) (q.tr, map type_of_word (take q.n q.args)) (tr, map type_of_word ys)) → Leaves us (unify_impl_type s (types_of ws) (query_of q) (tr, map type_of_word ys))
+unfolding query_of
+args_joined s ws us ys q tr v e u = record { good = u.good; is = ap (λ (m : Unified). m.1) (u.is ∙ ap (λ (xs : Words). unify_impl_type s (types_of ws) (q.tr, map type_of_word (take q.n xs)) (tr, map type_of_word ys)) (sym (four-all q.args e))) }

@@ -13,11 +13,12 @@ ghost use Rattle.rules.specs.Solutions.{AllIn};
 ghost use Rattle.rules.specs.Neat.{Neat};
 ghost use Rattle.rules.specs.Search.{end};
 ghost use Rattle.rules.specs.Transfer.{type_of_word, import_types};
-ghost use Rattle.refusals.specs.Numbers.{verdict_number};
+ghost use Rattle.refusals.specs.Numbers.{verdict_number, end_number, end_count};
 ghost use Rattle.table.specs.Packing.{types_of, Packed};
 ghost use Rattle.transfer.specs.Imports.{types_in, Inside, Imports};
 ghost use Rattle.trees.specs.Forests.{trees_length, Holds};
 ghost use Rattle.slots.specs.Copies.{Filled};
+ghost use Rattle.slots.specs.Turns.{count_of};
 ghost use Rattle.unify.specs.Results.{Leaves};
 ghost use Rattle.unify.specs.Lists.{Nodes};
 ghost use Rattle.queries.specs.Queries.{query_of};
@@ -27,10 +28,11 @@ ghost use Rattle.closing.specs.Impl.{WritesImpl, ClosesImpl};
 ghost use Rattle.closing.specs.Flex.{types_if, Offers, FilledIf, Brings, JoinsFirst, TreesOf, WritesFlex};
 ghost use Rattle.closing.specs.FlexEnd.{Joining, ClosesJoined, Caller, ClosesFound};
 ghost use Rattle.closing.specs.FlexResults.{several_of, bi_flexible, inverted_of, chosen, ClosesFlex};
-ghost use Rattle.closing.specs.Ends.{IfOne, EndsResults};
+ghost use Rattle.closing.specs.Ends.{IfOne, IfFound, EndsResults, EndsImpl};
 
 use queries::Query;
-use refusals::Refusal;
+use refusals::{Refusal, Stopped};
+use slots::Results;
 use transfer::PackedTable;
 use unify::UnifyResult;
 
@@ -270,7 +272,7 @@ pub fn close_impl(
 }
 
 // What n results of an impl call come to, whose first stands in slot 1: 20 where there is none, 21 where there are several, or the end of the call with the one.
-pub fn end_impl(
+pub fn end_results(
     sheet: &[u32],
     query: Query,
     asked: Query,
@@ -294,6 +296,36 @@ pub fn end_impl(
             close_impl(sheet, query, asked, first, table, memo, answer)
         }
         _ => Err(Refusal::AmbiguousImpl),
+    }
+}
+
+// What the search of an impl call comes to: its refusal, or what its results come to, of which the first stands in slot 1; with the count after the search.
+pub fn end_impl(
+    sheet: &[u32],
+    query: Query,
+    asked: Query,
+    searched: Result<Results, Stopped>,
+    found: &[u32],
+    table: &mut [u32],
+    memo: &mut [u32],
+    answer: &mut [u32],
+) -> Result<u32, Stopped>
+    requires packed { Packed table.old }
+    requires asks { Asks (types_of table.old) query }
+    requires if_found { IfFound searched asked found.now }
+    requires in_bounds { 256 ≤ length memo.old }
+    requires limit_answer_in_bounds { limit_answer ≤ length answer.old }
+    ensures ends { EndsImpl sheet.now (types_of table.old) (query_of query) (query_of asked) searched found.now answer.old answer.new (end_number result) }
+    ensures count { end_count result ≡ count_of searched }
+{
+    match searched {
+        Ok(Results { n, count }) => {
+            match end_results(sheet, query, asked, n, found, table, memo, answer) {
+                Ok(()) => Ok(count),
+                Err(refusal) => Err(Stopped { refusal, count }),
+            }
+        }
+        Err(stopped) => Err(stopped),
     }
 }
 

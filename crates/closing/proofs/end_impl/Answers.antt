@@ -1,20 +1,16 @@
--- By how many results there are.
+-- By what the search came to.
 use Rattle.std.proofs.Common.{rules}
-use Rattle.closing.specs.Last.{tail_all}
-use Rattle.closing.specs.Ends.{results_none, results_many, results_one, one_room, one-filled, one_asks}
+use Rattle.closing.specs.Ends.{ends_refused, ends_found, found_if}
 use Rattle.closing.proofs.end_impl.Goals as goal
 
-pub close_impl-requires-clause-filled : goal.close_impl-requires-clause-filled
-close_impl-requires-clause-filled c = search (rules, one-filled, tail_all, one_room)
+pub end_results-requires-clause-if_one : goal.end_results-requires-clause-if_one
+end_results-requires-clause-if_one c = search (rules, found_if)
 
-pub close_impl-requires-clause-asks_2 : goal.close_impl-requires-clause-asks_2
-close_impl-requires-clause-asks_2 c = search (rules, one_asks, tail_all, one_room)
+pub returns-in-Ok-end_results-clause-ends : goal.returns-in-Ok-end_results-clause-ends
+returns-in-Ok-end_results-clause-ends c = ends_found _ _ _ _ _ _ _ _ _ _ c.in-Ok.is c.in-Ok-end_results.ensures
 
-pub returns-in-0 : goal.returns-in-0
-returns-in-0 c = search (rules, results_none)
+pub returns-in-Err-end_results-clause-ends : goal.returns-in-Err-end_results-clause-ends
+returns-in-Err-end_results-clause-ends c = ends_found _ _ _ _ _ _ _ _ _ _ c.in-Ok.is c.in-Err-end_results.ensures
 
-pub returns-in-1 : goal.returns-in-1
-returns-in-1 c = search (rules, results_one, tail_all, one_room)
-
-pub returns-in_default : goal.returns-in_default
-returns-in_default c = search (rules, results_many)
+pub returns-in-Err-clause-ends : goal.returns-in-Err-clause-ends
+returns-in-Err-clause-ends c = ends_refused _ _ _ _ _ _ _ _ c.in-Err.is
