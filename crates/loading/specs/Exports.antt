@@ -68,33 +68,35 @@ module _ (ws : Words) (q : Query) (a : Asks (types_of ws) q) where
   pub asks_room : (ms : Words) → 256 ≤ length ms → length (types_of ws) ≤ length ms
   asks_room ms h = omega (arith, types_few ws)
 
-  -- The query's words are four.
+  -- The query's four words are types of the table, and what they are exported to is a query.
+  pub asks_few : q.n ≤ length (four q.args)
+  asks_few = a.few
+
+  pub asks_inside : Inside (types_of ws) (take q.n (four q.args))
+  unfolding query_of types_in
+  asks_inside = inside_from (types_of ws) q.n (four q.args) a.inside
+
+  pub exported : (us vs : Words) (ok : Bool) → length vs ≡ 4 → Imports (export_types (types_of ws) (types_in q.n (four q.args))) us (four q.args) vs q.n ok → Exports (types_of ws) (query_of q) us (record { tr = q.tr; n = q.n; args = vs })
+  unfolding query_of types_in export_impl_type import_impl_type export_types
+  exported us vs ok e i = record {
+    packed = i.replaces.packed;
+    asks = record { neat = b.neat; few = a.few; inside = subst (λ (xs : Words). AllIn (length (types_of us)) (map type_of_word (take q.n xs))) (sym (four-all vs e)) b.inside };
+    is = ap {B = ImplType × Types} (λ (o : List Ty × Types). ((q.tr, o.0), o.1)) (i.comes.is fits) ∙ ap {B = ImplType × Types} (λ (xs : Words). ((q.tr, map type_of_word (take q.n xs)), types_of us)) (sym (four-all vs e));
+  }
+    where
+      fits : ok ≡ true
+      fits = export_fits ws us (four q.args) vs q.n ok a.neat asks_inside i
+
+      b : Brought [] (types_in q.n vs) (types_of us)
+      b = exports_brought (types_of ws) us (four q.args) vs q.n ok a.neat asks_inside fits i
+
+  -- So are those of its array, where that has four.
   module _ (long : length q.args ≡ 4) where
-    asked_in : Inside (types_of ws) (take q.n q.args)
-    unfolding query_of types_in
-    asked_in = inside_from (types_of ws) q.n q.args (subst (λ (xs : Words). AllIn (length (types_of ws)) (map type_of_word (take q.n xs))) (four-all q.args long) a.inside)
+    pub args_inside : Inside (types_of ws) (take q.n q.args)
+    args_inside = subst (λ (xs : Words). Inside (types_of ws) (take q.n xs)) (four-all q.args long) asks_inside
 
-    pub asks_inside : Inside (types_of ws) (take q.n q.args)
-    asks_inside = asked_in
-
-    pub exported : (us vs : Words) (ok : Bool) → length vs ≡ 4 → Imports (export_types (types_of ws) (types_in q.n q.args)) us q.args vs q.n ok → Exports (types_of ws) (query_of q) us (record { tr = q.tr; n = q.n; args = vs })
-    unfolding query_of types_in export_impl_type import_impl_type export_types
-    exported us vs ok e i = record {
-      packed = j.replaces.packed;
-      asks = record { neat = b.neat; few = a.few; inside = subst (λ (xs : Words). AllIn (length (types_of us)) (map type_of_word (take q.n xs))) (sym (four-all vs e)) b.inside };
-      is = ap {B = ImplType × Types} (λ (xs : Words). export_impl_type (types_of ws) (q.tr, map type_of_word (take q.n xs))) (four-all q.args long)
-          ∙ ap {B = ImplType × Types} (λ (o : List Ty × Types). ((q.tr, o.0), o.1)) (j.comes.is fits)
-          ∙ ap {B = ImplType × Types} (λ (xs : Words). ((q.tr, map type_of_word (take q.n xs)), types_of us)) (sym (four-all vs e));
-    }
-      where
-        j : Imports (export_types (types_of ws) (types_in q.n q.args)) us q.args vs q.n ok
-        j = i
-
-        fits : ok ≡ true
-        fits = export_fits ws us q.args vs q.n ok a.neat asked_in j
-
-        b : Brought [] (types_in q.n vs) (types_of us)
-        b = exports_brought (types_of ws) us q.args vs q.n ok a.neat asked_in fits j
+    pub args_exported : (us vs : Words) (ok : Bool) → length vs ≡ 4 → Imports (export_types (types_of ws) (types_in q.n q.args)) us q.args vs q.n ok → Exports (types_of ws) (query_of q) us (record { tr = q.tr; n = q.n; args = vs })
+    args_exported us vs ok e i = exported us vs ok e (subst (λ (xs : Words). Imports (export_types (types_of ws) (types_in q.n xs)) us xs vs q.n ok) (sym (four-all q.args long)) i)
 
 -- A type of a table, exported: the rule's type, and its table.
 pub record ExportsType (ts : Types) (t : ℕ) (us : Words) (r : ℕ) : Type 0 where

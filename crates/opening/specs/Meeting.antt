@@ -17,7 +17,7 @@ use Rattle.transfer.specs.Imports.{types_in, Imports}
 use Rattle.unify.specs.Results.{Joins}
 use Rattle.unify.specs.Lists.{Nodes}
 use Rattle.queries.specs.declared.Query.{Query}
-use Rattle.queries.specs.Queries.{query_of}
+use Rattle.queries.specs.Queries.{four, query_of}
 use Rattle.queries.specs.Rows.{query_types}
 use Rattle.refusals.specs.declared.Refusal.{Refusal}
 use Rattle.refusals.specs.declared.Refusal.TheVariants.{TypesFull}
@@ -68,15 +68,24 @@ pub meets_none : (s : Words) (o : ImplType × Types) (q : ImplType) (refusal : R
 unfolding case refusal_of
 meets_none s o q refusal out e p l = record { packed = p; full = λ x z. (sym (ap refusal_of z) ∙ e, l); unfit = λ z. absurd (omega (arith, ap case z)); fits = λ z. absurd (omega (arith, ap case z)) }
 
--- The types of a question are nodes.
-pub query_nodes : (ts : Types) (q : Query) → length q.args ≡ 4 → AllIn (length ts) (query_of q).1 → Nodes ts (take q.n q.args)
+-- The types of a question are nodes: of its four words,
+pub query_nodes : (ts : Types) (q : Query) → AllIn (length ts) (query_of q).1 → Nodes ts (take q.n (four q.args))
+unfolding query_of
+query_nodes ts q a = record { there = a }
+
+-- and of its array, where that has four.
+pub args_nodes : (ts : Types) (q : Query) → length q.args ≡ 4 → AllIn (length ts) (query_of q).1 → Nodes ts (take q.n q.args)
 unfolding types_in
-query_nodes ts q l a = record { there = subst (λ (x : ImplType). AllIn (length ts) x.1) (query_types q l) a }
+args_nodes ts q l a = record { there = subst (λ (x : ImplType). AllIn (length ts) x.1) (query_types q l) a }
 
 -- The question by its fields.
-pub joins_question : (s ws us : Words) (tr : ℕ) (xs : Words) (q : Query) (r : Bool) → length q.args ≡ 4 → Joins (unify_impl_type s (types_of ws) (tr, map type_of_word xs) (q.tr, map type_of_word (take q.n q.args))) us r → Joins (unify_impl_type s (types_of ws) (tr, map type_of_word xs) (query_of q)) us r
+pub joins_question : (s ws us : Words) (tr : ℕ) (xs : Words) (q : Query) (r : Bool) → Joins (unify_impl_type s (types_of ws) (tr, map type_of_word xs) (q.tr, map type_of_word (take q.n (four q.args)))) us r → Joins (unify_impl_type s (types_of ws) (tr, map type_of_word xs) (query_of q)) us r
+unfolding query_of
+joins_question s ws us tr xs q r j = j
+
+pub args_join : (s ws us : Words) (tr : ℕ) (xs : Words) (q : Query) (r : Bool) → length q.args ≡ 4 → Joins (unify_impl_type s (types_of ws) (tr, map type_of_word xs) (q.tr, map type_of_word (take q.n q.args))) us r → Joins (unify_impl_type s (types_of ws) (tr, map type_of_word xs) (query_of q)) us r
 unfolding types_in
-joins_question s ws us tr xs q r l j = subst (λ (x : ImplType). Joins (unify_impl_type s (types_of ws) (tr, map type_of_word xs) x) us r) (sym (query_types q l)) j
+args_join s ws us tr xs q r l j = subst (λ (x : ImplType). Joins (unify_impl_type s (types_of ws) (tr, map type_of_word xs) x) us r) (sym (query_types q l)) j
 
 -- The first n types of xs are imported from src into the table that ds is, as the arguments of a trait? tr: es has the table, and the first of vs the arguments.
 abbrev pub imported : Types → Option (List Ty) → ℕ → ℕ → Words → Words → ImplType × Types
@@ -127,15 +136,29 @@ module _ (src : Types) (ps : Option (List Ty)) (tr n : ℕ) (xs ds es vs : Words
       }
 
 -- A question's type words are imported.
-pub query_inside : (src : Types) (p : Query) → length p.args ≡ 4 → AllIn (length src) (query_of p).1 → AllIn (length src) (types_in p.n p.args)
-query_inside src p l a = subst (λ (x : ImplType). AllIn (length src) x.1) (query_types p l) a
+pub query_inside : (src : Types) (p : Query) → AllIn (length src) (query_of p).1 → AllIn (length src) (types_in p.n (four p.args))
+unfolding query_of types_in
+query_inside src p a = a
+
+module _ (src : Types) (ps : Option (List Ty)) (p : Query) (ds : Words) where
+  pub query_brought : Brought (types_of ds) (import_impl_type src ps (query_of p) (types_of ds)).0.1 (import_impl_type src ps (query_of p) (types_of ds)).1 → Brought (types_of ds) (imported src ps p.tr p.n (four p.args) ds).0.1 (imported src ps p.tr p.n (four p.args) ds).1
+  unfolding query_of types_in
+  query_brought b = b
+
+  pub query_meets : (s us : Words) (q : ImplType) (r : Result Bool Refusal) → Meets s (imported src ps p.tr p.n (four p.args) ds) q r us → Meets s (import_impl_type src ps (query_of p) (types_of ds)) q r us
+  unfolding query_of types_in
+  query_meets s us q r m = m
+
+-- The same of its array, where that has four words.
+pub args_inside : (src : Types) (p : Query) → length p.args ≡ 4 → AllIn (length src) (query_of p).1 → AllIn (length src) (types_in p.n p.args)
+args_inside src p l a = subst (λ (x : ImplType). AllIn (length src) x.1) (query_types p l) a
 
 module _ (src : Types) (ps : Option (List Ty)) (p : Query) (ds : Words) (l : length p.args ≡ 4) where
   whole : import_impl_type src ps (query_of p) (types_of ds) ≡ imported src ps p.tr p.n p.args ds
   whole = ap (λ (x : ImplType). import_impl_type src ps x (types_of ds)) (query_types p l)
 
-  pub query_brought : Brought (types_of ds) (import_impl_type src ps (query_of p) (types_of ds)).0.1 (import_impl_type src ps (query_of p) (types_of ds)).1 → Brought (types_of ds) (imported src ps p.tr p.n p.args ds).0.1 (imported src ps p.tr p.n p.args ds).1
-  query_brought b = subst (λ (o : ImplType × Types). Brought (types_of ds) o.0.1 o.1) whole b
+  pub args_brought : Brought (types_of ds) (import_impl_type src ps (query_of p) (types_of ds)).0.1 (import_impl_type src ps (query_of p) (types_of ds)).1 → Brought (types_of ds) (imported src ps p.tr p.n p.args ds).0.1 (imported src ps p.tr p.n p.args ds).1
+  args_brought b = subst (λ (o : ImplType × Types). Brought (types_of ds) o.0.1 o.1) whole b
 
-  pub query_meets : (s us : Words) (q : ImplType) (r : Result Bool Refusal) → Meets s (imported src ps p.tr p.n p.args ds) q r us → Meets s (import_impl_type src ps (query_of p) (types_of ds)) q r us
-  query_meets s us q r m = subst (λ (o : ImplType × Types). Meets s o q r us) (sym whole) m
+  pub args_meet : (s us : Words) (q : ImplType) (r : Result Bool Refusal) → Meets s (imported src ps p.tr p.n p.args ds) q r us → Meets s (import_impl_type src ps (query_of p) (types_of ds)) q r us
+  args_meet s us q r m = subst (λ (o : ImplType × Types). Meets s o q r us) (sym whole) m

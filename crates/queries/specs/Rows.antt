@@ -1,12 +1,12 @@
 -- The type words of sub-questions in one row, and sub-questions with the words of a row.
 use Prim.Native.Nat.{ℕ, zero, suc, ◌+◌, ◌-◌, ◌*◌, ◌≤◌, ◌<◌}
-use Rattle.std.specs.Prelude.{◌≡◌, refl, Bool, length, drop}
+use Rattle.std.specs.Prelude.{◌≡◌, refl, Bool, length, drop, set}
 use Rattle.std.proofs.Math.Path.{sym, ap}
-use Rattle.std.proofs.Common.{◌∙◌, ap₂, subst, le_of_suc-le-suc, not-suc-le-zero, zero-add, suc-add, add-one, arith, length-append, length-drop, length-take-le, take-take, drop-drop}
+use Rattle.std.proofs.Common.{◌∙◌, ap₂, subst, le_of_suc-le-suc, not-suc-le-zero, zero-add, add-zero, suc-add, add-one, arith, length-append, length-drop, length-take-le, take-add, take-take, drop-drop}
 use mathlib.Core.List.{List, [], ◌∷◌, ◌++◌, map, map-append, append-nil, append_assoc}
 use Rattle.std.proofs.Math.Option.{Option}
-use Rattle.std.proofs.Math.ListN.{take}
-use Rattle.std.proofs.lemmas.List.{length-map}
+use Rattle.std.proofs.Math.ListN.{get_or, take}
+use Rattle.std.proofs.lemmas.List.{length-map, take-set-le, drop-set-add}
 use Rattle.std.proofs.Math.Seq.{take-nil, take-append-add}
 use Rattle.std.proofs.lemmas.Slice.{take-put_mid}
 use borrow.Rule.Slice.PartMut.{put_mid, mid_of}
@@ -43,10 +43,72 @@ pub record Put (q : Query) (ts us : Words) (m r : ℕ) : Type 0 where
   pub ends : r ≡ m + q.n
   pub is : types_in r us ≡ types_in m ts ++ (query_of q).1
 
+-- Four words in the place of the first four.
+four-set : (ts : Words) (x y z w : ℕ) → 4 ≤ length ts → set (set (set (set ts 0 x) 1 y) 2 z) 3 w ≡ x ∷ y ∷ z ∷ w ∷ drop 4 ts
+four-set [] x y z w h = absurd (not-suc-le-zero h)
+four-set (a ∷ []) x y z w h = absurd (not-suc-le-zero {n = 0} (omega arith))
+four-set (a ∷ b ∷ []) x y z w h = absurd (not-suc-le-zero {n = 0} (omega arith))
+four-set (a ∷ b ∷ c ∷ []) x y z w h = absurd (not-suc-le-zero {n = 0} (omega arith))
+four-set (a ∷ b ∷ c ∷ d ∷ ts) x y z w h = refl
+
+-- The first n of four, whatever stands behind them.
+four_first : (n x y z w : ℕ) (ts : Words) → n ≤ 4 → take n (x ∷ y ∷ z ∷ w ∷ ts) ≡ take n (x ∷ y ∷ z ∷ w ∷ [])
+four_first zero x y z w ts h = refl
+four_first (suc zero) x y z w ts h = refl
+four_first (suc (suc zero)) x y z w ts h = refl
+four_first (suc (suc (suc zero))) x y z w ts h = refl
+four_first (suc (suc (suc (suc zero)))) x y z w ts h = refl
+four_first (suc (suc (suc (suc (suc n))))) x y z w ts h = absurd (not-suc-le-zero {n = 0} (omega arith))
+
+module _ (ts : Words) (m x y z w : ℕ) where
+  abbrev written : Words
+  written = set (set (set (set ts m x) (m + 1) y) (m + 2) z) (m + 3) w
+
+  written_low : take m written ≡ take m ts
+  written_low =
+      take-set-le m (set (set (set ts m x) (m + 1) y) (m + 2) z) (m + 3) w (omega arith)
+      ∙ take-set-le m (set (set ts m x) (m + 1) y) (m + 2) z (omega arith)
+      ∙ take-set-le m (set ts m x) (m + 1) y (omega arith)
+      ∙ take-set-le m ts m x (omega arith)
+
+  written_high : drop m written ≡ set (set (set (set (drop m ts) 0 x) 1 y) 2 z) 3 w
+  written_high =
+      drop-set-add m (set (set (set ts m x) (m + 1) y) (m + 2) z) 3 w
+      ∙ ap (λ (l : Words). set l 3 w) (drop-set-add m (set (set ts m x) (m + 1) y) 2 z)
+      ∙ ap (λ (l : Words). set (set l 2 z) 3 w) (drop-set-add m (set ts m x) 1 y)
+      ∙ ap (λ (l : Words). set (set (set l 1 y) 2 z) 3 w) (ap (λ i. drop m (set ts i x)) (sym (add-zero m)) ∙ drop-set-add m ts 0 x)
+
 -- Where there is room for four words they are written, and as many of them count as are the question's.
-pub put_query : (q : Query) (ts ys : Words) (m : ℕ) → q.n ≤ 4 → m + 4 ≤ length ts → length q.args ≡ 4 → ys ≡ q.args → Put q ts (put_mid m (m + 4 - m) ts ys) m (m + q.n)
+pub put_query : (q : Query) (ts : Words) (m : ℕ) → q.n ≤ 4 → m + 4 ≤ length ts →
+    Put q ts (set (set (set (set ts m (get_or q.args 0 0)) (m + 1) (get_or q.args 1 0)) (m + 2) (get_or q.args 2 0)) (m + 3) (get_or q.args 3 0)) m (m + q.n)
+unfolding types_in query_of
+put_query q ts m h l = record {
+  ends = refl;
+  is = ap (map type_of_word) (take-add m q.n us ∙ ap₂ {C = Words} (λ (a b : Words). a ++ b) (written_low ts m x y z w) last) ∙ map-append type_of_word (take m ts) (take q.n (four q.args));
+}
+  where
+    x : ℕ
+    x = get_or q.args 0 0
+
+    y : ℕ
+    y = get_or q.args 1 0
+
+    z : ℕ
+    z = get_or q.args 2 0
+
+    w : ℕ
+    w = get_or q.args 3 0
+
+    us : Words
+    us = written ts m x y z w
+
+    last : take q.n (drop m us) ≡ take q.n (four q.args)
+    last = ap (take q.n) (written_high ts m x y z w ∙ four-set (drop m ts) x y z w (omega (arith, length-drop m ts))) ∙ four_first q.n x y z w (drop 4 (drop m ts)) h
+
+-- The same of its array, where that has four words: it is written as one.
+pub args_put : (q : Query) (ts ys : Words) (m : ℕ) → q.n ≤ 4 → m + 4 ≤ length ts → length q.args ≡ 4 → ys ≡ q.args → Put q ts (put_mid m (m + 4 - m) ts ys) m (m + q.n)
 unfolding types_in
-put_query q ts ys m few room long e = record {
+args_put q ts ys m few room long e = record {
   ends = refl;
   is = ap (map type_of_word) words ∙ map-append type_of_word (take m ts) (take q.n q.args) ∙ ap (λ (x : ImplType). map type_of_word (take m ts) ++ x.1) (sym (query_types q long));
 }
@@ -257,3 +319,17 @@ words_in n (t ∷ ts) h (suc j) l = words_in n ts h.1 j (le_of_suc-le-suc l)
 pub row_inside : (src : Types) (qs : Queries) (ps : List ImplType) (ts : Words) (m : ℕ) → Rowed qs ts m → queries_of qs ≡ ps → QueriesIn (length src) ps → Inside src (take m ts)
 unfolding types_in
 row_inside src qs ps ts m w e h = record { each = words_in (length src) (take m ts) (subst (AllIn (length src)) (sym (w.is ∙ ap (λ (l : List ImplType). row l) e)) (in_row (length src) ps h)) }
+
+-- A question's words are inside a table where its types are: of an array of four,
+pub query_inside : (src : Types) (q : Query) (p : ImplType) → length q.args ≡ 4 → query_of q ≡ p → AllIn (length src) p.1 → Inside src (take q.n q.args)
+unfolding types_in
+query_inside src q p h e i = record { each = words_in (length src) (take q.n q.args) (subst (AllIn (length src)) (ap (λ (x : ImplType). x.1) (sym e ∙ query_types q h)) i) }
+
+-- and of its four places.
+pub query_words : (q : Query) → query_of q ≡ (q.tr, types_in q.n (four q.args))
+unfolding query_of types_in
+query_words q = refl
+
+pub words_inside : (src : Types) (q : Query) (p : ImplType) → query_of q ≡ p → AllIn (length src) p.1 → Inside src (take q.n (four q.args))
+unfolding query_of
+words_inside src q p e i = record { each = words_in (length src) (take q.n (four q.args)) (subst (AllIn (length src)) (ap (λ (x : ImplType). x.1) (sym e)) i) }

@@ -22,7 +22,7 @@ use Rattle.slots.specs.Copies.{Beside}
 use Rattle.slots.specs.Adding.{Verdict, Adds}
 use Rattle.slots.specs.Turns.{Asked, Answers, answers_refused, answers_found, Stepped}
 use Rattle.queries.specs.declared.Query.{Query}
-use Rattle.queries.specs.Queries.{query_of}
+use Rattle.queries.specs.Queries.{four, query_of}
 use Rattle.queries.specs.Rows.{query_types}
 use Rattle.transfer.specs.Imports.{types_in}
 
@@ -88,10 +88,11 @@ pub record SmallIds (s : Words) (ts : Types) : Type 0 where
   pub erase : at s header_erase ≤ 4096
   pub closures : Slim ts
 
-module _ (s ws : Words) (q : Query) (o : Option Leaf) (long : length q.args ≡ 4) (e : leaves o ≡ find_auto_impls s (types_of ws) (q.tr, map type_of_word (take q.n q.args))) where
+-- What is found for the four words of a question.
+module _ (s ws : Words) (q : Query) (o : Option Leaf) (e : leaves o ≡ find_auto_impls s (types_of ws) (q.tr, map type_of_word (take q.n (four q.args)))) where
   is : leaves o ≡ find_auto_impls s (types_of ws) (query_of q)
-  unfolding types_in
-  is = e ∙ ap (λ (x : ImplType). find_auto_impls s (types_of ws) x) (sym (query_types q long))
+  unfolding query_of
+  is = e
 
   pub auto_fits_kind : (l : Leaf) → o ≡ Some l → SmallIds s (types_of ws) → l.kind < 8
   auto_fits_kind l p h = (leaf_fits s (types_of ws) (query_of q) l (ap leaves (sym p) ∙ is) h.duplicate h.erase h.closures).0
@@ -118,3 +119,21 @@ module _ (s ws : Words) (q : Query) (o : Option Leaf) (long : length q.args ≡ 
     high = a.high;
     at = λ L. subst (λ (ts : List Trees). Stepped L (λ fs. add_results fs (map (λ (t : Trees). (types_of ws, t)) ts)) 0 count ws r out) (ap leaves (sym p) ∙ is) (a.at L);
   }
+
+-- The same of its array, where that has four.
+module _ (s ws : Words) (q : Query) (o : Option Leaf) (long : length q.args ≡ 4) (e : leaves o ≡ find_auto_impls s (types_of ws) (q.tr, map type_of_word (take q.n q.args))) where
+  of_four : leaves o ≡ find_auto_impls s (types_of ws) (q.tr, map type_of_word (take q.n (four q.args)))
+  unfolding query_of types_in
+  of_four = e ∙ ap (λ (x : ImplType). find_auto_impls s (types_of ws) x) (sym (query_types q long))
+
+  pub args_fit_kind : (l : Leaf) → o ≡ Some l → SmallIds s (types_of ws) → l.kind < 8
+  args_fit_kind = auto_fits_kind s ws q o of_four
+
+  pub args_fit_id : (l : Leaf) → o ≡ Some l → SmallIds s (types_of ws) → l.id < 4096
+  args_fit_id = auto_fits_id s ws q o of_four
+
+  pub args_none : (count : ℕ) → o ≡ None → count ≤ 4000000000 → Autos s ws (query_of q) count (Ok (record { n = 0; count = count })) ws
+  args_none = auto_none s ws q o of_four
+
+  pub args_one : (l : Leaf) (count : ℕ) (r : Asked) (out : Words) → o ≡ Some l → LeafStep ws (record { n = 0; count = count }) 0 l.kind l.id r out → Autos s ws (query_of q) count r out
+  args_one = auto_one s ws q o of_four

@@ -10,7 +10,7 @@ use Rattle.admitted.specs.declared.Found.{Found as Sets}
 use Rattle.refusals.specs.declared.Refusal.{Refusal}
 use Rattle.admitted.specs.Found.{Stands, Finds, Gives}
 use Rattle.queries.specs.declared.Query.{Query}
-use Rattle.queries.specs.Queries.{query_of}
+use Rattle.queries.specs.Queries.{four, query_of}
 use Rattle.queries.specs.Rows.{query_types}
 use Rattle.transfer.specs.Imports.{types_in}
 use Rattle.rules.specs.Types.{ImplType}
@@ -32,10 +32,15 @@ pub sets_index : (s xs : Words) → Indexes s (sets_of xs) → Indexes s (take 3
 unfolding sets_of
 sets_index s xs h = h
 
--- A question's words are the first of its four.
+-- A question's words are the first of its four,
+pub finds_query : (s ws : Words) (src basic : ℕ) (q : Query) (r : Outcome Sets Refusal) → Finds s src (types_of ws) (q.tr, map type_of_word (take q.n (four q.args))) basic r → Finds s src (types_of ws) (query_of q) basic r
+unfolding query_of
+finds_query s ws src basic q r h = h
+
+-- and of its array, where that has four.
 pub args_few : (q : Query) → q.n ≤ 4 → length (take q.n q.args) ≤ 4
 args_few q h = omega (arith, length-take q.n q.args)
 
-pub finds_query : (s ws : Words) (src basic : ℕ) (q : Query) (r : Outcome Sets Refusal) → length q.args ≡ 4 → Finds s src (types_of ws) (q.tr, map type_of_word (take q.n q.args)) basic r → Finds s src (types_of ws) (query_of q) basic r
+pub args_find : (s ws : Words) (src basic : ℕ) (q : Query) (r : Outcome Sets Refusal) → length q.args ≡ 4 → Finds s src (types_of ws) (q.tr, map type_of_word (take q.n q.args)) basic r → Finds s src (types_of ws) (query_of q) basic r
 unfolding types_in
-finds_query s ws src basic q r e h = subst (λ (x : ImplType). Finds s src (types_of ws) x basic r) (sym (query_types q e)) h
+args_find s ws src basic q r e h = subst (λ (x : ImplType). Finds s src (types_of ws) x basic r) (sym (query_types q e)) h
