@@ -76,7 +76,7 @@ fn step(s: &[u32], o: &[u32], a: &mut [u32], b: &mut [u32], marks: &mut [u32]) -
     }
 }
 
-// Replays n steps from two empty tables. The words of a step and the tables are lent: a `Vec` for each step and new tables for each case took half as much time again.
+// Replays n steps from two empty tables. The words of a step and the tables are lent: with a `Vec` for each step and new tables for each case the program took half as many instructions again.
 #[tactic(auto, using(crate::specs::Sound::sound_empty))]
 fn replay_steps<R: Read>(
     source: &mut R,
