@@ -153,6 +153,9 @@ stands_front asked vs found o f =
     let t = front_slot vs found o.filled.result f s in
     record { filled = record { result = o.filled.result; slot = t }; asks = subst (λ (ts : Types). Asks ts asked) (s.table.is ∙ sym t.table.is) o.asks }
 
+pub results_front : (s : Words) (ts : Types) (query sub : ImplType) (n : ℕ) (vs found buf out : Words) (r : ℕ) → Front vs found → EndsResults s ts query sub n found buf out r → EndsResults s ts query sub n vs buf out r
+results_front s ts query sub n vs found buf out r f e = record { ends = λ us rs g z h. e.ends us rs (front_then us vs found g f) z h }
+
 pub ends_front : (s : Words) (ts : Types) (query sub : ImplType) (searched : Asked) (vs found buf out : Words) (r : ℕ) → Front vs found → EndsImpl s ts query sub searched found buf out r → EndsImpl s ts query sub searched vs buf out r
 ends_front s ts query sub searched vs found buf out r f e = record { ends = λ us o g a. e.ends us o (front_then us vs found g f) a }
 
